@@ -1,0 +1,11 @@
+pub mod Desk
+pub mod Windows
+pub mod Picture
+pub mod Reach
+pub mod Beat
+pub mod State
+pub mod Events
+pub mod Step
+pub mod Chosen
+pub mod Run
+pub mod Laws

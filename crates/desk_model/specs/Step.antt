@@ -1,0 +1,50 @@
+-- One step of the machine: an event takes a state to another, with an answer. What is free is which dirty
+-- pixels a tick cleans: those that are dirty before it and clean after.
+use Rattle.std.specs.Prelude.{◌≡◌, ℕ, ◌+◌, ◌-◌, min, pos, Bool, true, not, ◌&&◌, ◌||◌, if◌then◌else◌, ◌∷◌, length}
+use Rattle.desk_model.specs.declared.drew.Drew.{Drew}
+use Rattle.desk_model.specs.Desk.{Desk}
+use Rattle.desk_model.specs.Picture.{colour}
+use Rattle.desk_model.specs.Reach.{in_reach}
+use Rattle.desk_model.specs.Beat.{beat, in_band, band_count}
+use Rattle.desk_model.specs.State.{State, byte_at, is_dirty, dirty_count, seen_at, EachPixel}
+use Rattle.desk_model.specs.Events.{Event, Answer}
+use Rattle.desk_model.specs.Events.Event.{Ready, Show, Tick, CountDirty, LookAt}
+use Rattle.desk_model.specs.Events.Answer.{Done, Drawn, Counted, Seen}
+
+-- the desk with a window of w by h on top of all, at the screen's upper left corner
+unfoldable pub showing : Desk → ℕ → ℕ → Desk
+showing desk w h = record desk { windows = record { x = pos 0; y = pos 0; w = w; h = h } ∷ desk.windows }
+
+-- An event that isn't a tick takes the desk to another. The screen stays, and a pixel is dirty after it
+-- exactly where it was dirty or the change reaches it.
+pub record Changed (old : State) (next : Desk) (new : State) : Type 0 where
+  pub desk : new.desk ≡ next
+  pub screen : new.screen ≡ old.screen
+  pub size : length new.dirt ≡ length old.dirt
+  pub dirt : EachPixel next.shape (λ x y. is_dirty new x y ≡ (is_dirty old x y || in_reach old.desk next x y))
+
+-- the tick cleaned the pixel
+abbrev pub was_cleaned : State → State → ℕ → ℕ → Bool
+was_cleaned old new x y = is_dirty old x y && not (is_dirty new x y)
+
+-- A tick takes the desk to its beat, and writes the pixels of the bands and those that it cleans with their
+-- colours, and no other. It cleans as many dirty pixels as the budget has left beside the bands, or all.
+pub record Ticked (old : State) (drew : Drew) (new : State) : Type 0 where
+  pub desk : new.desk ≡ beat old.desk
+  pub screen_size : length new.screen ≡ length old.screen
+  pub dirt_size : length new.dirt ≡ length old.dirt
+  pub screen : EachPixel old.desk.shape (λ x y. byte_at new x y ≡ (if was_cleaned old new x y || in_band new.desk x y then colour new.desk x y else byte_at old x y))
+  pub dirt : EachPixel old.desk.shape (λ x y. is_dirty new x y ≡ true → is_dirty old x y ≡ true)
+  pub bands : drew.bands ≡ band_count new.desk
+  pub queue : drew.queue ≡ min (dirty_count old) (old.desk.shape.budget - drew.bands)
+  pub left : drew.left ≡ dirty_count new
+  pub cleaned : dirty_count new + drew.queue ≡ dirty_count old
+
+-- From `old` the machine may answer so to the event and go on to `new`.
+abbrev pub Step : State → Event → Answer → State → Type 0
+Step old Ready Done new = new ≡ old
+Step old (Show w h) Done new = Changed old (showing old.desk w h) new
+Step old Tick (Drawn drew) new = Ticked old drew new
+Step old CountDirty (Counted n) new = (new ≡ old) × (n ≡ dirty_count old)
+Step old (LookAt x y) (Seen byte) new = (new ≡ old) × (byte ≡ seen_at old x y)
+Step old _ _ new = ⊥
