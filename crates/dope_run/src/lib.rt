@@ -1,7 +1,17 @@
 //! The run of a script.
 #![tactic(auto)]
 
-pub mod order;
-pub mod setup;
+mod ending;
 mod line;
 mod number;
+pub mod order;
+
+pub mod setup;
+mod status;
+mod text;
+mod told;
+mod words;
+
+pub use ending::report;
+pub use status::Status;
+pub use told::Report;

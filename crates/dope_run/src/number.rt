@@ -1,5 +1,5 @@
 //! Numbers in words and lines.
-ghost use Rattle.std.specs.Prelude.{◌≡◌, ℕ, ◌≤◌, length, Option, Some, None, if◌then◌else◌};
+ghost use Rattle.std.specs.Prelude.{◌≡◌, ℕ, ◌≤◌, length, Option, Some, None, IfSome, if◌then◌else◌};
 ghost use Rattle.std.specs.List.{list_all};
 ghost use Rattle.dope_run.specs.Numbers.{is_digit, value_of, number_in};
 
@@ -21,7 +21,8 @@ fn digits_value(bytes: &[u8]) -> Option<u32>
 /// The number that the bytes stand for, where they are 1 to 7 digits and it is from `least` to `most`.
 #[tactic(auto, unfolding(crate::specs::Numbers::number_in))]
 pub fn number_in(least: u32, most: u32, bytes: &[u8]) -> Option<u32>
-    ensures { result ≡ number_in least most bytes.now }
+    ensures value { result ≡ number_in least most bytes.now }
+    ensures within { IfSome result (λ n. (least ≤ n) × (n ≤ most)) }
 {
     if bytes.is_empty() || bytes.len() > 7 {
         return None;
