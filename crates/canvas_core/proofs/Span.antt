@@ -1,8 +1,7 @@
 -- Bytes put over a span, read by their places.
-use Rattle.std.proofs.Common.{◌≡◌, ℕ, ◌+◌, ◌-◌, ◌<◌, ◌≤◌, ◌⊎◌, inl, inr, cond, leb, ltb, ◌&&◌, Bool, true, false, List, [], ◌∷◌, ◌++◌, length, take, drop, get_or, set, sym, add-one, ◌∙◌, refl, ap, arith, rules}
-use Rattle.std.proofs.lemmas.List.{places, append_assoc, set_split, length-append, length-take, length-drop, get_or-take, get_or-drop, get_or_append_left, get_or-append_right}
+use Rattle.std.proofs.Common.{◌≡◌, ℕ, ◌+◌, ◌-◌, ◌<◌, ◌≤◌, cond, List, [], ◌∷◌, length, take, drop, get_or, set, sym, add-one, ◌∙◌, arith}
+use Rattle.std.proofs.lemmas.List.{places, append_assoc, set_split}
 use Rattle.std.proofs.lemmas.Bool.Decides.{nat_tests}
-use Rattle.std.proofs.Math.Nat as nat
 use Rattle.canvas_core.specs.Screen.{with_span, in_span}
 
 -- one byte put is one byte set
