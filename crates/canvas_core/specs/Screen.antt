@@ -1,0 +1,38 @@
+-- A screen is a list of width * height bytes; the pixel (x, y) is byte y * width + x.
+-- Beside it stands the number of bytes written since the count was last started.
+use Rattle.std.specs.Prelude.{◌≡◌, ℕ, ◌+◌, ◌*◌, ◌^◌, ◌<◌, ◌≤◌, Bool, ◌&&◌, nat_le, nat_lt, List, ◌++◌, length, take, drop, slice_index}
+
+pub record Screen : Type 0 where
+  pub width : ℕ
+  pub height : ℕ
+  pub bytes : List ℕ
+  pub writes : ℕ
+
+-- what is true of every canvas: its sides are within the limits, it has a byte for each pixel, and the count fits
+pub record IsScreen (s : Screen) : Type 0 where
+  pub least_width : 16 ≤ s.width
+  pub greatest_width : s.width ≤ 1024
+  pub least_height : 16 ≤ s.height
+  pub greatest_height : s.height ≤ 768
+  pub area : length s.bytes ≡ s.width * s.height
+  pub count_fits : s.writes < 2 ^ 32
+
+-- the number of the desk's colour, which a new screen has everywhere
+abbrev pub desk_colour : ℕ
+desk_colour = 2
+
+-- the place of the pixel (x, y) in the list of bytes
+abbrev pub place : Screen → ℕ → ℕ → ℕ
+place s x y = y * s.width + x
+
+-- the byte of the pixel (x, y)
+abbrev pub pixel_of : Screen → ℕ → ℕ → ℕ
+pixel_of s x y = slice_index s.bytes (place s x y)
+
+-- the bytes with `row` put over those from the place `at` on
+abbrev pub with_span : List ℕ → ℕ → List ℕ → List ℕ
+with_span bytes at row = take at bytes ++ row ++ drop (at + length row) bytes
+
+-- whether the place k is one of the `count` places from `at` on
+abbrev pub in_span : ℕ → ℕ → ℕ → Bool
+in_span at count k = nat_le at k && nat_lt k (at + count)

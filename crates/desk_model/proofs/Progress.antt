@@ -1,0 +1,89 @@
+-- From each valid state each event has an answer and a state after it, and each list of events has a run.
+use Rattle.std.proofs.Common.{◌≡◌, ℕ, ◌+◌, ◌-◌, ◌*◌, ◌/◌, ◌%◌, min, Bool, false, not, ◌&&◌, ◌||◌, cond, List, [], ◌∷◌, length, get_or, map, refl, sym, ap, ◌∙◌}
+use Rattle.std.specs.List.{range_with_len}
+use Rattle.std.proofs.lemmas.List.FromFn.{length-map-range_with_len}
+use Rattle.desk_model.specs.declared.drew.Drew.{Drew}
+use Rattle.desk_model.specs.declared.shape.Shape.{Shape}
+use Rattle.desk_model.specs.Desk.{Desk, area}
+use Rattle.desk_model.specs.Picture.{colour}
+use Rattle.desk_model.specs.Reach.{in_reach}
+use Rattle.desk_model.specs.Beat.{beat, in_band, band_count}
+use Rattle.desk_model.specs.State.{State, IsState, byte_at, is_dirty, index_of, dirty_count, count_true, seen_at}
+use Rattle.desk_model.specs.Events.{Event, Answer}
+use Rattle.desk_model.specs.Events.Event.{Ready, Show, Tick, CountDirty, LookAt}
+use Rattle.desk_model.specs.Events.Answer.{Done, Drawn, Counted, Seen}
+use Rattle.desk_model.specs.Step.{Step, Changed, Ticked, showing}
+use Rattle.desk_model.specs.Run.{Moment, Run, events_of}
+use Rattle.desk_model.proofs.Reach.{shape-showing}
+use Rattle.desk_model.proofs.Beat.{shape-beat}
+use Rattle.desk_model.proofs.Marks.{cleaned_first, length-cleaned_first, cleaned_first-was, count_true-cleaned_first}
+use Rattle.desk_model.proofs.Pixels.{get_or-rows}
+use Rattle.desk_model.proofs.Steps.{IsState-step}
+
+-- a change to a desk of the same shape has a state after it
+pub changed_state : (old : State) (next : Desk) → IsState old → next.shape ≡ old.desk.shape → (new : State) × Changed old next new
+changed_state old next is same =
+    let w = next.shape.width in
+    let width : w ≡ old.desk.shape.width = ap (λ (s : Shape). s.width) same in
+    let height : next.shape.height ≡ old.desk.shape.height = ap (λ (s : Shape). s.height) same in
+    let n = length old.dirt in
+    let mark : ℕ → ℕ → ℕ → Bool = λ k x y. get_or old.dirt k false || in_reach old.desk next x y in
+    let dirt = map (λ k. mark k (k % w) (k / w)) (range_with_len 0 n) in (
+      record { desk = next; screen = old.screen; dirt = dirt },
+      record {
+        desk = refl;
+        screen = refl;
+        size = length-map-range_with_len (λ k. mark k (k % w) (k / w)) 0 n;
+        dirt = λ x y hx hy.
+            get_or-rows mark w next.shape.height n x y false (is.dirt ∙ ap area (sym same)) hx hy
+            ∙ ap (λ v. get_or old.dirt (y * v + x) false || in_reach old.desk next x y) width;
+      },
+    )
+
+-- a tick has one: the state that cleans the first dirty pixels
+pub ticked_state : (old : State) → IsState old → (drew : Drew) × (new : State) × Ticked old drew new
+ticked_state old is =
+    let next = beat old.desk in
+    let shape = shape-beat old.desk in
+    let w = old.desk.shape.width in
+    let width : next.shape.width ≡ w = ap (λ (s : Shape). s.width) shape in
+    let room = old.desk.shape.budget - band_count next in
+    let n = length old.screen in
+    let marks = cleaned_first room old.dirt in
+    let byte : ℕ → ℕ → ℕ → ℕ = λ k x y. cond ((get_or old.dirt k false && not (get_or marks k false)) || in_band next x y) (colour next x y) (get_or old.screen k 0) in
+    let screen = map (λ k. byte k (k % w) (k / w)) (range_with_len 0 n) in
+    let queue = min (dirty_count old) room in (
+      record { bands = band_count next; queue = queue; left = count_true marks },
+      record { desk = next; screen = screen; dirt = marks },
+      record {
+        desk = refl;
+        screen_size = length-map-range_with_len (λ k. byte k (k % w) (k / w)) 0 n;
+        dirt_size = length-cleaned_first room old.dirt;
+        screen = λ x y hx hy.
+            ap (λ v. get_or screen (y * v + x) 0) width
+            ∙ get_or-rows byte w old.desk.shape.height n x y 0 is.screen hx hy
+            ∙ ap (λ v. cond ((is_dirty old x y && not (get_or marks (y * v + x) false)) || in_band next x y) (colour next x y) (byte_at old x y)) (sym width);
+        dirt = λ x y hx hy on.
+            cleaned_first-was room old.dirt (index_of old x y) (ap (λ v. get_or marks (y * v + x) false) (sym width) ∙ on);
+        bands = refl;
+        queue = refl;
+        left = refl;
+        cleaned = count_true-cleaned_first room old.dirt;
+      },
+    )
+
+pub next_state : (old : State) (event : Event) → IsState old → (answer : Answer) × (new : State) × Step old event answer new
+next_state old Ready is = (Done, old, refl)
+next_state old (Show w h) is =
+    let to = changed_state old (showing old.desk w h) is (shape-showing old.desk w h) in
+    (Done, to.0, to.1)
+next_state old Tick is = let to = ticked_state old is in (Drawn to.0, to.1, to.2)
+next_state old CountDirty is = (Counted (dirty_count old), old, (refl, refl))
+next_state old (LookAt x y) is = (Seen (seen_at old x y), old, (refl, refl))
+
+pub some_run : (from : State) (events : List Event) → IsState from → (moments : List Moment) × (events_of moments ≡ events) × Run from moments
+some_run from [] is = ([], refl, tt)
+some_run from (event ∷ events) is =
+    let to = next_state from event is in
+    let rest = some_run to.1 events (IsState-step from event to.0 to.1 is to.2) in
+    (record { event = event; answer = to.0; after = to.1 } ∷ rest.0, ap (λ later. event ∷ later) rest.1, (to.2, rest.2))

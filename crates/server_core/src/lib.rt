@@ -1,0 +1,17 @@
+//! The server: the desk, its screen and what is dirty on it. Opening a window makes dirt; a tick draws a slice
+//! of it, at most a budget of pixels. Each call is one step of the machine of desk_model.
+#![tactic(auto)]
+
+mod no_memory;
+mod painting;
+mod server;
+mod sweeping;
+
+pub mod laws;
+
+pub use desk_model::{Drew, Shape};
+pub use no_memory::NoMemory;
+pub use server::Server;
+
+#[cfg(test)]
+mod tests;

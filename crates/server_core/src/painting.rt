@@ -1,0 +1,77 @@
+//! The colour of a pixel, worked out from the list of windows.
+
+ghost use Rattle.std.specs.Prelude.{◌≡◌};
+ghost use Rattle.desk_model.specs.Windows.{shows, top_at, local};
+ghost use Rattle.desk_model.specs.Picture.{window_look, colour_through};
+
+use desk_model::Window;
+
+/// The palette number of the desk.
+const DESK: u8 = 2;
+/// The palette number of a window's ground.
+const GROUND: u8 = 3;
+/// The palette number of lines, a window's edge among them.
+const LINE: u8 = 4;
+/// The palette number of the ground of a window's title.
+const TITLE: u8 = 5;
+/// The rows of a window's title.
+const TITLE_ROWS: u64 = 12;
+
+/// The colour of the pixel (x, y) under these windows, the top one first.
+pub fn colour_at(windows: &[Window], x: u32, y: u32) -> u8
+    ensures { result ≡ colour_through (top_at windows.now x y) x y }
+{
+    match top_window(windows, x, y) {
+        Some(window) => {
+            let column = i64::from(x).abs_diff(i64::from(window.x));
+            let row = i64::from(y).abs_diff(i64::from(window.y));
+            look(window.w, window.h, column, row)
+        }
+        None => DESK,
+    }
+}
+
+/// Whether the window's place holds the pixel (x, y).
+pub fn is_shown(window: &Window, x: u32, y: u32) -> bool
+    ensures { result ≡ shows window.now x y }
+{
+    is_within(window.x, window.w, x) && is_within(window.y, window.h, y)
+}
+
+// The first window of the list, from the top, that shows the pixel.
+fn top_window(windows: &[Window], x: u32, y: u32) -> Option<Window>
+    ensures { result ≡ top_at windows.now x y }
+{
+    for window in windows {
+        if is_shown(window, x, y) {
+            return Some(*window);
+        }
+    }
+    None
+}
+
+ghost use Rattle.desk_model.specs.Windows.{is_within};
+
+// Whether `n` is one of the `len` numbers from `from` on.
+fn is_within(from: i32, len: u32, n: u32) -> bool
+    ensures { result ≡ is_within from len n }
+{
+    let start = i64::from(from);
+    let at = i64::from(n);
+    start <= at && at < start + i64::from(len)
+}
+
+// A window's look at its local pixel (column, row).
+fn look(w: u32, h: u32, column: u64, row: u64) -> u8
+    ensures { result ≡ window_look w h column row }
+{
+    let last_column = u64::from(w.saturating_sub(1));
+    let last_row = u64::from(h.saturating_sub(1));
+    if column == 0 || row == 0 || column == last_column || row == last_row {
+        LINE
+    } else if row < TITLE_ROWS {
+        TITLE
+    } else {
+        GROUND
+    }
+}
