@@ -4,3 +4,6 @@ pub mod Words
 pub mod Line
 pub mod Text
 pub mod Report
+pub mod Framing
+pub mod Script
+pub mod Transcript

@@ -1,0 +1,60 @@
+-- A script's bytes as items: whole lines, each with its line feed and the raw bytes that belong to it.
+use Rattle.std.specs.Prelude.{◌≡◌, ◌≢◌, ◌⊎◌, ◌==◌, ℕ, ◌+◌, ◌<◌, ◌≤◌, Bool, false, List, [], ◌∷◌, ◌++◌, length, take}
+use Rattle.std.specs.List.{flat_map, list_any}
+
+pub record Item : Type 0 where
+  pub line : List ℕ
+  pub payload : List ℕ
+
+-- how many raw bytes follow a line; so far none do
+unfoldable pub wants_of : List ℕ → ℕ
+wants_of line = 0
+
+-- a line has at most 520 bytes, a script at most 67,108,864
+abbrev pub line_limit : ℕ
+line_limit = 520
+
+abbrev pub script_limit : ℕ
+script_limit = 67108864
+
+abbrev pub has_feed : List ℕ → Bool
+has_feed bytes = list_any (λ byte. byte == 10) bytes
+
+-- bytes that may stand in a line
+pub record IsLine (line : List ℕ) : Type 0 where
+  pub no_feed : has_feed line ≡ false
+  pub short : length line ≤ line_limit
+
+pub record IsItem (item : Item) : Type 0 where
+  pub line : IsLine item.line
+  pub payload : length item.payload ≡ wants_of item.line
+
+abbrev pub bytes_of_item : Item → List ℕ
+bytes_of_item item = item.line ++ 10 ∷ item.payload
+
+unfoldable pub bytes_of : List Item → List ℕ
+bytes_of items = flat_map bytes_of_item items
+
+-- The bytes are an item that is not yet whole: a line without its line feed, or one without all its raw bytes.
+pub record IsShortOfPayload (bytes : List ℕ) : Type 0 where
+  pub line : List ℕ
+  pub payload : List ℕ
+  pub is_line : IsLine line
+  pub bytes : bytes ≡ line ++ 10 ∷ payload
+  pub missing : length payload < wants_of line
+
+abbrev pub IsPartial : List ℕ → Type 0
+IsPartial bytes = IsLine bytes ⊎ IsShortOfPayload bytes
+
+-- The bytes end with a last line that has no line feed and no raw bytes to follow; it counts as a line.
+pub record IsUnended (bytes : List ℕ) (items : List Item) : Type 0 where
+  pub front : List Item
+  pub last : List ℕ
+  pub items : items ≡ front ++ record { line = last; payload = [] } ∷ []
+  pub some : last ≢ []
+  pub no_payload : wants_of last ≡ 0
+  pub bytes : bytes ≡ bytes_of front ++ last
+
+-- all the bytes are these items
+abbrev pub AreWhole : List ℕ → List Item → Type 0
+AreWhole bytes items = (bytes ≡ bytes_of items) ⊎ IsUnended bytes items
