@@ -40,7 +40,7 @@ pub record IsShortOfPayload (bytes : List ℕ) : Type 0 where
   pub line : List ℕ
   pub payload : List ℕ
   pub is_line : IsLine line
-  pub bytes : bytes ≡ line ++ 10 ∷ payload
+  pub spelled : bytes ≡ line ++ 10 ∷ payload
   pub missing : length payload < wants_of line
 
 abbrev pub IsPartial : List ℕ → Type 0
@@ -50,10 +50,10 @@ IsPartial bytes = IsLine bytes ⊎ IsShortOfPayload bytes
 pub record IsUnended (bytes : List ℕ) (items : List Item) : Type 0 where
   pub front : List Item
   pub last : List ℕ
-  pub items : items ≡ front ++ record { line = last; payload = [] } ∷ []
+  pub listed : items ≡ front ++ record { line = last; payload = [] } ∷ []
   pub some : last ≢ []
   pub no_payload : wants_of last ≡ 0
-  pub bytes : bytes ≡ bytes_of front ++ last
+  pub spelled : bytes ≡ bytes_of front ++ last
 
 -- all the bytes are these items
 abbrev pub AreWhole : List ℕ → List Item → Type 0

@@ -6,7 +6,7 @@ use Rattle.std.specs.List.{list_all, position}
 use Rattle.dope_run.specs.Steps.{◌>>=◌, or_else}
 use Rattle.dope_run.specs.Numbers.{number_in, is_digit}
 use Rattle.dope_run.specs.declared.order.Order.{Order}
-use Rattle.dope_run.specs.declared.order.Order.TheVariants.{Ticks, CountDirty, LookAt, Ready, Show}
+use Rattle.dope_run.specs.declared.order.Order.TheVariants.{Ticks, Dirty, Pixel, Prepare, Open}
 use Rattle.dope_run.specs.declared.setup.Setup.{Setup}
 use Rattle.dope_run.specs.declared.setup.Setup.TheVariants.{Fresh, Connected, Named, Sized, Opened}
 
@@ -45,13 +45,13 @@ pixel_order line = do
   place ← after (codes "pixel ") line
   x ← number_in 0 9999 (first_word place)
   y ← number_in 0 9999 (further_words place)
-  Some (LookAt x y)
+  Some (Pixel x y)
 
 -- These, `tick` and `dirty` may stand anywhere.
 unfoldable pub plain_order : List ℕ → Option Order
 plain_order line =
   if bytes_eq line (codes "tick") then Some (Ticks 1)
-  else (if bytes_eq line (codes "dirty") then Some CountDirty else or_else (tick_order line) (pixel_order line))
+  else (if bytes_eq line (codes "dirty") then Some Dirty else or_else (tick_order line) (pixel_order line))
 
 -- a letter, then up to 15 letters, digits or `_`
 abbrev pub is_letter : ℕ → Bool
@@ -69,14 +69,14 @@ printed_side bytes = do
 
 -- The client's line `connect 1` comes first,
 unfoldable pub connect_order : List ℕ → Option (Order × Setup)
-connect_order line = if bytes_eq line (codes "connect 1") then Some (Ready, Connected) else None
+connect_order line = if bytes_eq line (codes "connect 1") then Some (Prepare, Connected) else None
 
 -- then `1 n = new Window()`,
 unfoldable pub new_order : List ℕ → Option (Order × Setup)
 new_order line = do
   command ← after (codes "1 ") line
   name ← before (codes " = new Window()") command
-  if is_name name then Some (Ready, Named (record { items = name })) else None
+  if is_name name then Some (Prepare, Named (record { items = name })) else None
 
 -- what the client calls on its window: the text behind `1 n.`
 unfoldable pub call_on : List ℕ → List ℕ → Option (List ℕ)
@@ -102,15 +102,15 @@ is_open name line = option_map_or (λ call. bytes_eq call (codes "open()")) (cal
 
 -- A line that sets the window's sides, or opens it at 160 by 120.
 abbrev pub named_order : ArrayVec ℕ → Option (ℕ × ℕ) → Bool → Option (Order × Setup)
-named_order name (Some (w, h)) opens = Some (Ready, Sized name w h)
-named_order name None opens = if opens then Some (Show 160 120, Opened) else None
+named_order name (Some (w, h)) opens = Some (Prepare, Sized name w h)
+named_order name None opens = if opens then Some (Open 160 120, Opened) else None
 
 -- Each of these comes once.
 unfoldable pub client_order : Setup → List ℕ → Option (Order × Setup)
 client_order Fresh line = connect_order line
 client_order Connected line = new_order line
 client_order (Named name) line = named_order name (set_sides name.items line) (is_open name.items line)
-client_order (Sized name w h) line = if is_open name.items line then Some (Show w h, Opened) else None
+client_order (Sized name w h) line = if is_open name.items line then Some (Open w h, Opened) else None
 client_order Opened line = None
 
 -- What a line asks for, and how far the client has come with it; none where the line is off the grammar.

@@ -1,9 +1,9 @@
 -- What a script's lines ask the machine for, one after another, up to the first line off the grammar.
 use Rattle.std.specs.Prelude.{◌≡◌, ◌≢◌, ◌⊎◌, ℕ, ◌+◌, ◌≤◌, false, List, [], ◌∷◌, ◌++◌, length, take, replicate, Option, Some, None}
 use Rattle.desk_model.specs.Events.{Event}
-use Rattle.desk_model.specs.Events.Event as events
+use Rattle.desk_model.specs.Events.Event.{Tick, CountDirty, LookAt, Ready, Show}
 use Rattle.dope_run.specs.declared.order.Order.{Order}
-use Rattle.dope_run.specs.declared.order.Order.TheVariants.{Ticks, CountDirty, LookAt, Ready, Show}
+use Rattle.dope_run.specs.declared.order.Order.TheVariants.{Ticks, Dirty, Pixel, Prepare, Open}
 use Rattle.dope_run.specs.declared.setup.Setup.{Setup}
 use Rattle.dope_run.specs.Steps.{◌>>=◌}
 use Rattle.dope_run.specs.Line.{line_order}
@@ -11,11 +11,11 @@ use Rattle.dope_run.specs.Framing.{Item, IsLine, IsPartial, IsShortOfPayload, li
 
 -- the events of what a line asks for
 abbrev pub events_of_order : Order → List Event
-events_of_order (Ticks count) = replicate count events.Tick
-events_of_order CountDirty = events.CountDirty ∷ []
-events_of_order (LookAt x y) = events.LookAt x y ∷ []
-events_of_order Ready = events.Ready ∷ []
-events_of_order (Show w h) = events.Show w h ∷ []
+events_of_order (Ticks count) = replicate count Tick
+events_of_order Dirty = CountDirty ∷ []
+events_of_order (Pixel x y) = LookAt x y ∷ []
+events_of_order Prepare = Ready ∷ []
+events_of_order (Open w h) = Show w h ∷ []
 
 -- the events of a script's lines, and how far its client has come with them; none where a line is off the grammar
 unfoldable pub read_script : Setup → List Item → Option (Setup × List Event)
@@ -30,7 +30,7 @@ pub record BeginsUnread (setup : Setup) (bytes : List ℕ) : Type 0 where
   pub line : List ℕ
   pub later : List ℕ
   pub is_line : IsLine line
-  pub bytes : bytes ≡ line ++ 10 ∷ later
+  pub spelled : bytes ≡ line ++ 10 ∷ later
   pub unread : line_order setup line ≡ None
 
 -- The bytes begin with a line that has more bytes than a line may have.

@@ -17,26 +17,26 @@ use Rattle.dope_run.specs.Text.{text_of}
 
 -- The items are read, and the moments are a run over their events.
 pub record Plays (setup : Setup) (from : State) (items : List Item) (moments : List Moment) (later : Setup) : Type 0 where
-  pub items : All IsItem items
+  pub whole : All IsItem items
   pub script : read_script setup items ≡ Some (later, events_of moments)
   pub run : Run from moments
 
 -- The items are all whole lines of the bytes, up to one that is off the grammar.
 pub record AreLinesOf (bytes : List ℕ) (later : Setup) (items : List Item) : Type 0 where
   pub rest : List ℕ
-  pub bytes : bytes ≡ bytes_of items ++ rest
+  pub spelled : bytes ≡ bytes_of items ++ rest
   pub ends : IsPartial rest ⊎ BeginsOff later rest
 
 -- The bytes taken are the items, and then a line not yet whole.
 pub record AreCutShort (bytes : List ℕ) (items : List Item) : Type 0 where
   pub rest : List ℕ
-  pub bytes : bytes ≡ bytes_of items ++ rest
+  pub spelled : bytes ≡ bytes_of items ++ rest
   pub partial : IsPartial rest
 
 -- Behind the items comes a line off the grammar; it may be the last one, where the source is at its end.
 pub record AreFollowedByOff (bytes : List ℕ) (later : Setup) (items : List Item) (source : Option (List ℕ)) : Type 0 where
   pub rest : List ℕ
-  pub bytes : bytes ≡ bytes_of items ++ rest
+  pub spelled : bytes ≡ bytes_of items ++ rest
   pub off : BeginsOff later rest ⊎ (EndsOff later rest × IsAtEnd source)
 
 -- Which lines of the bytes taken were played, by how the run ended.

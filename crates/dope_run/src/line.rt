@@ -73,7 +73,7 @@ fn pixel_order(line: &[u8]) -> Option<Order>
     let place = after(b"pixel ", line)?;
     let x = number_in(0, 9999, first_word(place))?;
     let y = number_in(0, 9999, further_words(place))?;
-    Some(Order::LookAt { x, y })
+    Some(Order::Pixel { x, y })
 }
 
 #[tactic(auto, unfolding(crate::specs::Line::plain_order))]
@@ -84,7 +84,7 @@ fn plain_order(line: &[u8]) -> Option<Order>
         return Some(Order::Ticks { count: 1 });
     }
     if line == b"dirty".as_slice() {
-        return Some(Order::CountDirty);
+        return Some(Order::Dirty);
     }
     match tick_order(line) {
         Some(order) => Some(order),
@@ -133,7 +133,7 @@ fn connect_order(line: &[u8]) -> Option<(Order, Setup)>
     ensures { result ≡ connect_order line.now }
 {
     if line == b"connect 1".as_slice() {
-        Some((Order::Ready, Setup::Connected))
+        Some((Order::Prepare, Setup::Connected))
     } else {
         None
     }
@@ -159,7 +159,7 @@ fn new_order(line: &[u8]) -> Option<(Order, Setup)>
 {
     let command = after(b"1 ", line)?;
     let name = kept_name(before(b" = new Window()", command)?)?;
-    Some((Order::Ready, Setup::Named { name }))
+    Some((Order::Prepare, Setup::Named { name }))
 }
 
 #[tactic(auto, unfolding(crate::specs::Line::call_on))]
@@ -203,7 +203,7 @@ fn client_order(setup: Setup, line: &[u8]) -> Option<(Order, Setup)>
         Setup::Named { name } => named_order(name, line),
         Setup::Sized { name, w, h } => {
             if is_open(name.as_slice(), line) {
-                Some((Order::Show { w, h }, Setup::Opened))
+                Some((Order::Open { w, h }, Setup::Opened))
             } else {
                 None
             }
@@ -217,10 +217,10 @@ fn named_order(name: ArrayVec<u8, 16>, line: &[u8]) -> Option<(Order, Setup)>
     ensures { result ≡ named_order name (set_sides name.items line.now) (is_open name.items line.now) }
 {
     if let Some((w, h)) = set_sides(name.as_slice(), line) {
-        return Some((Order::Ready, Setup::Sized { name, w, h }));
+        return Some((Order::Prepare, Setup::Sized { name, w, h }));
     }
     if is_open(name.as_slice(), line) {
-        Some((Order::Show { w: 160, h: 120 }, Setup::Opened))
+        Some((Order::Open { w: 160, h: 120 }, Setup::Opened))
     } else {
         None
     }

@@ -6,8 +6,8 @@
 #[derive(Drop, Debug)]
 pub enum Order {
     Ticks { count: u32 },
-    CountDirty,
-    LookAt { x: u32, y: u32 },
-    Ready,
-    Show { w: u32, h: u32 },
+    Dirty,
+    Pixel { x: u32, y: u32 },
+    Prepare,
+    Open { w: u32, h: u32 },
 }
