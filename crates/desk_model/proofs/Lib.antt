@@ -2,6 +2,7 @@ pub mod Reach
 pub mod Beat
 pub mod Marks
 pub mod Pixels
+pub mod Opening
 pub mod Steps
 pub mod Ticks
 pub mod Progress

@@ -1,12 +1,27 @@
 //! What calls do to the dirt map: a sweep cleans, and marking makes dirty.
 
+ghost use Rattle.std.specs.Prelude.{◌≡◌, ◌+◌, ◌*◌, ◌^◌, ◌<◌, ◌≤◌, false, length, slice_set};
+ghost use Rattle.canvas_core.specs.Screen.{IsScreen};
+ghost use Rattle.desk_model.specs.State.{count_true};
+ghost use Rattle.server_core.specs.Sweeping.{colour_under, SweptTo, MarkedTo};
+
 use crate::painting::{colour_at, is_shown};
 use canvas_core::Canvas;
 use desk_model::Window;
 
 /// Goes over the map from its front and cleans dirty pixels, writing each with its colour, until `room` are
 /// written. How many it wrote.
-pub fn sweep(canvas: &mut Canvas, dirt: &mut Vec<bool>, windows: &[Window], room: u32) -> u32 {
+pub fn sweep(canvas: &mut Canvas, dirt: &mut Vec<bool>, windows: &[Window], room: u32) -> u32
+    requires canvas { IsScreen canvas.old }
+    requires unwritten { canvas.old.writes ≡ 0 }
+    requires size { length dirt.old.items ≡ length canvas.old.bytes }
+    ensures swept { SweptTo (length dirt.old.items) (colour_under windows.now canvas.old.width) room
+        canvas.old.bytes dirt.old.items result canvas.new.bytes dirt.new.items }
+    ensures writes { canvas.new.writes ≡ result }
+    ensures width { canvas.new.width ≡ canvas.old.width }
+    ensures height { canvas.new.height ≡ canvas.old.height }
+    ensures canvas { IsScreen canvas.new }
+{
     let mut queue = 0;
     for k in 0..dirt.len() {
         if queue == room {
@@ -21,7 +36,18 @@ pub fn sweep(canvas: &mut Canvas, dirt: &mut Vec<bool>, windows: &[Window], room
 }
 
 // Cleans the k-th pixel: it is written with its colour, and isn't dirty any more.
-fn clean(canvas: &mut Canvas, dirt: &mut Vec<bool>, windows: &[Window], k: usize) {
+fn clean(canvas: &mut Canvas, dirt: &mut Vec<bool>, windows: &[Window], k: usize)
+    requires canvas { IsScreen canvas.old }
+    requires size { length dirt.old.items ≡ length canvas.old.bytes }
+    requires within { k < length dirt.old.items }
+    requires count_fits { canvas.old.writes + 1 < 2 ^ 32 }
+    ensures byte { canvas.new.bytes ≡ slice_set canvas.old.bytes k (colour_under windows.now canvas.old.width k) }
+    ensures mark { dirt.new.items ≡ slice_set dirt.old.items k false }
+    ensures writes { canvas.new.writes ≡ canvas.old.writes + 1 }
+    ensures width { canvas.new.width ≡ canvas.old.width }
+    ensures height { canvas.new.height ≡ canvas.old.height }
+    ensures canvas { IsScreen canvas.new }
+{
     let width = canvas.width();
     let x = k as u32 % width;
     let y = k as u32 / width;
@@ -31,7 +57,12 @@ fn clean(canvas: &mut Canvas, dirt: &mut Vec<bool>, windows: &[Window], k: usize
 
 /// Makes dirty each pixel that the window shows, in a map of rows of `width` pixels of which `dirty` are dirty.
 /// How many are dirty then.
-pub fn mark_shown(dirt: &mut Vec<bool>, dirty: u32, window: &Window, width: u32) -> u32 {
+pub fn mark_shown(dirt: &mut Vec<bool>, dirty: u32, window: &Window, width: u32) -> u32
+    requires count { dirty ≡ count_true dirt.old.items }
+    requires small { length dirt.old.items < 2 ^ 31 }
+    requires width { 1 ≤ width }
+    ensures { MarkedTo (length dirt.old.items) window.now width dirt.old.items result dirt.new.items }
+{
     let mut count = dirty;
     for k in 0..dirt.len() {
         if is_shown(window, k as u32 % width, k as u32 / width) && !dirt[k] {

@@ -1,0 +1,29 @@
+-- The state at opening is valid, and nothing is dirty in it.
+use Rattle.std.proofs.Common.{◌≡◌, ℕ, ◌+◌, ◌*◌, false, replicate, refl, sym, ◌∙◌, zero, suc, arith}
+use Rattle.std.proofs.lemmas.List.{length-replicate, get_or-replicate}
+use Rattle.std.proofs.lemmas.Nat.{mul-add-lt}
+use Rattle.desk_model.specs.declared.shape.Shape.{Shape}
+use Rattle.desk_model.specs.Desk.{IsShape, area, opening_desk}
+use Rattle.desk_model.specs.State.{IsState, opening, dirty_count, count_true}
+use Rattle.desk_model.specs.Windows.{shown_by_any}
+use Rattle.desk_model.proofs.Marks.{count_true-cons}
+use Rattle.desk_model.proofs.Reach.{colour_of_bare}
+
+count_true-replicate : (n : ℕ) → count_true (replicate n false) ≡ 0
+count_true-replicate zero = refl
+count_true-replicate (suc n) = omega (arith, count_true-cons false (replicate n false), count_true-replicate n)
+
+pub IsState-opening : (shape : Shape) → IsShape shape → IsState (opening shape)
+unfolding opening opening_desk shown_by_any
+IsState-opening shape is = record {
+  desk = record { shape = is };
+  screen = length-replicate (area shape) 2;
+  dirt = length-replicate (area shape) false;
+  current = λ x y hx hy clean.
+      get_or-replicate (area shape) (y * shape.width + x) 2 0 (mul-add-lt y shape.width x shape.height hy hx)
+      ∙ sym (colour_of_bare (opening_desk shape) x y refl);
+}
+
+pub dirty_count-opening : (shape : Shape) → dirty_count (opening shape) ≡ 0
+unfolding opening
+dirty_count-opening shape = count_true-replicate (area shape)
