@@ -7,3 +7,5 @@ pub mod Report
 pub mod Framing
 pub mod Script
 pub mod Transcript
+pub mod Obeying
+pub mod Ready

@@ -56,6 +56,7 @@ Gains _ old new text = Appends old new text
 -- The server is left in the last state of the run, or after a write fault in one of its states.
 pub record IsReached (state from : State) (moments : List Moment) : Type 0 where
   pub count : ℕ
+  pub within : count ≤ length moments
   pub reached : state ≡ state_after from (take count moments)
 
 abbrev pub Leaves : Status → State → State → List Moment → Type 0

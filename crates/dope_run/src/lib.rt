@@ -4,6 +4,7 @@
 mod ending;
 mod line;
 mod number;
+mod obeying;
 pub mod order;
 
 pub mod setup;

@@ -1,0 +1,13 @@
+use Rattle.std.proofs.Common.{◌≤◌, replicate}
+use Rattle.desk_model.specs.State.{IsState}
+use Rattle.desk_model.specs.Events.Event.{Tick}
+use Rattle.dope_run.specs.declared.status.Status.TheVariants.{Done}
+use Rattle.dope_run.specs.Obeying.{Obeyed}
+use Rattle.dope_run.proofs.obeying.ticks.Given as goal
+
+abbrev pub invariant-loop-i : goal.invariant-loop-i
+invariant-loop-i g l = record {
+  told : Obeyed Done (replicate l.i Tick) l.initial.server.state l.server.state (g.K.Sink.held l.initial.sink) (g.K.Sink.held l.sink);
+  valid : IsState l.server.state;
+  later : g.K.Sink.faults l.initial.sink ≤ g.K.Sink.faults l.sink
+}
