@@ -1,2 +1,5 @@
 pub mod Gaining
 pub mod Obeyings
+pub mod Reading
+pub mod Readiness
+pub mod Feedings

@@ -9,3 +9,4 @@ pub mod Script
 pub mod Transcript
 pub mod Obeying
 pub mod Ready
+pub mod Playing

@@ -1,12 +1,14 @@
 //! The run of a script.
 #![tactic(auto)]
 
+mod cut;
 mod ending;
 mod line;
 mod number;
 mod obeying;
 pub mod order;
 
+mod player;
 pub mod setup;
 mod status;
 mod text;

@@ -4,6 +4,8 @@ ghost use Rattle.std.specs.List.{list_all};
 ghost use Rattle.dope_run.specs.Numbers.{is_digit};
 ghost use Rattle.std.specs.Option.{option_copied};
 ghost use Rattle.dope_run.specs.Line.{after, before, space_in, first_space, first_word, further_words, is_name, printed_side, is_letter, tick_order, pixel_order, plain_order, connect_order, new_order, call_on, set_sides, is_open, named_order, client_order, line_order};
+ghost use Rattle.dope_run.specs.Ready.{IsPlain, IsSide, Suits};
+ghost use Rattle.dope_run.specs.declared.setup.Setup.TheVariants.{Fresh, Connected, Named};
 use crate::number::number_in;
 use crate::order::Order;
 use crate::setup::Setup;
@@ -59,7 +61,8 @@ fn further_words(text: &[u8]) -> &[u8]
 
 #[tactic(auto, unfolding(crate::specs::Line::tick_order))]
 fn tick_order(line: &[u8]) -> Option<Order>
-    ensures { result ≡ tick_order line.now }
+    ensures order { result ≡ tick_order line.now }
+    ensures plain { IfSome result IsPlain }
 {
     let digits = after(b"tick ", line)?;
     let count = number_in(1, 1000, digits)?;
@@ -68,7 +71,8 @@ fn tick_order(line: &[u8]) -> Option<Order>
 
 #[tactic(auto, unfolding(crate::specs::Line::pixel_order))]
 fn pixel_order(line: &[u8]) -> Option<Order>
-    ensures { result ≡ pixel_order line.now }
+    ensures order { result ≡ pixel_order line.now }
+    ensures plain { IfSome result IsPlain }
 {
     let place = after(b"pixel ", line)?;
     let x = number_in(0, 9999, first_word(place))?;
@@ -78,7 +82,8 @@ fn pixel_order(line: &[u8]) -> Option<Order>
 
 #[tactic(auto, unfolding(crate::specs::Line::plain_order))]
 fn plain_order(line: &[u8]) -> Option<Order>
-    ensures { result ≡ plain_order line.now }
+    ensures order { result ≡ plain_order line.now }
+    ensures plain { IfSome result IsPlain }
 {
     if line == b"tick".as_slice() {
         return Some(Order::Ticks { count: 1 });
@@ -117,7 +122,8 @@ fn are_name_bytes(bytes: &[u8]) -> bool
 
 #[tactic(auto, unfolding(crate::specs::Line::printed_side))]
 fn printed_side(bytes: &[u8]) -> Option<u32>
-    ensures { result ≡ printed_side bytes.now }
+    ensures side { result ≡ printed_side bytes.now }
+    ensures within { IfSome result IsSide }
 {
     let side = number_in(16, 1024, bytes)?;
     let mut printed = Buffer::new();
@@ -130,7 +136,8 @@ fn printed_side(bytes: &[u8]) -> Option<u32>
 
 #[tactic(auto, unfolding(crate::specs::Line::connect_order))]
 fn connect_order(line: &[u8]) -> Option<(Order, Setup)>
-    ensures { result ≡ connect_order line.now }
+    ensures order { result ≡ connect_order line.now }
+    ensures suits { IfSome result (Suits Fresh) }
 {
     if line == b"connect 1".as_slice() {
         Some((Order::Prepare, Setup::Connected))
@@ -155,7 +162,8 @@ fn kept_name(bytes: &[u8]) -> Option<ArrayVec<u8, 16>>
 
 #[tactic(auto, unfolding(crate::specs::Line::new_order))]
 fn new_order(line: &[u8]) -> Option<(Order, Setup)>
-    ensures { result ≡ new_order line.now }
+    ensures order { result ≡ new_order line.now }
+    ensures suits { IfSome result (Suits Connected) }
 {
     let command = after(b"1 ", line)?;
     let name = kept_name(before(b" = new Window()", command)?)?;
@@ -174,7 +182,8 @@ fn call_on<'a>(name: &[u8], line: &'a [u8]) -> Option<&'a [u8]>
 /// The sides that a window is set to.
 #[tactic(auto, unfolding(crate::specs::Line::set_sides))]
 fn set_sides(name: &[u8], line: &[u8]) -> Option<(u32, u32)>
-    ensures { result ≡ set_sides name.now line.now }
+    ensures sides { result ≡ set_sides name.now line.now }
+    ensures within { IfSome result (λ sides. IsSide sides.0 × IsSide sides.1) }
 {
     let options = after(b"set(-w ", call_on(name, line)?)?;
     let w = printed_side(first_word(options))?;
@@ -195,7 +204,8 @@ fn is_open(name: &[u8], line: &[u8]) -> bool
 
 #[tactic(auto, unfolding(crate::specs::Line::client_order))]
 fn client_order(setup: Setup, line: &[u8]) -> Option<(Order, Setup)>
-    ensures { result ≡ client_order setup line.now }
+    ensures order { result ≡ client_order setup line.now }
+    ensures suits { IfSome result (Suits setup) }
 {
     match setup {
         Setup::Fresh => connect_order(line),
@@ -214,7 +224,8 @@ fn client_order(setup: Setup, line: &[u8]) -> Option<(Order, Setup)>
 
 /// What a line asks of a window that has its name and no size.
 fn named_order(name: ArrayVec<u8, 16>, line: &[u8]) -> Option<(Order, Setup)>
-    ensures { result ≡ named_order name (set_sides name.items line.now) (is_open name.items line.now) }
+    ensures order { result ≡ named_order name (set_sides name.items line.now) (is_open name.items line.now) }
+    ensures suits { IfSome result (Suits (Named name)) }
 {
     if let Some((w, h)) = set_sides(name.as_slice(), line) {
         return Some((Order::Prepare, Setup::Sized { name, w, h }));
@@ -230,7 +241,8 @@ fn named_order(name: ArrayVec<u8, 16>, line: &[u8]) -> Option<(Order, Setup)>
 /// See docs/GUIDE.md, "The script".
 #[tactic(auto, unfolding(crate::specs::Line::line_order))]
 pub fn line_order(setup: Setup, line: &[u8]) -> Option<(Order, Setup)>
-    ensures { result ≡ line_order setup line.now }
+    ensures order { result ≡ line_order setup line.now }
+    ensures suits { IfSome result (Suits setup) }
 {
     match plain_order(line) {
         Some(order) => Some((order, setup)),

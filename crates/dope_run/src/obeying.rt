@@ -71,7 +71,7 @@ fn seen_at(server: &Server, x: u32, y: u32) -> Option<u8>
 /// Carries out an order, with its lines of output.
 pub fn obey<K: Sink>(order: &Order, server: &mut Server, sink: &mut K) -> Result<(), Failed>
     requires valid { IsState server.old.state }
-    requires can { CanObey order.now server.old.state }
+    requires can { CanObey order.now server.old.state.desk.windows }
     ensures told { MatchResult result
         (λ _. Obeyed Done (events_of_order order.now) server.old.state server.new.state (K.held sink.old) (K.held sink.new))
         (λ _. Obeyed WriteFault (events_of_order order.now) server.old.state server.new.state (K.held sink.old) (K.held sink.new)) }

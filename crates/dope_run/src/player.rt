@@ -1,0 +1,98 @@
+//! Playing a script, byte by byte.
+ghost use Rattle.std.specs.Prelude.{◌≡◌, ℕ, ◌+◌, ◌<◌, ◌≤◌, ◌^◌, ◌∷◌, [], length, MatchResult, OnOk, IfErr};
+ghost use Rattle.outside_io.specs.Count.{Rose};
+ghost use Rattle.dope_run.specs.declared.status.Status.TheVariants.{Done};
+ghost use Rattle.dope_run.specs.Playing.{IsPlayer, LineDone, LineCut, Fed, status_of};
+use crate::cut::Cut;
+use crate::line::line_order;
+use crate::obeying::obey;
+use crate::setup::Setup;
+use arrayvec::ArrayVec;
+use outside_io::Sink;
+use server_core::Server;
+use std::mem;
+
+/// A player of a script: its server, how far the script's client has come, the bytes of the line that is not
+/// yet whole, and how many lines were carried out.
+#[derive(Drop)]
+pub struct Player {
+    pub server: Server,
+    pub setup: Setup,
+    pub line: ArrayVec<u8, 520>,
+    pub lines: u64,
+}
+
+impl Player {
+    /// Carries out the player's line, which is whole.
+    pub fn end_line<K: Sink>(&mut self, sink: &mut K) -> Result<(), Cut>
+        requires player { IsPlayer self.old }
+        requires room { self.old.lines + 1 < 2 ^ 64 }
+        ensures told { MatchResult result
+            (λ _. LineDone Done self.old self.new (K.held sink.old) (K.held sink.new))
+            (λ cut. LineCut cut self.old self.new (K.held sink.old) (K.held sink.new)) }
+        ensures still_player { OnOk result (IsPlayer self.new) }
+        ensures later { K.faults sink.old ≤ K.faults sink.new }
+        ensures cause { IfErr result (λ cut. cut ≡ Cut.Unwritten → Rose (K.faults sink.old) (K.faults sink.new)) }
+    {
+        let setup = mem::replace(&mut self.setup, Setup::Opened);
+        match line_order(setup, self.line.as_slice()) {
+            None => Err(Cut::Unread {
+                line: self.lines + 1,
+            }),
+            Some((order, next)) => {
+                self.setup = next;
+                self.line.clear();
+                self.lines += 1;
+                match obey(&order, &mut self.server, sink) {
+                    Ok(()) => Ok(()),
+                    Err(_) => Err(Cut::Unwritten),
+                }
+            }
+        }
+    }
+
+    /// Takes one byte of the script.
+    fn byte<K: Sink>(&mut self, byte: u8, sink: &mut K) -> Result<(), Cut>
+        requires player { IsPlayer self.old }
+        requires room { self.old.lines + 1 < 2 ^ 64 }
+        ensures told { MatchResult result
+            (λ _. Fed Done self.old (byte ∷ []) self.new (K.held sink.old) (K.held sink.new))
+            (λ cut. Fed (status_of cut) self.old (byte ∷ []) self.new (K.held sink.old) (K.held sink.new)) }
+        ensures still_player { OnOk result (IsPlayer self.new) }
+        ensures lines { OnOk result (self.new.lines ≤ self.old.lines + 1) }
+        ensures later { K.faults sink.old ≤ K.faults sink.new }
+        ensures cause { IfErr result (λ cut. cut ≡ Cut.Unwritten → Rose (K.faults sink.old) (K.faults sink.new)) }
+    {
+        if byte == b'\n' {
+            return self.end_line(sink);
+        }
+        if self.line.is_full() {
+            return Err(Cut::Unread {
+                line: self.lines + 1,
+            });
+        }
+        self.line.push(byte);
+        Ok(())
+    }
+
+    /// Takes bytes of the script, in order, up to the first at which playing is cut off.
+    pub fn piece<K: Sink>(&mut self, bytes: &[u8], sink: &mut K) -> Result<(), Cut>
+        requires player { IsPlayer self.old }
+        requires room { self.old.lines + length bytes.now < 2 ^ 64 }
+        ensures told { MatchResult result
+            (λ _. Fed Done self.old bytes.now self.new (K.held sink.old) (K.held sink.new))
+            (λ cut. Fed (status_of cut) self.old bytes.now self.new (K.held sink.old) (K.held sink.new)) }
+        ensures still_player { OnOk result (IsPlayer self.new) }
+        ensures lines { OnOk result (self.new.lines ≤ self.old.lines + length bytes.now) }
+        ensures later { K.faults sink.old ≤ K.faults sink.new }
+        ensures cause { IfErr result (λ cut. cut ≡ Cut.Unwritten → Rose (K.faults sink.old) (K.faults sink.new)) }
+    {
+        for byte in bytes {
+            match self.byte(*byte, sink) {
+                Ok(()) => {}
+                Err(cut) => return Err(cut),
+            }
+        }
+        Ok(())
+    }
+}
