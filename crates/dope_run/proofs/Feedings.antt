@@ -23,7 +23,8 @@ use Rattle.dope_run.specs.Script.{events_of_order, BeginsOff, BeginsUnread, Begi
 use Rattle.dope_run.specs.Text.{text_of}
 use Rattle.dope_run.specs.Transcript.{Plays, Gains, Leaves}
 use Rattle.dope_run.specs.Obeying.{Obeyed}
-use Rattle.dope_run.specs.Playing.{LineDone, LineUnread, LineCut, Fed, EndsSo, status_of, bare_item}
+use Rattle.dope_run.specs.Playing.{LineDone, LineUnread, LineCut, Fed, EndsSo, bare_item}
+use Rattle.dope_run.specs.Cutting.{status_of}
 use Rattle.dope_run.proofs.Gaining.{text_of-append, Gains-after, Leaves-after}
 use Rattle.dope_run.proofs.Reading.{read_script-nil, read_script-cons, Plays-append}
 
@@ -245,3 +246,7 @@ pub fed_cut_in : (cut : Cut) (a b c : Player) (bytes : List ℕ) (i : ℕ) (befo
 fed_cut_in cut a b c bytes i before middle after inside front next =
   fed_same (status_of cut) a c _ _ before after (take-append-drop (i + 1) bytes)
     (fed_more cut a c (take (i + 1) bytes) (drop (i + 1) bytes) before after (fed_next (status_of cut) a b c bytes i before middle after inside front next))
+
+pub bytes_of-cons : (line : List ℕ) (items : List Item) → bytes_of (bare_item line ∷ items) ≡ line ++ 10 ∷ bytes_of items
+unfolding bytes_of
+bytes_of-cons line items = append_assoc line (10 ∷ []) (bytes_of items)

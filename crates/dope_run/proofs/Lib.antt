@@ -3,3 +3,5 @@ pub mod Obeyings
 pub mod Reading
 pub mod Readiness
 pub mod Feedings
+pub mod Framings
+pub mod Endings

@@ -10,3 +10,4 @@ pub mod Transcript
 pub mod Obeying
 pub mod Ready
 pub mod Playing
+pub mod Cutting

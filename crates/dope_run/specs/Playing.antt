@@ -1,9 +1,12 @@
 -- How a player of a script goes through bytes: which whole lines they make, which run they ask for, what was
 -- written of it, and how far the player has come.
-use Rattle.std.specs.Prelude.{◌≡◌, ℕ, ◌+◌, List, [], ◌∷◌, ◌++◌, length, Option, None}
-use Rattle.desk_model.specs.State.{State, IsState}
+use Rattle.std.specs.Prelude.{◌≡◌, ◌≢◌, ◌⊎◌, ℕ, ◌+◌, List, [], ◌∷◌, ◌++◌, length, Option, None}
+use Rattle.std.specs.Io.KnownBytes.{Consumes}
+use Rattle.desk_model.specs.declared.shape.Shape.{Shape}
+use Rattle.desk_model.specs.State.{State, IsState, opening}
 use Rattle.desk_model.specs.Run.{Moment}
 use Rattle.dope_run.specs.declared.setup.Setup.{Setup}
+use Rattle.dope_run.specs.declared.setup.Setup.TheVariants.{Fresh}
 use Rattle.dope_run.specs.declared.status.Status.{Status}
 use Rattle.dope_run.specs.declared.status.Status.TheVariants.{Done, ReadFault, WriteFault, Usage, BadScript, NoMemory, TooMuch}
 use Rattle.dope_run.specs.declared.cut.Cut.{Cut}
@@ -22,11 +25,6 @@ pub record IsPlayer (player : Player) : Type 0 where
   pub state : IsState player.server.state
   pub ready : IsReady player.setup player.server.state.desk.windows
   pub line : IsLine player.line.items
-
--- how a run ends that was cut off there
-abbrev pub status_of : Cut → Status
-status_of (Unread line) = BadScript line
-status_of Unwritten = WriteFault
 
 -- a line that has no raw bytes
 abbrev pub bare_item : List ℕ → Item
@@ -72,3 +70,26 @@ pub record Fed (status : Status) (old : Player) (bytes : List ℕ) (new : Player
   pub gains : Gains status sink_old sink_new (text_of moments)
   pub leaves : Leaves status new.server.state old.server.state moments
   pub counts : new.lines ≡ old.lines + length items
+
+-- A player at the beginning of a script.
+pub record IsFresh (shape : Shape) (player : Player) : Type 0 where
+  pub setup : player.setup ≡ Fresh
+  pub state : player.server.state ≡ opening shape
+  pub line : player.line.items ≡ []
+  pub lines : player.lines ≡ 0
+  pub valid : IsState (opening shape)
+
+-- What a player has taken since it was fresh, of a source whose bytes it was given.
+pub record Going (start player : Player) (count : ℕ) (source_old source_new sink_old sink_new : Option (List ℕ)) : Type 0 where
+  pub taken : List ℕ
+  pub counted : length taken ≡ count
+  pub consumes : Consumes source_old source_new taken
+  pub fed : Fed Done start taken player sink_old sink_new
+
+-- The end of the script was met: a last line without a line feed counts as a line.
+abbrev pub Finished : Status → Player → Player → Option (List ℕ) → Option (List ℕ) → Type 0
+Finished Done old new before after =
+  ((old.line.items ≡ []) × (new ≡ old) × (after ≡ before)) ⊎ ((old.line.items ≢ []) × LineDone Done old new before after)
+Finished (BadScript line) old new before after = (old.line.items ≢ []) × LineUnread line old new before after
+Finished WriteFault old new before after = (old.line.items ≢ []) × LineDone WriteFault old new before after
+Finished _ old new before after = ⊥

@@ -9,6 +9,7 @@ mod obeying;
 pub mod order;
 
 mod player;
+mod playing;
 pub mod setup;
 mod status;
 mod text;

@@ -1,0 +1,18 @@
+use Rattle.std.proofs.Common.{◌≡◌, ◌+◌, ◌-◌, ◌≤◌, length}
+use Rattle.dope_run.specs.declared.TheConstants.{PIECE, SCRIPT_LIMIT}
+use Rattle.dope_run.specs.Playing.{IsPlayer, Going}
+use Rattle.dope_run.proofs.playing.play.Given as goal
+
+abbrev pub invariant-loop : goal.invariant-loop
+invariant-loop g l = record {
+  going : Going l.initial.player l.player l.taken (g.S.Source.left l.initial.source) (g.S.Source.left l.source) (g.K.Sink.held l.initial.sink) (g.K.Sink.held l.sink);
+  player : IsPlayer l.player;
+  lines : l.player.lines ≤ l.taken;
+  few : l.taken ≤ 67108864;
+  buffer : length l.buffer ≡ 4096;
+  read_later : g.S.Source.faults l.initial.source ≤ g.S.Source.faults l.source;
+  write_later : g.K.Sink.faults l.initial.sink ≤ g.K.Sink.faults l.sink
+}
+
+abbrev pub decreases-loop : goal.decreases-loop
+decreases-loop g l = 67108864 - l.taken
