@@ -13,6 +13,9 @@ use Rattle.desk_model.proofs.Runs.{Run-append, IsState-run, KeepsLaws-run}
 use Rattle.desk_model.proofs.Progress.{some_run}
 use Rattle.dope_run.specs.declared.setup.Setup.{Setup}
 use Rattle.dope_run.specs.declared.setup.Setup.TheVariants.{Fresh}
+use Rattle.dope_run.specs.declared.cut.Cut.{Cut}
+use Rattle.dope_run.specs.declared.cut.Cut.TheVariants.{Unread, Unwritten}
+use Rattle.dope_run.specs.Cutting.{status_of}
 use Rattle.dope_run.specs.declared.status.Status.{Status}
 use Rattle.dope_run.specs.declared.status.Status.TheVariants.{Done, ReadFault, WriteFault, Usage, BadScript, NoMemory, TooMuch}
 use Rattle.dope_run.specs.declared.player.Player.{Player}
@@ -21,7 +24,7 @@ use Rattle.dope_run.specs.Script.{read_script, BeginsOff, EndsOff, EndsUnread}
 use Rattle.dope_run.specs.Line.{line_order}
 use Rattle.dope_run.specs.Text.{text_of}
 use Rattle.dope_run.specs.Transcript.{Plays, Covers, Gains, Leaves, IsReached, Ended, AreCutShort, AreLinesOf, AreFollowedByOff}
-use Rattle.dope_run.specs.Playing.{IsPlayer, Fed, EndsSo, LineDone, LineUnread, IsFresh, Going, Finished, bare_item}
+use Rattle.dope_run.specs.Playing.{IsPlayer, Fed, EndsSo, LineDone, LineUnread, IsFresh, Going, Finished, LineCut, bare_item}
 use Rattle.dope_run.proofs.Gaining.{text_of-append, AppendsFront-longer, Gains-after, IsReached-longer, Leaves-after}
 use Rattle.dope_run.proofs.Reading.{Plays-append}
 use Rattle.dope_run.proofs.Feedings.{fed_none, fed_after, bytes_of-append, bytes_of-bare}
@@ -218,3 +221,13 @@ ended_finish shape ReadFault start player last count bytes s0 s1 s2 k0 k1 k2 fre
 ended_finish shape Usage start player last count bytes s0 s1 s2 k0 k1 k2 fresh valid going consumes none end few no_end = absurd no_end
 ended_finish shape NoMemory start player last count bytes s0 s1 s2 k0 k1 k2 fresh valid going consumes none end few no_end = absurd no_end
 ended_finish shape TooMuch start player last count bytes s0 s1 s2 k0 k1 k2 fresh valid going consumes none end few no_end = absurd no_end
+
+-- the last line was cut off
+pub finished_cut : (cut : Cut) (old new : Player) (before after : Option (List ℕ)) → old.line.items ≢ [] → LineCut cut old new before after → Finished (status_of cut) old new before after
+finished_cut (Unread line) old new before after some told = (some, told)
+finished_cut Unwritten old new before after some told = (some, told)
+
+-- playing was cut off
+pub ended_cut : (shape : Shape) (cut : Cut) (start between player : Player) (count : ℕ) (bytes : List ℕ) (s0 s1 s2 k0 k1 k2 : Option (List ℕ)) → IsFresh shape start → Going start between count s0 s1 k0 k1 → Consumes s1 s2 bytes → Fed (status_of cut) between bytes player k1 k2 → count + length bytes ≤ script_limit → Ended shape (status_of cut) s0 s2 k0 k2 player.server.state
+ended_cut shape (Unread line) = ended_off shape line
+ended_cut shape Unwritten = ended_unwritten shape

@@ -1,10 +1,9 @@
 use Rattle.std.proofs.Common.{◌≡◌, ◌+◌, ◌-◌, ◌≤◌, length}
-use Rattle.dope_run.specs.declared.TheConstants.{PIECE, SCRIPT_LIMIT}
 use Rattle.dope_run.specs.Playing.{IsPlayer, Going}
 use Rattle.dope_run.proofs.playing.play.Given as goal
 
-abbrev pub invariant-loop : goal.invariant-loop
-invariant-loop g l = record {
+abbrev pub invariant-loop-count : goal.invariant-loop-count
+invariant-loop-count g l = record {
   going : Going l.initial.player l.player l.taken (g.S.Source.left l.initial.source) (g.S.Source.left l.source) (g.K.Sink.held l.initial.sink) (g.K.Sink.held l.sink);
   player : IsPlayer l.player;
   lines : l.player.lines ≤ l.taken;
@@ -14,5 +13,5 @@ invariant-loop g l = record {
   write_later : g.K.Sink.faults l.initial.sink ≤ g.K.Sink.faults l.sink
 }
 
-abbrev pub decreases-loop : goal.decreases-loop
-decreases-loop g l = 67108864 - l.taken
+abbrev pub decreases-loop-count : goal.decreases-loop-count
+decreases-loop-count g l = 67108865 - l.taken
