@@ -6,6 +6,7 @@ use Rattle.std.proofs.lemmas.List.{map-append}
 use Rattle.outside_io.specs.Sink.{AppendsFront}
 use Rattle.outside_io.proofs.Told.{Consumes-none, Consumes-append, Consumes-keeps}
 use Rattle.desk_model.specs.declared.shape.Shape.{Shape}
+use Rattle.desk_model.specs.Desk.{opening_desk}
 use Rattle.desk_model.specs.State.{State, IsState, opening}
 use Rattle.desk_model.specs.Run.{Moment, Run, events_of, state_after}
 use Rattle.desk_model.specs.Laws.{KeepsLaws}
@@ -22,12 +23,13 @@ use Rattle.dope_run.specs.declared.player.Player.{Player}
 use Rattle.dope_run.specs.Framing.{Item, IsItem, IsLine, IsPartial, AreWhole, IsUnended, bytes_of, wants_of, script_limit}
 use Rattle.dope_run.specs.Script.{read_script, BeginsOff, EndsOff, EndsUnread}
 use Rattle.dope_run.specs.Line.{line_order}
+use Rattle.dope_run.specs.Ready.{IsReady}
 use Rattle.dope_run.specs.Text.{text_of}
-use Rattle.dope_run.specs.Transcript.{Plays, Covers, Gains, Leaves, IsReached, Ended, AreCutShort, AreLinesOf, AreFollowedByOff}
+use Rattle.dope_run.specs.Transcript.{Plays, Covers, Gains, Leaves, IsReached, Ended, AreCutShort, AreLinesOf, AreFollowedByOff, IsRefused}
 use Rattle.dope_run.specs.Playing.{IsPlayer, Fed, EndsSo, LineDone, LineUnread, IsFresh, Going, Finished, LineCut, bare_item}
 use Rattle.dope_run.proofs.Gaining.{text_of-append, AppendsFront-longer, Gains-after, IsReached-longer, Leaves-after}
 use Rattle.dope_run.proofs.Reading.{Plays-append}
-use Rattle.dope_run.proofs.Feedings.{fed_none, fed_after, bytes_of-append, bytes_of-bare}
+use Rattle.dope_run.proofs.Feedings.{IsLine-nil, fed_none, fed_after, bytes_of-append, bytes_of-bare}
 use Rattle.std.proofs.Math.Seq.{take-append_seam}
 use Rattle.dope_run.proofs.Framings.{lines_of}
 
@@ -231,3 +233,37 @@ finished_cut Unwritten old new before after some told = (some, told)
 pub ended_cut : (shape : Shape) (cut : Cut) (start between player : Player) (count : ℕ) (bytes : List ℕ) (s0 s1 s2 k0 k1 k2 : Option (List ℕ)) → IsFresh shape start → Going start between count s0 s1 k0 k1 → Consumes s1 s2 bytes → Fed (status_of cut) between bytes player k1 k2 → count + length bytes ≤ script_limit → Ended shape (status_of cut) s0 s2 k0 k2 player.server.state
 ended_cut shape (Unread line) = ended_off shape line
 ended_cut shape Unwritten = ended_unwritten shape
+
+-- ---- the opening
+
+pub shape-opening : (shape : Shape) → (opening shape).desk.shape ≡ shape
+unfolding opening opening_desk
+shape-opening shape = refl
+
+windows-opening : (shape : Shape) → (opening shape).desk.windows ≡ []
+unfolding opening opening_desk
+windows-opening shape = refl
+
+-- a player on a server that was just opened
+pub player_opened : (shape : Shape) (player : Player) → player.server.state ≡ opening shape → IsState player.server.state → player.setup ≡ Fresh → player.line.items ≡ [] → IsPlayer player
+player_opened shape player opens valid setup line = record {
+  state = valid;
+  ready = subst (λ s. IsReady s player.server.state.desk.windows) (sym setup) (ap (λ s. s.desk.windows) opens ∙ windows-opening shape);
+  line = IsLine-nil player.line.items line;
+}
+
+pub player_fresh : (shape : Shape) (player : Player) → player.server.state ≡ opening shape → IsState player.server.state → player.setup ≡ Fresh → player.line.items ≡ [] → player.lines ≡ 0 → IsFresh shape player
+player_fresh shape player opens valid setup line lines = record { setup = setup; state = opens; line = line; lines = lines; valid = subst IsState opens valid }
+
+pub shape_opened : (shape : Shape) (state : State) → state ≡ opening shape → state.desk.shape ≡ shape
+shape_opened shape state opens = ap (λ s. s.desk.shape) opens ∙ shape-opening shape
+
+-- a run that ended was not refused
+pub not_refused : (shape : Shape) (status : Status) (s0 s1 k0 k1 : Option (List ℕ)) (state : State) → Ended shape status s0 s1 k0 k1 state → IsRefused status → ⊥
+not_refused shape Usage s0 s1 k0 k1 state ended refused = ended.covers
+not_refused shape NoMemory s0 s1 k0 k1 state ended refused = ended.covers
+not_refused shape Done s0 s1 k0 k1 state ended refused = refused
+not_refused shape ReadFault s0 s1 k0 k1 state ended refused = refused
+not_refused shape WriteFault s0 s1 k0 k1 state ended refused = refused
+not_refused shape (BadScript line) s0 s1 k0 k1 state ended refused = refused
+not_refused shape TooMuch s0 s1 k0 k1 state ended refused = refused

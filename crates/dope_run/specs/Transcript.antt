@@ -76,3 +76,14 @@ pub record Ended (shape : Shape) (status : Status) (source_old source_new sink_o
   pub gains : Gains status sink_old sink_new (text_of moments)
   pub leaves : Leaves status state (opening shape) moments
   pub laws : KeepsLaws (opening shape) moments
+
+-- The run was refused before anything was read, or it was played.
+abbrev pub IsRefused : Status → Type 0
+IsRefused Usage = Unit {0}
+IsRefused NoMemory = Unit {0}
+IsRefused _ = ⊥
+
+abbrev pub IsPlayed : Status → Type 0
+IsPlayed Usage = ⊥
+IsPlayed NoMemory = ⊥
+IsPlayed _ = Unit {0}

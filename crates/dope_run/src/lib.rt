@@ -10,6 +10,7 @@ pub mod order;
 
 mod player;
 mod playing;
+mod running;
 pub mod setup;
 mod status;
 mod text;
@@ -17,5 +18,7 @@ mod told;
 mod words;
 
 pub use ending::report;
+pub use running::run;
+pub use server_core::Server;
 pub use status::Status;
 pub use told::Report;

@@ -1,0 +1,47 @@
+//! `dope`: the window server's command line.
+#![tactic(auto)]
+
+use dope_run::{Report, Server, Status, report, run};
+use outside_io::{StdIn, StdOut};
+use std::alloc::AllocError;
+use std::env;
+use std::io::{self, Write};
+use std::process::ExitCode;
+
+/// The words of the command line, without the program's name.
+fn words(rt: &HostRuntime) -> Result<Vec<String>, AllocError> {
+    let mut words = Vec::new(rt.alloc());
+    for word in env::args(rt)?.skip(1) {
+        words.push(word)?;
+    }
+    Ok(words)
+}
+
+/// Runs the command on standard input and output.
+fn run_command(rt: &HostRuntime) -> Status {
+    match words(rt) {
+        Ok(words) => {
+            let mut kept: Option<Server> = None;
+            run(
+                rt.alloc(),
+                words.as_slice(),
+                &mut StdIn::new(rt.stdin()),
+                &mut StdOut::new(rt.stdout()),
+                &mut kept,
+            )
+        }
+        Err(_) => Status::NoMemory,
+    }
+}
+
+/// Writes a report's texts, each where it belongs.
+fn tell(rt: &HostRuntime, report: &Report) -> io::Result<()> {
+    rt.stdout().write_all(report.out.as_str().as_bytes())?;
+    rt.stderr().write_all(report.err.as_str().as_bytes())
+}
+
+fn main(rt: HostRuntime) -> ExitCode {
+    let report = report(&run_command(&rt));
+    let _ = tell(&rt, &report);
+    ExitCode::from(report.exit)
+}
