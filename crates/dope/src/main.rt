@@ -3,13 +3,12 @@
 
 use dope_run::{Report, Server, Status, report, run};
 use outside_io::{StdIn, StdOut};
-use std::alloc::AllocError;
 use std::env;
 use std::io::{self, Write};
 use std::process::ExitCode;
 
 /// The words of the command line, without the program's name.
-fn words(rt: &HostRuntime) -> Result<Vec<String>, AllocError> {
+fn words(rt: &HostRuntime) -> io::Result<Vec<String>> {
     let mut words = Vec::new(rt.alloc());
     for word in env::args(rt)?.skip(1) {
         words.push(word)?;
