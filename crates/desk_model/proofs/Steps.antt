@@ -1,5 +1,5 @@
 -- A step from a valid state leads to a valid state and keeps the shape, whatever the event and the answer.
-use Rattle.std.proofs.Common.{◌≡◌, ℕ, ◌<◌, Bool, true, false, not, ◌&&◌, ◌||◌, cond, length, refl, sym, ap, ◌∙◌, subst, arith}
+use Rattle.std.proofs.Common.{◌≡◌, ◌≢◌, ℕ, ◌<◌, Bool, true, false, not, ◌&&◌, ◌||◌, cond, length, refl, sym, ap, ◌∙◌, subst, arith}
 use Rattle.std.proofs.lemmas.Bool.{or_parts, true≢false}
 use Rattle.desk_model.specs.declared.drew.Drew.{Drew}
 use Rattle.desk_model.specs.declared.shape.Shape.{Shape}
@@ -76,3 +76,12 @@ shape-step old Tick (Drawn drew) new s = ap (λ (d : Desk). d.shape) s.desk ∙ 
 shape-step old CountDirty (Counted n) new s = ap (λ (q : State). q.desk.shape) s.0
 shape-step old (LookAt x y) (Seen byte) new s = ap (λ (q : State). q.desk.shape) s.0
 shape-step old _ _ new s = elim s [ ]
+
+-- an event that isn't a tick leaves the screen
+pub screen-step : (old : State) (event : Event) (answer : Answer) (new : State) → Step old event answer new → event ≢ Tick → new.screen ≡ old.screen
+screen-step old Ready Done new s other = ap (λ (q : State). q.screen) s
+screen-step old (Show w h) Done new s other = s.screen
+screen-step old Tick answer new s other = absurd (other refl)
+screen-step old CountDirty (Counted n) new s other = ap (λ (q : State). q.screen) s.0
+screen-step old (LookAt x y) (Seen byte) new s other = ap (λ (q : State). q.screen) s.0
+screen-step old _ _ new s other = elim s [ ]

@@ -1,5 +1,5 @@
 -- The laws of the machine, each a statement over its definitions alone.
-use Rattle.std.specs.Prelude.{◌≡◌, ℕ, false, List, ◌++◌}
+use Rattle.std.specs.Prelude.{◌≡◌, ◌≢◌, ℕ, false, List, ◌++◌}
 use Rattle.desk_model.specs.declared.drew.Drew.{Drew}
 use Rattle.desk_model.specs.declared.shape.Shape.{Shape}
 use Rattle.desk_model.specs.Desk.{Desk, IsShape}
@@ -33,6 +33,11 @@ OpeningIsValid = (shape : Shape) → IsShape shape → IsState (opening shape)
 abbrev pub StepsKeepStatesValid : Type 0
 StepsKeepStatesValid =
     (old : State) (event : Event) (answer : Answer) (new : State) → IsState old → Step old event answer new → IsState new
+
+-- Only a tick draws: any other event leaves the screen as it was.
+abbrev pub OnlyTicksDraw : Type 0
+OnlyTicksDraw =
+    (old : State) (event : Event) (answer : Answer) (new : State) → Step old event answer new → event ≢ Tick → new.screen ≡ old.screen
 
 -- What a tick cleaned is a set of dirty pixels, as many as there is room for, and it drew them and the bands alone.
 abbrev pub TicksCleanAChosenSet : Type 0

@@ -1,7 +1,7 @@
 //! Laws of the machine, over the definitions alone. Each is a function without parameters whose contract is
 //! the law. docs/MACHINE.md reads them in prose.
 
-ghost use Rattle.server_core.specs.Laws.{ColoursAgreeOutsideTheReach, BeatsChangeOnlyTheirBands, OpeningIsValid, StepsKeepStatesValid, TicksCleanAChosenSet, CleanStatesShowThePicture, EventsHaveAnswers, EventsHaveARun, RunsJoin, RunsKeepStatesValid, RunsKeepTheLaws};
+ghost use Rattle.server_core.specs.Laws.{ColoursAgreeOutsideTheReach, BeatsChangeOnlyTheirBands, OpeningIsValid, StepsKeepStatesValid, OnlyTicksDraw, TicksCleanAChosenSet, CleanStatesShowThePicture, EventsHaveAnswers, EventsHaveARun, RunsJoin, RunsKeepStatesValid, RunsKeepTheLaws};
 
 /// Between any two desks no pixel outside the reach of the change has another colour.
 pub fn colours_agree_outside_the_reach()
@@ -21,6 +21,11 @@ pub fn the_opening_state_is_valid()
 /// Each step from a valid state leads to a valid one: between any two events each pixel is dirty or right.
 pub fn each_step_keeps_the_state_valid()
     ensures { StepsKeepStatesValid }
+{}
+
+/// Only a tick draws: any other event leaves the screen as it was.
+pub fn only_ticks_draw()
+    ensures { OnlyTicksDraw }
 {}
 
 /// What a tick cleaned is a set of dirty pixels, as many as there is room for, and it drew them and the bands
