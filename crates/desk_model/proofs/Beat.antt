@@ -9,6 +9,11 @@ pub shape-beat : (d : Desk) → (beat d).shape ≡ d.shape
 unfolding beat
 shape-beat d = refl
 
+-- a beat opens and closes no window
+pub windows-beat : (d : Desk) → (beat d).windows ≡ d.windows
+unfolding beat
+windows-beat d = refl
+
 pub IsDesk-beat : (d : Desk) → IsDesk d → IsDesk (beat d)
 unfolding beat
 IsDesk-beat d is = is

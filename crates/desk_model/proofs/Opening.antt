@@ -1,5 +1,5 @@
 -- The state at opening is valid, and nothing is dirty in it.
-use Rattle.std.proofs.Common.{◌≡◌, ℕ, ◌+◌, ◌*◌, false, replicate, refl, sym, ◌∙◌, zero, suc, arith}
+use Rattle.std.proofs.Common.{[], ◌≡◌, ℕ, ◌+◌, ◌*◌, false, replicate, refl, sym, ◌∙◌, zero, suc, arith}
 use Rattle.std.proofs.lemmas.List.{length-replicate, get_or-replicate}
 use Rattle.std.proofs.lemmas.Nat.{mul-add-lt}
 use Rattle.desk_model.specs.declared.shape.Shape.{Shape}
@@ -27,3 +27,12 @@ IsState-opening shape is = record {
 pub dirty_count-opening : (shape : Shape) → dirty_count (opening shape) ≡ 0
 unfolding opening
 dirty_count-opening shape = count_true-replicate (area shape)
+
+-- no window is open at opening
+pub windows-opening : (shape : Shape) → (opening shape).desk.windows ≡ []
+unfolding opening opening_desk
+windows-opening shape = refl
+
+pub shape-opening : (shape : Shape) → (opening shape).desk.shape ≡ shape
+unfolding opening opening_desk
+shape-opening shape = refl

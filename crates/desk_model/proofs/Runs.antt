@@ -1,6 +1,7 @@
 -- Runs: they join and part, they keep the state valid and the shape, and they keep the machine's laws.
 use Rattle.std.proofs.Common.{◌≡◌, ℕ, suc, ◌-◌, ◌*◌, ◌≤◌, List, [], ◌∷◌, ◌++◌, length, refl, ap, ◌∙◌, subst, arith}
 use Rattle.std.specs.List.{All}
+use Rattle.std.proofs.lemmas.List.{map-append}
 use Rattle.std.proofs.lemmas.List.Elements.{All-nil, All-cons, All-head, All-tail}
 use Rattle.desk_model.specs.declared.shape.Shape.{Shape}
 use Rattle.desk_model.specs.State.{State, IsState, dirty_count}
@@ -8,7 +9,7 @@ use Rattle.desk_model.specs.Events.{Event, Answer}
 use Rattle.desk_model.specs.Events.Event.{Ready, Show, Tick, CountDirty, LookAt}
 use Rattle.desk_model.specs.Events.Answer.{Done, Drawn, Counted, Seen}
 use Rattle.desk_model.specs.Step.{Step}
-use Rattle.desk_model.specs.Run.{Moment, Run, state_after}
+use Rattle.desk_model.specs.Run.{Moment, Run, state_after, events_of}
 use Rattle.desk_model.specs.Laws.{written, KeepsBudget, IsUndisturbed, ComesRight, ComesRightThroughout, KeepsLaws}
 use Rattle.desk_model.proofs.Steps.{IsState-step, shape-step}
 use Rattle.desk_model.proofs.Ticks.{ticked-within_budget, ticked-fewer, clean-is_picture}
@@ -27,6 +28,18 @@ Run-parts from (m ∷ a) b p = let rest = Run-parts m.after a b p.1 in ((p.0, re
 
 pub Run-one : (from : State) (event : Event) (answer : Answer) (new : State) → Step from event answer new → Run from (record { event = event; answer = answer; after = new } ∷ [])
 Run-one from event answer new s = (s, tt)
+
+-- one more step at the end of a run
+pub Run-push : (from : State) (moments : List Moment) (event : Event) (answer : Answer) (new : State) → Run from moments → Step (state_after from moments) event answer new → Run from (moments ++ record { event = event; answer = answer; after = new } ∷ [])
+Run-push from moments event answer new run s =
+    Run-append from moments (record { event = event; answer = answer; after = new } ∷ []) run (s, tt)
+
+pub state_after-push : (from : State) (moments : List Moment) (event : Event) (answer : Answer) (new : State) → state_after from (moments ++ record { event = event; answer = answer; after = new } ∷ []) ≡ new
+state_after-push from moments event answer new =
+    state_after-append from moments (record { event = event; answer = answer; after = new } ∷ [])
+
+pub events_of-append : (a b : List Moment) → events_of (a ++ b) ≡ events_of a ++ events_of b
+events_of-append a b = map-append (λ (moment : Moment). moment.event) a b
 
 pub IsState-run : (from : State) (moments : List Moment) → IsState from → Run from moments → IsState (state_after from moments)
 IsState-run from [] is run = is

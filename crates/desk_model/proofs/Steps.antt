@@ -1,5 +1,5 @@
 -- A step from a valid state leads to a valid state and keeps the shape, whatever the event and the answer.
-use Rattle.std.proofs.Common.{◌≡◌, ℕ, ◌<◌, Bool, true, false, not, ◌&&◌, ◌||◌, cond, length, refl, sym, ap, ◌∙◌, subst, arith}
+use Rattle.std.proofs.Common.{◌≡◌, ◌≢◌, ℕ, ◌<◌, Bool, true, false, not, ◌&&◌, ◌||◌, cond, length, refl, sym, ap, ◌∙◌, subst, arith}
 use Rattle.std.proofs.lemmas.Bool.{or_parts, true≢false}
 use Rattle.desk_model.specs.declared.drew.Drew.{Drew}
 use Rattle.desk_model.specs.declared.shape.Shape.{Shape}
@@ -13,7 +13,7 @@ use Rattle.desk_model.specs.Events.Event.{Ready, Show, Tick, CountDirty, LookAt}
 use Rattle.desk_model.specs.Events.Answer.{Done, Drawn, Counted, Seen}
 use Rattle.desk_model.specs.Step.{Step, Changed, Ticked, showing}
 use Rattle.desk_model.proofs.Reach.{colour-outside_reach, shape-showing, IsDesk-showing}
-use Rattle.desk_model.proofs.Beat.{shape-beat, IsDesk-beat, colour-beat}
+use Rattle.desk_model.proofs.Beat.{shape-beat, windows-beat, IsDesk-beat, colour-beat}
 
 pub IsState-same : (old new : State) → new ≡ old → IsState old → IsState new
 IsState-same old new e is = subst IsState (sym e) is
@@ -76,3 +76,24 @@ shape-step old Tick (Drawn drew) new s = ap (λ (d : Desk). d.shape) s.desk ∙ 
 shape-step old CountDirty (Counted n) new s = ap (λ (q : State). q.desk.shape) s.0
 shape-step old (LookAt x y) (Seen byte) new s = ap (λ (q : State). q.desk.shape) s.0
 shape-step old _ _ new s = elim s [ ]
+
+-- an event that isn't a tick leaves the screen
+pub screen-step : (old : State) (event : Event) (answer : Answer) (new : State) → Step old event answer new → event ≢ Tick → new.screen ≡ old.screen
+screen-step old Ready Done new s other = ap (λ (q : State). q.screen) s
+screen-step old (Show w h) Done new s other = s.screen
+screen-step old Tick answer new s other = absurd (other refl)
+screen-step old CountDirty (Counted n) new s other = ap (λ (q : State). q.screen) s.0
+screen-step old (LookAt x y) (Seen byte) new s other = ap (λ (q : State). q.screen) s.0
+screen-step old _ _ new s other = elim s [ ]
+
+-- an event that isn't a show leaves the open windows
+pub windows-step : (old : State) (event : Event) (answer : Answer) (new : State) → Step old event answer new → ((w h : ℕ) → event ≢ Show w h) → new.desk.windows ≡ old.desk.windows
+windows-step old Ready Done new s other = ap (λ (q : State). q.desk.windows) s
+windows-step old (Show w h) answer new s other = absurd (other w h refl)
+windows-step old Tick (Drawn drew) new s other = ap (λ (d : Desk). d.windows) s.desk ∙ windows-beat old.desk
+windows-step old CountDirty (Counted n) new s other = ap (λ (q : State). q.desk.windows) s.0
+windows-step old (LookAt x y) (Seen byte) new s other = ap (λ (q : State). q.desk.windows) s.0
+windows-step old _ _ new s other = elim s [ ]
+
+pub windows-ticked : (old : State) (drew : Drew) (new : State) → Ticked old drew new → new.desk.windows ≡ old.desk.windows
+windows-ticked old drew new t = ap (λ (d : Desk). d.windows) t.desk ∙ windows-beat old.desk

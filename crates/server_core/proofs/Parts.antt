@@ -1,5 +1,5 @@
 -- From what a server's parts do to a step of the machine.
-use Rattle.std.proofs.Common.{◌≡◌, ℕ, ◌+◌, ◌-◌, ◌*◌, ◌/◌, ◌%◌, ◌<◌, ◌≤◌, min, pos, Bool, true, false, not, ◌&&◌, ◌||◌, cond, List, [], ◌∷◌, Option, Some, None, length, get_or, set, replicate, refl, sym, ap, ◌∙◌, subst, arith}
+use Rattle.std.proofs.Common.{◌≡◌, ℕ, ◌+◌, ◌-◌, ◌*◌, ◌/◌, ◌%◌, ◌<◌, pos, Bool, true, false, not, ◌&&◌, ◌||◌, cond, List, [], ◌∷◌, Option, Some, None, length, get_or, set, replicate, refl, ap, ◌∙◌, subst, arith}
 use Rattle.std.specs.Option.{option_to_list, MatchOption}
 use Rattle.std.proofs.lemmas.Nat.{mul-add-lt, div-mul-add, mod-mul-add}
 use Rattle.desk_model.specs.declared.drew.Drew.{Drew}
@@ -10,10 +10,10 @@ use Rattle.desk_model.specs.Windows.{shows, shown_by_any, top_at}
 use Rattle.desk_model.specs.Picture.{colour, colour_through}
 use Rattle.desk_model.specs.Reach.{in_reach}
 use Rattle.desk_model.specs.Beat.{beat, in_band, band_count}
-use Rattle.desk_model.specs.State.{State, IsState, count_true, opening}
+use Rattle.desk_model.specs.State.{IsState, count_true, opening}
 use Rattle.desk_model.specs.Step.{Changed, Ticked, showing}
 use Rattle.server_core.specs.Serving.{state_of, IsServing}
-use Rattle.server_core.specs.Sweeping.{SweptTo, MarkedTo, mark_at, colour_under, shows_at}
+use Rattle.server_core.specs.Sweeping.{SweptTo, MarkedTo, mark_at, colour_under}
 use Rattle.canvas_core.specs.Screen.{Screen, IsScreen, with_span}
 use Rattle.canvas_core.proofs.Span.{with_span-one}
 use Rattle.desk_model.proofs.Pixels.{place_of_pixel}
@@ -49,8 +49,8 @@ Changed-from_marks shape w h bytes dirt count new_dirt is m =
       screen = refl;
       size = m.size;
       dirt = λ x y hx hy.
-        m.before (y * shape.width + x) (omega (arith, mul-add-lt y shape.width x shape.height hy hx, is.dirt))
-        ∙ ap (λ b. mark_at dirt (y * shape.width + x) || b) (at_pixel (λ u v. shows window u v) shape.width x y hx ∙ or_none (shows window x y))
+          m.before (y * shape.width + x) (omega (arith, mul-add-lt y shape.width x shape.height hy hx, is.dirt))
+          ∙ ap (λ b. mark_at dirt (y * shape.width + x) || b) (at_pixel (λ u v. shows window u v) shape.width x y hx ∙ or_none (shows window x y));
     }
 
 -- a sweep of the whole map is a tick
@@ -64,16 +64,16 @@ Ticked-from_sweep shape window bytes dirt bands queue left new_bytes new_dirt is
       screen_size = s.screen_size;
       dirt_size = s.map_size;
       screen = λ x y hx hy.
-        let k = y * shape.width + x in
-        let lost = mark_at dirt k && not (mark_at new_dirt k) in
-        s.drawn k (omega (arith, mul-add-lt y shape.width x shape.height hy hx, is.dirt))
-        ∙ ap (λ c. cond lost c (get_or bytes k 0)) (at_pixel (λ u v. colour desk u v) shape.width x y hx)
-        ∙ ap (λ b. cond b (colour desk x y) (get_or bytes k 0)) (or_none lost);
+          let k = y * shape.width + x in
+          let lost = mark_at dirt k && not (mark_at new_dirt k) in
+          s.drawn k (omega (arith, mul-add-lt y shape.width x shape.height hy hx, is.dirt))
+          ∙ ap (λ c. cond lost c (get_or bytes k 0)) (at_pixel (λ u v. colour desk u v) shape.width x y hx)
+          ∙ ap (λ b. cond b (colour desk x y) (get_or bytes k 0)) (or_none lost);
       dirt = λ x y hx hy on. s.cleans (y * shape.width + x) on;
       bands = none;
       queue = SweptTo-count (colour_under windows shape.width) (shape.budget - bands) bytes dirt queue new_bytes new_dirt s;
       left = omega (arith, s.cleaned);
-      cleaned = s.cleaned
+      cleaned = s.cleaned;
     }
 
 -- the colours under an optional window and under its list
@@ -85,17 +85,19 @@ colours-are window windows w w' h e =
 pub tick_of_parts : {shape : Shape} {window : Option Window} {canvas : Screen} {dirt : List Bool} {dirty : ℕ} (bands : ℕ) (swept : Screen) {colours : ℕ → ℕ} {bytes : List ℕ} {queue : ℕ} {new_dirt : List Bool} → IsServing shape window canvas dirt dirty → SweptTo (length dirt) colours (shape.budget - bands) bytes dirt queue swept.bytes new_dirt → colours ≡ colour_under (option_to_list window) shape.width → bytes ≡ canvas.bytes → bands ≡ 0 → IsScreen swept → swept.width ≡ canvas.width → swept.height ≡ canvas.height → Ticked (state_of shape window canvas.bytes dirt) (record { bands = bands; queue = queue; left = dirty - queue }) (state_of shape window swept.bytes new_dirt) × IsServing shape window swept new_dirt (dirty - queue)
 tick_of_parts {shape} {window} {canvas} {dirt} {dirty} bands swept {colours} {bytes} {queue} {new_dirt} is s e f none screen width height =
     let over : SweptTo (length dirt) (colour_under (option_to_list window) shape.width) (shape.budget - bands) canvas.bytes dirt queue swept.bytes new_dirt =
-      subst (λ b. SweptTo (length dirt) (colour_under (option_to_list window) shape.width) (shape.budget - bands) b dirt queue swept.bytes new_dirt) f
-        (subst (λ c. SweptTo (length dirt) c (shape.budget - bands) bytes dirt queue swept.bytes new_dirt) e s) in
+    subst (λ b. SweptTo (length dirt) (colour_under (option_to_list window) shape.width) (shape.budget - bands) b dirt queue swept.bytes new_dirt) f
+    (subst (λ c. SweptTo (length dirt) c (shape.budget - bands) bytes dirt queue swept.bytes new_dirt) e s) in
     let drew : Drew = record { bands = bands; queue = queue; left = dirty - queue } in
-    let t = Ticked-from_sweep shape window canvas.bytes dirt bands queue (dirty - queue) swept.bytes new_dirt is.state over none (ap (λ n. n - queue) is.count) in
-    (t, record {
-      state = IsState-ticked (state_of shape window canvas.bytes dirt) drew (state_of shape window swept.bytes new_dirt) is.state t;
-      screen = screen;
-      width = width ∙ is.width;
-      height = height ∙ is.height;
-      count = omega (arith, s.cleaned, is.count)
-    })
+    let t = Ticked-from_sweep shape window canvas.bytes dirt bands queue (dirty - queue) swept.bytes new_dirt is.state over none (ap (λ n. n - queue) is.count) in (
+      t,
+      record {
+        state = IsState-ticked (state_of shape window canvas.bytes dirt) drew (state_of shape window swept.bytes new_dirt) is.state t;
+        screen = screen;
+        width = width ∙ is.width;
+        height = height ∙ is.height;
+        count = omega (arith, s.cleaned, is.count);
+      },
+    )
 
 -- what opening the first window makes of the parts
 pub show_of_parts : (window : Option Window) (w h : ℕ) {shape : Shape} {canvas : Screen} {dirt : List Bool} {dirty count : ℕ} {new_dirt : List Bool} → IsServing shape window canvas dirt dirty → option_to_list window ≡ [] → MarkedTo (length dirt) (record { x = pos 0; y = pos 0; w = w; h = h }) shape.width dirt count new_dirt → Changed (state_of shape window canvas.bytes dirt) (showing (state_of shape window canvas.bytes dirt).desk w h) (state_of shape (Some (record { x = pos 0; y = pos 0; w = w; h = h })) canvas.bytes new_dirt) × IsServing shape (Some (record { x = pos 0; y = pos 0; w = w; h = h })) canvas new_dirt count
@@ -103,14 +105,16 @@ show_of_parts (Some v) w h is e m = cc
 show_of_parts None w h {shape} {canvas} {dirt} {dirty} {count} {new_dirt} is e m =
     let old = state_of shape None canvas.bytes dirt in
     let new = state_of shape (Some (record { x = pos 0; y = pos 0; w = w; h = h })) canvas.bytes new_dirt in
-    let ch : Changed old (showing old.desk w h) new = Changed-from_marks shape w h canvas.bytes dirt count new_dirt is.state m in
-    (ch, record {
-      state = IsState-changed old (showing old.desk w h) new is.state (IsDesk-showing old.desk w h is.state.desk) (shape-showing old.desk w h) ch;
-      screen = is.screen;
-      width = is.width;
-      height = is.height;
-      count = m.counted
-    })
+    let ch : Changed old (showing old.desk w h) new = Changed-from_marks shape w h canvas.bytes dirt count new_dirt is.state m in (
+      ch,
+      record {
+        state = IsState-changed old (showing old.desk w h) new is.state (IsDesk-showing old.desk w h is.state.desk) (shape-showing old.desk w h) ch;
+        screen = is.screen;
+        width = is.width;
+        height = is.height;
+        count = m.counted;
+      },
+    )
 
 -- what a new server's parts make up
 pub opened : (shape : Shape) (bytes : List ℕ) (dirt : List Bool) → bytes ≡ replicate (area shape) 2 → dirt ≡ replicate (area shape) false → state_of shape None bytes dirt ≡ opening shape

@@ -14,7 +14,7 @@ pub record Serving : Type 0 where
 -- the state that a server's parts make up
 abbrev pub state_of : Shape → Option Window → List ℕ → List Bool → State
 state_of shape window bytes dirt =
-  record { desk = record { shape = shape; windows = option_to_list window }; screen = bytes; dirt = dirt }
+    record { desk = record { shape = shape; windows = option_to_list window }; screen = bytes; dirt = dirt }
 
 -- What is true of every server's parts: they make up a valid state, the canvas has the screen's sides, and the
 -- number that is kept beside the dirt map is its count.

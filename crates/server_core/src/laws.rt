@@ -1,2 +1,67 @@
 //! Laws of the machine, over the definitions alone. Each is a function without parameters whose contract is
-//! the law.
+//! the law. docs/MACHINE.md reads them in prose.
+
+ghost use Rattle.server_core.specs.Laws.{ColoursAgreeOutsideTheReach, BeatsChangeOnlyTheirBands, OpeningIsValid, StepsKeepStatesValid, OnlyTicksDraw, TicksCleanAChosenSet, CleanStatesShowThePicture, EventsHaveAnswers, EventsHaveARun, RunsJoin, RunsKeepStatesValid, RunsKeepTheLaws};
+
+/// Between any two desks no pixel outside the reach of the change has another colour.
+pub fn colours_agree_outside_the_reach()
+    ensures { ColoursAgreeOutsideTheReach }
+{}
+
+/// A beat changes colours only in the bands that it copies.
+pub fn a_beat_changes_only_its_bands()
+    ensures { BeatsChangeOnlyTheirBands }
+{}
+
+/// The state at opening is valid.
+pub fn the_opening_state_is_valid()
+    ensures { OpeningIsValid }
+{}
+
+/// Each step from a valid state leads to a valid one: between any two events each pixel is dirty or right.
+pub fn each_step_keeps_the_state_valid()
+    ensures { StepsKeepStatesValid }
+{}
+
+/// Only a tick draws: any other event leaves the screen as it was.
+pub fn only_ticks_draw()
+    ensures { OnlyTicksDraw }
+{}
+
+/// What a tick cleaned is a set of dirty pixels, as many as there is room for, and it drew them and the bands
+/// alone.
+pub fn each_tick_cleans_a_chosen_set()
+    ensures { TicksCleanAChosenSet }
+{}
+
+/// Where nothing is dirty the screen is the desk drawn afresh.
+pub fn a_clean_state_shows_the_picture()
+    ensures { CleanStatesShowThePicture }
+{}
+
+/// From each valid state each event has an answer and a state after it.
+pub fn each_event_has_an_answer()
+    ensures { EventsHaveAnswers }
+{}
+
+/// From each valid state each list of events has a run.
+pub fn each_list_of_events_has_a_run()
+    ensures { EventsHaveARun }
+{}
+
+/// Two runs, the second from where the first ends, are one.
+pub fn runs_join()
+    ensures { RunsJoin }
+{}
+
+/// A run from a valid state ends in a valid one.
+pub fn every_run_keeps_the_state_valid()
+    ensures { RunsKeepStatesValid }
+{}
+
+/// In every run from a valid state no tick writes more than the budget, and wherever only ticks happen for a
+/// while, n of them leave at most the dirty pixels less n times the spare; with none dirty the screen is the
+/// picture.
+pub fn every_run_keeps_the_laws()
+    ensures { RunsKeepTheLaws }
+{}

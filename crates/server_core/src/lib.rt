@@ -2,12 +2,11 @@
 //! of it, at most a budget of pixels. Each call is one step of the machine of desk_model.
 #![tactic(auto)]
 
+pub mod laws;
 mod no_memory;
 mod painting;
 mod server;
 mod sweeping;
-
-pub mod laws;
 
 pub use desk_model::{Drew, Shape};
 pub use no_memory::NoMemory;

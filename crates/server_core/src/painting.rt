@@ -1,7 +1,7 @@
 //! The colour of a pixel, worked out from the list of windows.
 
 ghost use Rattle.std.specs.Prelude.{◌≡◌};
-ghost use Rattle.desk_model.specs.Windows.{shows, top_at, local};
+ghost use Rattle.desk_model.specs.Windows.{is_within, shows, top_at};
 ghost use Rattle.desk_model.specs.Picture.{window_look, colour_through};
 
 use desk_model::Window;
@@ -52,8 +52,6 @@ fn top_window(windows: &[Window], x: u32, y: u32) -> Option<Window>
     }
     None
 }
-
-ghost use Rattle.desk_model.specs.Windows.{is_within};
 
 // Whether `n` is one of the `len` numbers from `from` on.
 fn is_within(from: i32, len: u32, n: u32) -> bool

@@ -101,7 +101,12 @@ impl Server {
         self.canvas.start_count();
         let bands = draw_bands();
         let room = self.shape.budget - bands;
-        let queue = sweep(&mut self.canvas, &mut self.dirt, self.window.as_slice(), room);
+        let queue = sweep(
+            &mut self.canvas,
+            &mut self.dirt,
+            self.window.as_slice(),
+            room,
+        );
         self.dirty -= queue;
         Drew {
             bands,

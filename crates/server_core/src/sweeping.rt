@@ -1,6 +1,6 @@
 //! What calls do to the dirt map: a sweep cleans, and marking makes dirty.
 
-ghost use Rattle.std.specs.Prelude.{◌≡◌, ◌+◌, ◌*◌, ◌^◌, ◌<◌, ◌≤◌, false, length, slice_set};
+ghost use Rattle.std.specs.Prelude.{◌≡◌, ◌+◌, ◌^◌, ◌<◌, ◌≤◌, false, length, slice_set};
 ghost use Rattle.canvas_core.specs.Screen.{IsScreen};
 ghost use Rattle.desk_model.specs.State.{count_true};
 ghost use Rattle.server_core.specs.Sweeping.{colour_under, SweptTo, MarkedTo};

@@ -26,25 +26,34 @@ fn a_new_server_is_clean_and_has_the_desks_colour(rt: HostRuntime) -> Result<(),
 }
 
 #[test]
+#[tactic(auto, unfolding(desk_model::specs::State::opening, desk_model::specs::Desk::opening_desk))]
 fn a_window_is_drawn_in_slices(rt: HostRuntime) -> Result<(), Fail> {
-    let mut server = Server::new(rt.alloc(), Shape {
-        width: 32,
-        height: 32,
-        budget: 100,
-        spare: 10,
-    })?;
+    let mut server = Server::new(
+        rt.alloc(),
+        Shape {
+            width: 32,
+            height: 32,
+            budget: 100,
+            spare: 10,
+        },
+    )?;
     server.show(20, 20);
     assert_eq!(rt; server.dirty(), 400);
     assert_eq!(rt; server.tick(), drew(100, 300));
-    assert_eq!(rt; server.picture().iter().filter(|byte| **byte != 2).count(), 100);
+    assert_eq!(rt;
+        server.picture().iter().filter(|byte| **byte != 2).count(),
+        100
+    );
     assert_eq!(rt; server.tick(), drew(100, 200));
     assert_eq!(rt; server.tick(), drew(100, 100));
     assert_eq!(rt; server.tick(), drew(100, 0));
     assert_eq!(rt; server.dirty(), 0);
-    let pixel = |x: usize, y: usize| server.picture()[y * 32 + x];
-    assert_eq!(rt; pixel(0, 0), 4);
-    assert_eq!(rt; pixel(1, 1), 5);
-    assert_eq!(rt; pixel(1, 12), 3);
-    assert_eq!(rt; pixel(20, 20), 2);
+    for (x, y, byte) in [(0, 0, 4), (1, 1, 5), (1, 12, 3), (20, 20, 2)] {
+        assert_eq!(rt;
+            server.picture().get(y * 32 + x).copied(),
+            Some(byte),
+            "at {x} {y}"
+        );
+    }
     Ok(())
 }

@@ -6,4 +6,4 @@ pub returns-clause-byte : goal.returns-clause-byte
 returns-clause-byte c =
     let canvas = c.args.canvas.now in
     byte_of_pixel canvas.bytes c.put_row.new.self.bytes c.width-width.result canvas.width c.args.k c.colour_at.result c.args.windows.now
-      c.width-width.ensures.width (omega arith) c.put_row.ensures.bytes c.colour_at.ensures
+    c.width-width.ensures.width (omega arith) c.put_row.ensures.bytes c.colour_at.ensures

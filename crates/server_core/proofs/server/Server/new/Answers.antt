@@ -1,5 +1,4 @@
-use Rattle.std.proofs.Common.{◌≡◌, sym, ap, ◌∙◌, None, replicate, false, rules}
-use Rattle.desk_model.specs.Desk.{area}
+use Rattle.std.proofs.Common.{sym, ap, ◌∙◌, None}
 use Rattle.desk_model.specs.State.{dirty_count}
 use Rattle.desk_model.proofs.Opening.{IsState-opening, dirty_count-opening}
 use Rattle.desk_model.proofs.Steps.{IsState-same}
@@ -19,7 +18,7 @@ invariant_of-result c =
       screen = c.in-Ok.ensures.valid;
       width = c.in-Ok.ensures.width;
       height = c.in-Ok.ensures.height;
-      count = sym (ap dirty_count is ∙ dirty_count-opening shape)
+      count = sym (ap dirty_count is ∙ dirty_count-opening shape);
     }
 
 pub returns-in-Ok-from_elem-clause-opens : goal.returns-in-Ok-from_elem-clause-opens

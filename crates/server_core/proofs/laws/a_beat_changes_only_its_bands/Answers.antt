@@ -1,0 +1,5 @@
+use Rattle.desk_model.proofs.Beat.{colour-beat}
+use Rattle.server_core.proofs.laws.a_beat_changes_only_its_bands.Goals as goal
+
+pub returns : goal.returns
+returns c = colour-beat

@@ -1,0 +1,5 @@
+use Rattle.desk_model.proofs.Progress.{some_run}
+use Rattle.server_core.proofs.laws.each_list_of_events_has_a_run.Goals as goal
+
+pub returns : goal.returns
+returns c = some_run

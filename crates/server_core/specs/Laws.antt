@@ -1,0 +1,75 @@
+-- The laws of the machine, each a statement over its definitions alone.
+use Rattle.std.specs.Prelude.{◌≡◌, ◌≢◌, ℕ, false, List, ◌++◌}
+use Rattle.desk_model.specs.declared.drew.Drew.{Drew}
+use Rattle.desk_model.specs.declared.shape.Shape.{Shape}
+use Rattle.desk_model.specs.Desk.{Desk, IsShape}
+use Rattle.desk_model.specs.Picture.{colour, picture}
+use Rattle.desk_model.specs.Reach.{in_reach}
+use Rattle.desk_model.specs.Beat.{beat, in_band}
+use Rattle.desk_model.specs.State.{State, IsState, opening, dirty_count}
+use Rattle.desk_model.specs.Events.{Event, Answer}
+use Rattle.desk_model.specs.Events.Event.{Tick}
+use Rattle.desk_model.specs.Events.Answer.{Drawn}
+use Rattle.desk_model.specs.Step.{Step}
+use Rattle.desk_model.specs.Chosen.{lost_marks, TickedWith}
+use Rattle.desk_model.specs.Run.{Moment, Run, state_after, events_of}
+use Rattle.desk_model.specs.Laws.{KeepsLaws}
+
+-- Between any two desks no pixel outside the reach has another colour.
+abbrev pub ColoursAgreeOutsideTheReach : Type 0
+ColoursAgreeOutsideTheReach =
+    (before after : Desk) (x y : ℕ) → in_reach before after x y ≡ false → colour before x y ≡ colour after x y
+
+-- A beat changes colours only in the bands that it copies.
+abbrev pub BeatsChangeOnlyTheirBands : Type 0
+BeatsChangeOnlyTheirBands =
+    (desk : Desk) (x y : ℕ) → in_band (beat desk) x y ≡ false → colour desk x y ≡ colour (beat desk) x y
+
+-- The state at opening is valid.
+abbrev pub OpeningIsValid : Type 0
+OpeningIsValid = (shape : Shape) → IsShape shape → IsState (opening shape)
+
+-- A step from a valid state leads to a valid one: each pixel stays dirty or right.
+abbrev pub StepsKeepStatesValid : Type 0
+StepsKeepStatesValid =
+    (old : State) (event : Event) (answer : Answer) (new : State) → IsState old → Step old event answer new → IsState new
+
+-- Only a tick draws: any other event leaves the screen as it was.
+abbrev pub OnlyTicksDraw : Type 0
+OnlyTicksDraw =
+    (old : State) (event : Event) (answer : Answer) (new : State) → Step old event answer new → event ≢ Tick → new.screen ≡ old.screen
+
+-- What a tick cleaned is a set of dirty pixels, as many as there is room for, and it drew them and the bands alone.
+abbrev pub TicksCleanAChosenSet : Type 0
+TicksCleanAChosenSet =
+    (old : State) (drew : Drew) (new : State) → IsState old → Step old Tick (Drawn drew) new → TickedWith (lost_marks old.dirt new.dirt) old drew new
+
+-- Where nothing is dirty the screen is the desk drawn afresh.
+abbrev pub CleanStatesShowThePicture : Type 0
+CleanStatesShowThePicture =
+    (state : State) → IsState state → dirty_count state ≡ 0 → state.screen ≡ picture state.desk
+
+-- From each valid state each event has an answer and a state after it.
+abbrev pub EventsHaveAnswers : Type 0
+EventsHaveAnswers =
+    (old : State) (event : Event) → IsState old → (answer : Answer) × (new : State) × Step old event answer new
+
+-- From each valid state each list of events has a run.
+abbrev pub EventsHaveARun : Type 0
+EventsHaveARun =
+    (from : State) (events : List Event) → IsState from → (moments : List Moment) × (events_of moments ≡ events) × Run from moments
+
+-- Two runs, the second from where the first ends, are one.
+abbrev pub RunsJoin : Type 0
+RunsJoin =
+    (from : State) (first second : List Moment) → Run from first → Run (state_after from first) second → Run from (first ++ second) × (state_after from (first ++ second) ≡ state_after (state_after from first) second)
+
+-- A run from a valid state ends in a valid one.
+abbrev pub RunsKeepStatesValid : Type 0
+RunsKeepStatesValid =
+    (from : State) (moments : List Moment) → IsState from → Run from moments → IsState (state_after from moments)
+
+-- Every run from a valid state keeps the laws: no tick writes more than the budget, and the screen comes right
+-- while nothing but ticks happens.
+abbrev pub RunsKeepTheLaws : Type 0
+RunsKeepTheLaws = (from : State) (moments : List Moment) → IsState from → Run from moments → KeepsLaws from moments
