@@ -19,3 +19,6 @@ pub use sink::{Sink, write_all};
 pub use source::Source;
 pub use std_in::StdIn;
 pub use std_out::StdOut;
+
+#[cfg(test)]
+mod tests;
