@@ -1,0 +1,4 @@
+pub mod Picture
+pub mod Band
+pub mod FilmState
+pub mod Changes
