@@ -128,6 +128,7 @@ impl Film {
         requires { y < self.now.height }
         ensures row { result.now ≡ row_of self.now.width self.now.shown y }
         ensures length { length result.now ≡ self.now.width }
+        ensures valid { IsFilm self.now }
     {
         let from = area(self.width, y);
         let to = from + self.width as usize;

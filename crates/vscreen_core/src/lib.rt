@@ -3,10 +3,11 @@
 
 mod band;
 mod film;
-mod no_memory;
-mod wrong_size;
-
 pub mod laws;
+mod no_memory;
+#[cfg(test)]
+mod tests;
+mod wrong_size;
 
 pub use band::{Band, share};
 pub use film::Film;
