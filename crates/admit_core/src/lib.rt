@@ -1,13 +1,10 @@
-// A library with one function.
+//! Admission: whose shares of the drawing time are promised, never more than the limit in all.
 #![tactic(auto)]
 
-ghost use Rattle.std.specs.Prelude.{◌≡◌};
-ghost use Rattle.admit_core.specs.Echo.{echo_of};
+mod over_budget;
+mod roster;
+#[cfg(test)]
+mod tests;
 
-// The `ensures` clause is the contract: what `echo` returns is `echo_of` of its argument, a definition
-// in `specs/Echo.antt`, which a caller's clause can cite too.
-pub fn echo(x: usize) -> usize
-    ensures { result ≡ echo_of x }
-{
-    x
-}
+pub use over_budget::OverBudget;
+pub use roster::Roster;
