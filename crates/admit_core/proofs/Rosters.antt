@@ -1,8 +1,6 @@
 -- Facts on rosters: what taking a key out leaves, and that each change keeps what holds of every roster.
-use Rattle.std.proofs.Common.{suc, ◌≡◌, ◌≢◌, ℕ, ◌+◌, ◌<◌, ◌≤◌, Bool, true, false, not, ◌||◌, ◌==◌, nat_lt, nat_le, inl, inr, cond, List, [], ◌∷◌, ◌++◌, length, get_or, filter, AllPairs, refl, sym, ap, ◌∙◌, arith}
-use Rattle.std.specs.List.{list_any, sum_by}
-use Rattle.std.proofs.lemmas.Bool.{or_parts, or_from, or_cases, ltb-true, leb-true, eqb-true, eqb-false, ne_eqb, false≢true, not-true, not-false, not_from_false, cond_both, cond-true}
-use Rattle.std.proofs.lemmas.Bool.Decides.{nat_tests}
+use Rattle.std.proofs.Common.{suc, ◌≡◌, ◌≢◌, ℕ, ◌+◌, ◌<◌, ◌≤◌, Bool, true, false, not, ◌||◌, ◌==◌, nat_le, inl, inr, List, [], ◌∷◌, ◌++◌, length, get_or, AllPairs, refl, sym, ap, ◌∙◌, arith}
+use Rattle.std.proofs.lemmas.Bool.{or_parts, or_from, cases_Bool, leb-true, eqb-true, eqb-false, ne_eqb, false≢true, not-true, not-false, not_from_false, cond_both, cond-true}
 use Rattle.std.proofs.lemmas.List.{length_push}
 use Rattle.std.proofs.lemmas.List.Elements.{All-get_or, filter_passes}
 use Rattle.std.proofs.lemmas.List.Filters.{sum_by-filter_both}
@@ -66,11 +64,11 @@ has_key_other-others other key (e ∷ es) differ =
     (λ goes. let same : e.0 ≡ key = eqb-true e.0 key (not-false (e.0 == key) goes) in rest ∙ sym (ap (λ b. b || has_key other es) (ne_eqb e.0 other (λ h. differ (sym h ∙ same)))))
 
 -- where a key may be admitted there is room for it
-pub room_for : (key : ℕ) (entries : List (ℕ × ℕ)) → (has_key key entries || nat_lt (length entries) 128) ≡ true → length entries ≤ 128 → length (others key entries) < 128
+pub room_for : (key : ℕ) (entries : List (ℕ × ℕ)) → (has_key key entries ≡ false → length entries < 128) → length entries ≤ 128 → length (others key entries) < 128
 room_for key entries may few =
-    elim (or_cases (has_key key entries) (nat_lt (length entries) 128) may) [
+    elim (cases_Bool (has_key key entries)) [
       | inl there ↦ omega (arith, length-others-lt key entries there)
-      | inr short ↦ omega (arith, length-others-le key entries, ltb-true (length entries) 128 short)
+      | inr absent ↦ omega (arith, length-others-le key entries, may absent)
     ]
 
 -- none of the others has the key
@@ -104,7 +102,7 @@ IsRoster-last roster key share r room within = record {
   within_limit = omega (arith, total_push (others key roster.entries) key share);
 }
 
-pub IsRoster-admitted : (roster : RosterState) (key share : ℕ) → IsRoster roster → (has_key key roster.entries || nat_lt (length roster.entries) 128) ≡ true → IsRoster (admitted roster key share)
+pub IsRoster-admitted : (roster : RosterState) (key share : ℕ) → IsRoster roster → (has_key key roster.entries ≡ false → length roster.entries < 128) → IsRoster (admitted roster key share)
 unfolding admitted fits
 IsRoster-admitted roster key share r may =
     cond_both (nat_le (total (others key roster.entries) + share) roster.limit) (record roster { entries = others key roster.entries ++ (key, share) ∷ [] }) roster IsRoster

@@ -1,6 +1,6 @@
 -- Admission: a share is refused exactly where it passes the limit together with the shares of all other keys.
 -- What the key itself had before isn't counted.
-use Rattle.std.specs.Prelude.{ℕ, ◌+◌, ◌-◌, Bool, nat_le, if◌then◌else◌, List, [], ◌∷◌, ◌++◌, Result, Ok, Err}
+use Rattle.std.specs.Prelude.{ℕ, ◌+◌, ◌-◌, Bool, nat_le, if◌then◌else◌, [], ◌∷◌, ◌++◌, Result, Ok, Err}
 use Rattle.admit_core.specs.declared.over_budget.OverBudget.{OverBudget}
 use Rattle.admit_core.specs.Roster.{RosterState, others, total}
 

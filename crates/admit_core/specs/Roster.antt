@@ -1,5 +1,5 @@
 -- A roster: who is admitted, in order of admission, each a key with its share, and the limit of the shares in all.
-use Rattle.std.specs.Prelude.{◌≡◌, ◌≢◌, ℕ, ◌≤◌, Bool, ◌==◌, not, List, [], length, filter, AllPairs}
+use Rattle.std.specs.Prelude.{◌≢◌, ℕ, ◌≤◌, Bool, ◌==◌, not, List, [], length, filter, AllPairs}
 use Rattle.std.specs.List.{list_any, sum_by}
 
 pub record RosterState : Type 0 where

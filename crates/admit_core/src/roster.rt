@@ -1,4 +1,4 @@
-ghost use Rattle.std.specs.Prelude.{◌≡◌, ◌+◌, ◌<◌, ◌≤◌, ◌||◌, ℕ, length, IsTrue, nat_lt, slice_get};
+ghost use Rattle.std.specs.Prelude.{◌≡◌, ◌+◌, ◌<◌, ◌≤◌, false, length, slice_get};
 ghost use Rattle.admit_core.specs.Roster.{IsRoster, empty_roster, has_key, others, total};
 ghost use Rattle.admit_core.specs.Admission.{admitted, admit_answer, dismissed};
 
@@ -40,12 +40,12 @@ impl Roster {
         }
     }
 
-    /// Admits this key with this share, as the last one; an entry that it had is left out. The key is there, or the
-    /// roster has fewer than 128 entries. `OverBudget` with both numbers, and nothing changed, exactly where the
+    /// Admits this key with this share, as the last one; an entry that it had is left out. A key that isn't there
+    /// needs fewer than 128 entries. `OverBudget` with both numbers, and nothing changed, exactly where the
     /// shares of the others and this one pass the limit.
     #[tactic(auto, unfolding(crate::specs::Admission::admitted, crate::specs::Admission::admit_answer, crate::specs::Admission::fits, crate::specs::Admission::left_for))]
     pub fn admit(&mut self, key: u32, share: u32) -> Result<(), OverBudget>
-        requires { IsTrue (has_key key self.old.entries || nat_lt (length self.old.entries) 128) }
+        requires { has_key key self.old.entries ≡ false → length self.old.entries < 128 }
         ensures roster { self.new ≡ admitted self.old key share }
         ensures answer { result ≡ admit_answer self.old key share }
         ensures valid { IsRoster self.new }

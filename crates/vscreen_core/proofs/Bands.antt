@@ -1,8 +1,8 @@
 -- Facts on bands: they stand in order, one ends where the next begins, and together they have all rows.
-use Rattle.std.proofs.Common.{◌≡◌, ℕ, ◌+◌, ◌-◌, ◌*◌, ◌/◌, ◌%◌, ◌<◌, ◌≤◌, min, refl, sym, ap, ◌∙◌, arith}
+use Rattle.std.proofs.Common.{◌≡◌, ℕ, ◌+◌, ◌*◌, ◌<◌, ◌≤◌, arith}
 use Rattle.std.proofs.lemmas.Grind.{div_ceil_times}
 use Rattle.std.proofs.Math.Nat.{mul-le-mul_right, mul_comm}
-use Rattle.vscreen_core.specs.Band.{band_height, band_start, band_at, share_of}
+use Rattle.vscreen_core.specs.Band.{band_height, band_start, band_at}
 
 -- the bands of a whole period have all rows
 pub all_rows : (h p : ℕ) → 0 < p → h ≤ p * band_height h p

@@ -1,11 +1,10 @@
 -- The laws of a period: which row is drawn when, and from which frame.
-use Rattle.std.proofs.Common.{◌≡◌, ℕ, ◌+◌, ◌-◌, ◌*◌, ◌/◌, ◌%◌, ◌<◌, ◌≤◌, Bool, true, false, ◌&&◌, nat_le, nat_lt, nat_eq, cond, List, [], ◌∷◌, length, take, count_by, min, refl, sym, ap, ◌∙◌, subst, ◌⊎◌, arith}
+use Rattle.std.proofs.Common.{◌≡◌, ℕ, ◌+◌, ◌*◌, ◌%◌, ◌<◌, ◌≤◌, Bool, ◌&&◌, nat_le, nat_lt, nat_eq, cond, List, [], ◌∷◌, length, take, min, refl, sym, ap, ◌∙◌, subst, ◌⊎◌, arith}
 use Rattle.std.proofs.lemmas.Bool.{cond_both}
 use Rattle.std.proofs.lemmas.Bool.Decides.{nat_tests}
 use Rattle.std.proofs.lemmas.List.Sums.{sum_by-cons}
-use Rattle.std.proofs.lemmas.List.{take_all, take-take}
-use Rattle.std.proofs.Math.Nat.{mod-eq_of_lt, mod_self, mul-le-mul_right}
-use Rattle.vscreen_core.specs.declared.band.Band.{Band}
+use Rattle.std.proofs.lemmas.List.{take_all}
+use Rattle.std.proofs.Math.Nat.{mod-eq_of_lt, mul-le-mul_right}
 use Rattle.vscreen_core.specs.Band.{band_height, band_start, band_at, has_row, share_of}
 use Rattle.vscreen_core.specs.Changes.{committed, beaten, band_now, frame_now, frame_size}
 use Rattle.vscreen_core.specs.FilmState.{FilmState, IsFilm}
@@ -117,12 +116,16 @@ IsDrawn-first film starts =
     let none : band_start film.height film.period 0 * film.width ≡ 0 = ap (λ x. x * film.width) (band_start-zero film.height film.period) ∙ omega arith in
     drawn_more film film.newest 0 starts.valid (ap (λ x. cond (nat_eq x 0) film.newest film.current) starts.start) starts.start (ap (λ n. take n film.shown) none ∙ sym (ap (λ n. take n film.newest) none))
 
-pub IsDrawn-beaten : (film : FilmState) (frame : List ℕ) (k : ℕ) → IsFilm film → IsDrawn frame k film → 0 < k → k < film.period → IsDrawn frame (k + 1) (beaten film)
+-- every later beat of the period draws from the same frame
+pub frame_now-IsDrawn : (film : FilmState) (frame : List ℕ) (k : ℕ) → IsDrawn frame k film → 0 < k → k < film.period → frame_now film ≡ frame
 unfolding frame_now
-IsDrawn-beaten film frame k f drawn some early =
+frame_now-IsDrawn film frame k drawn some early =
     let here : film.phase ≡ k = drawn.phase ∙ mod-eq_of_lt early in
-    let now : cond (nat_eq film.phase 0) film.newest film.current ≡ frame = grind (arith, nat_tests, drawn.current, here) in
-    drawn_more film frame k f now here drawn.drawn
+    grind (arith, nat_tests, drawn.current)
+
+pub IsDrawn-beaten : (film : FilmState) (frame : List ℕ) (k : ℕ) → IsFilm film → IsDrawn frame k film → 0 < k → k < film.period → IsDrawn frame (k + 1) (beaten film)
+IsDrawn-beaten film frame k f drawn some early =
+    drawn_more film frame k f (frame_now-IsDrawn film frame k drawn some early) (drawn.phase ∙ mod-eq_of_lt early) drawn.drawn
 
 pub IsDrawn-committed : (film : FilmState) (frame next : List ℕ) (k : ℕ) → IsDrawn frame k film → IsDrawn frame k (committed film next)
 unfolding committed

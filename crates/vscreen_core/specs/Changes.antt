@@ -1,6 +1,6 @@
 -- What each call makes of a film. A frame goes to `newest`; the first beat of a period takes it to `current`;
 -- each beat takes its band from there to `shown`.
-use Rattle.std.specs.Prelude.{ℕ, ◌+◌, ◌*◌, ◌%◌, List, length, Bool, ◌==◌, if◌then◌else◌, Result, Ok, Err}
+use Rattle.std.specs.Prelude.{ℕ, ◌+◌, ◌*◌, ◌%◌, List, length, ◌==◌, if◌then◌else◌, Result, Ok, Err}
 use Rattle.vscreen_core.specs.declared.band.Band.{Band}
 use Rattle.vscreen_core.specs.declared.wrong_size.WrongSize.{WrongSize}
 use Rattle.vscreen_core.specs.Band.{band_at}

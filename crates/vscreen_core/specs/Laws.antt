@@ -1,6 +1,6 @@
 -- What films promise over a period, whatever frames are committed between its beats. The film is one that
 -- stands at phase 0, before the period's first beat.
-use Rattle.std.specs.Prelude.{◌≡◌, ℕ, ◌+◌, ◌-◌, ◌*◌, ◌<◌, ◌≤◌, List, ◌∷◌, if◌then◌else◌, count_by}
+use Rattle.std.specs.Prelude.{◌≡◌, ℕ, ◌-◌, ◌*◌, ◌<◌, ◌≤◌, List, ◌∷◌, if◌then◌else◌, count_by}
 use Rattle.vscreen_core.specs.Band.{has_row, share_of}
 use Rattle.vscreen_core.specs.Changes.{beaten, band_now, frame_now}
 use Rattle.vscreen_core.specs.FilmState.{FilmState, IsFilm}

@@ -1,6 +1,4 @@
 use Rattle.std.proofs.Common.{arith, lit<}
-use Rattle.std.proofs.lemmas.Bool.Decides.{nat_tests}
-use Rattle.admit_core.specs.Admission.{admitted, admit_answer, fits, left_for}
 use Rattle.admit_core.proofs.Rosters.{room_for, IsRoster-last}
 use Rattle.admit_core.proofs.roster.Roster.admit.Goals as goal
 
