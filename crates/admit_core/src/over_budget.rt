@@ -1,3 +1,6 @@
+ghost use Rattle.std.specs.Prelude.{Some, codes, ◌++◌};
+ghost use Rattle.std.specs.Fmt.{decimal};
+
 use std::error::Error;
 use std::fmt;
 
@@ -11,10 +14,12 @@ pub struct OverBudget {
 }
 
 impl fmt::Display for OverBudget {
+    ghost output = { λ e. Some (decimal e.need ++ codes " wanted and " ++ decimal e.left ++ codes " left") };
+
     fn fmt<W: fmt::Write>(&self, f: &mut fmt::Formatter<W>) -> fmt::Result {
         let need = self.need;
         let left = self.left;
-        write!(f, "{need} pixels were asked for and {left} are left")
+        write!(f, "{need} wanted and {left} left")
     }
 }
 

@@ -1,3 +1,6 @@
+ghost use Rattle.std.specs.Prelude.{Some, codes, ◌++◌};
+ghost use Rattle.std.specs.Fmt.{decimal};
+
 use std::error::Error;
 use std::fmt;
 
@@ -11,10 +14,12 @@ pub struct WrongSize {
 }
 
 impl fmt::Display for WrongSize {
+    ghost output = { λ e. Some (decimal e.want ++ codes " bytes wanted and " ++ decimal e.got ++ codes " came") };
+
     fn fmt<W: fmt::Write>(&self, f: &mut fmt::Formatter<W>) -> fmt::Result {
         let want = self.want;
         let got = self.got;
-        write!(f, "{want} bytes were wanted and {got} came")
+        write!(f, "{want} bytes wanted and {got} came")
     }
 }
 
