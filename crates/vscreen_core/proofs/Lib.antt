@@ -1,0 +1,4 @@
+pub mod Pictures
+pub mod Bands
+pub mod Films
+pub mod Periods
