@@ -1,2 +1,4 @@
 pub mod SpanLemmas
 pub mod RectLemmas
+pub mod SplitLemmas
+pub mod PieceLemmas

@@ -1,3 +1,4 @@
 pub mod Rect
 pub mod Pieces
+pub mod Splits
 pub mod Count

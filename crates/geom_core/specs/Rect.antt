@@ -45,3 +45,10 @@ IsInside inner outer = (x y : ℤ) → in_rect inner x y ≡ true → in_rect ou
 -- no pixel is in both
 abbrev pub IsApart : Rect → Rect → Type 0
 IsApart a b = (x y : ℤ) → (in_rect a x y && in_rect b x y) ≡ false
+
+-- the inner rectangle's sides are within the outer one's
+pub record IsEnclosed (inner outer : Rect) : Type 0 where
+  pub left : outer.x ≤ℤ inner.x
+  pub right : (inner.x +ℤ pos inner.w) ≤ℤ (outer.x +ℤ pos outer.w)
+  pub upper : outer.y ≤ℤ inner.y
+  pub lower : (inner.y +ℤ pos inner.h) ≤ℤ (outer.y +ℤ pos outer.h)

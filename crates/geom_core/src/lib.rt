@@ -2,7 +2,10 @@
 //! of a given number of pixels. A contract sees a rectangle as the set of its pixels.
 #![tactic(auto)]
 
+mod cuts;
 mod rectangle;
 mod spans;
+mod splits;
 
+pub use cuts::cut;
 pub use rectangle::{Rect, area, holds, meet};
