@@ -1,10 +1,10 @@
 -- Lists of rectangles: what one more part does to the pixels covered, the areas and the disjointness.
-use Rattle.std.proofs.Common.{◌≡◌, ℕ, ◌+◌, ◌*◌, ◌<◌, ◌≤◌, ℤ, Bool, true, false, not, cond, eqb, ◌&&◌, ◌||◌, List, [], ◌∷◌, ◌++◌, length, ◌⊎◌, inl, inr, refl, sym, ap, ◌∙◌, arith, length-append}
+use Rattle.std.proofs.Common.{◌≡◌, ℕ, ◌+◌, ◌-◌, ◌*◌, min, ◌<◌, ◌≤◌, ℤ, Bool, true, false, not, cond, eqb, ◌&&◌, ◌||◌, List, [], ◌∷◌, ◌++◌, length, ◌⊎◌, inl, inr, refl, sym, ap, ◌∙◌, arith, length-append}
 use Rattle.std.proofs.lemmas.Bool.{cond_both, eqb-true, eqb-false}
 use Rattle.geom_core.specs.declared.rectangle.Rect.{Rect}
 use Rattle.geom_core.specs.Rect.{in_span, in_rect, area_of, IsInRange}
 use Rattle.geom_core.specs.Pieces.{covers, total_area, AreDisjoint, HavePixels, AreInRange}
-use Rattle.geom_core.specs.Splits.{with_part, IsSplit, IsCut}
+use Rattle.geom_core.specs.Splits.{with_part, IsSplit, IsCut, IsFront}
 use Rattle.geom_core.proofs.RectLemmas.{in_rect-empty}
 
 -- joined lists cover the pixels of both
@@ -36,6 +36,9 @@ AreDisjoint-append (r ∷ rs) ss h k apart =
 by_part : (P : List Rect → Type 0) (rs : List Rect) (r : Rect) → (area_of r ≡ 0 → P rs) → (0 < area_of r → P (rs ++ r ∷ [])) → P (with_part rs r)
 unfolding with_part
 by_part P rs r none some = cond_both (eqb (area_of r) 0) rs (rs ++ r ∷ []) P (λ e. none (eqb-true (area_of r) 0 e)) (λ e. some (let d = eqb-false (area_of r) 0 e in grind arith))
+
+pub with_part-some : (rs : List Rect) (r : Rect) → 0 < area_of r → with_part rs r ≡ rs ++ r ∷ []
+with_part-some rs r some = by_part (λ (ss : List Rect). ss ≡ rs ++ r ∷ []) rs r (λ e. absurd (omega arith)) (λ h. refl)
 
 pub covers-with_part : (rs : List Rect) (r : Rect) (x y : ℤ) → covers (with_part rs r) x y ≡ (covers rs x y || in_rect r x y)
 covers-with_part rs r x y = by_part (λ (ss : List Rect). covers ss x y ≡ (covers rs x y || in_rect r x y)) rs r
@@ -108,3 +111,61 @@ IsCut-from_empty a hole near none = record {
 -- what is outside the hole is what is outside b, where the hole is what a and b share
 pub outside_bits : (a b hole : Bool) → hole ≡ (a && b) → (a && not hole) ≡ (a && not b)
 outside_bits a b hole e = grind arith
+
+front_bits : (a u o m b l r : Bool) → a ≡ (u || o) → o ≡ (m || b) → m ≡ (l || r) → ((u || l) || (r || b)) ≡ a
+front_bits a u o m b l r e0 e1 e2 = grind arith
+
+drawn_bits : (u o m b l r : Bool) → (u && o) ≡ false → o ≡ (m || b) → m ≡ (l || r) → (u && l) ≡ false
+drawn_bits u o m b l r e0 e1 e2 = grind arith
+
+rest_bits : (m b l r : Bool) → (m && b) ≡ false → m ≡ (l || r) → (r && b) ≡ false
+rest_bits m b l r e0 e1 = grind arith
+
+apart_bits : (u o m b l r : Bool) → (u && o) ≡ false → o ≡ (m || b) → (m && b) ≡ false → m ≡ (l || r) → (l && r) ≡ false → ((u || l) && (r || b)) ≡ false
+apart_bits u o m b l r e0 e1 e2 e3 e4 = grind arith
+
+-- what three splits leave: the upper rows and the left of the next line, and the right of that line and the lower rows
+pub IsFront-from_splits : (a upper others line lower left right : Rect) (n : ℕ) → IsSplit a upper others → IsSplit others line lower → IsSplit line left right → area_of upper + area_of left ≡ n → IsFront a n (with_part (with_part [] upper) left) (with_part (with_part [] right) lower)
+IsFront-from_splits a upper others line lower left right n one two three drawn_n =
+    let d1 = with_part [] upper in
+    let r1 = with_part [] right in
+    let drawn = with_part d1 left in
+    let rest = with_part r1 lower in
+    let cd1 = λ (x y : ℤ). covers-with_part [] upper x y in
+    let cr1 = λ (x y : ℤ). covers-with_part [] right x y in
+    let cd = λ (x y : ℤ). covers-with_part d1 left x y ∙ ap (λ t. t || in_rect left x y) (cd1 x y) in
+    let cr = λ (x y : ℤ). covers-with_part r1 lower x y ∙ ap (λ t. t || in_rect lower x y) (cr1 x y) in
+    let areas_d = total_area-with_part d1 left in
+    let areas_d1 = total_area-with_part [] upper in
+    let areas_r = total_area-with_part r1 lower in
+    let areas_r1 = total_area-with_part [] right in
+    record {
+        pixels = λ x y. covers-append drawn rest x y ∙ ap (λ t. t || covers rest x y) (cd x y) ∙ ap (λ t. (in_rect upper x y || in_rect left x y) || t) (cr x y)
+            ∙ front_bits (in_rect a x y) (in_rect upper x y) (in_rect others x y) (in_rect line x y) (in_rect lower x y) (in_rect left x y) (in_rect right x y) (one.pixels x y) (two.pixels x y) (three.pixels x y);
+        disjoint = AreDisjoint-append drawn rest
+            (AreDisjoint-with_part d1 left (AreDisjoint-with_part [] upper tt (λ x y. refl))
+                (λ x y. ap (λ t. t && in_rect left x y) (cd1 x y) ∙ drawn_bits (in_rect upper x y) (in_rect others x y) (in_rect line x y) (in_rect lower x y) (in_rect left x y) (in_rect right x y) (one.apart x y) (two.pixels x y) (three.pixels x y)))
+            (AreDisjoint-with_part r1 lower (AreDisjoint-with_part [] right tt (λ x y. refl))
+                (λ x y. ap (λ t. t && in_rect lower x y) (cr1 x y) ∙ rest_bits (in_rect line x y) (in_rect lower x y) (in_rect left x y) (in_rect right x y) (two.apart x y) (three.pixels x y)))
+            (λ x y. ap (λ t. t && covers rest x y) (cd x y) ∙ ap (λ t. (in_rect upper x y || in_rect left x y) && t) (cr x y)
+                ∙ apart_bits (in_rect upper x y) (in_rect others x y) (in_rect line x y) (in_rect lower x y) (in_rect left x y) (in_rect right x y) (one.apart x y) (two.pixels x y) (two.apart x y) (three.pixels x y) (three.apart x y));
+        filled = HavePixels-append drawn rest (HavePixels-with_part d1 left (HavePixels-with_part [] upper tt)) (HavePixels-with_part r1 lower (HavePixels-with_part [] right tt));
+        in_range = AreInRange-append drawn rest (AreInRange-with_part d1 left (AreInRange-with_part [] upper tt one.first_in_range) three.first_in_range) (AreInRange-with_part r1 lower (AreInRange-with_part [] right tt three.second_in_range) two.second_in_range);
+        drawn_area = omega (arith, areas_d, areas_d1, one.areas, two.areas, three.areas, drawn_n);
+        rest_area = omega (arith, areas_r, areas_r1, one.areas, two.areas, three.areas, drawn_n)
+    }
+
+or_none : (t : Bool) → (t || false) ≡ t
+or_none true = refl
+or_none false = refl
+
+-- all of the whole is drawn
+pub IsFront-whole : (a : Rect) (n : ℕ) → IsInRange a → area_of a ≤ n → IsFront a n (with_part [] a) []
+IsFront-whole a n near all = record {
+    pixels = λ x y. covers-append (with_part [] a) [] x y ∙ ap (λ t. t || false) (covers-with_part [] a x y) ∙ or_none (in_rect a x y);
+    disjoint = AreDisjoint-append (with_part [] a) [] (AreDisjoint-with_part [] a tt (λ x y. refl)) tt (λ x y. let p = covers (with_part [] a) x y in grind arith);
+    filled = HavePixels-append (with_part [] a) [] (HavePixels-with_part [] a tt) tt;
+    in_range = AreInRange-append (with_part [] a) [] (AreInRange-with_part [] a tt near) tt;
+    drawn_area = omega (arith, total_area-with_part [] a);
+    rest_area = omega arith
+}

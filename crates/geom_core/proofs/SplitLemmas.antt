@@ -1,5 +1,6 @@
 -- A rectangle split along a row or a column is two parts that are disjoint and have its pixels.
-use Rattle.std.proofs.Common.{◌≡◌, ℕ, ◌+◌, ◌-◌, ◌*◌, ◌<◌, ◌≤◌, ℤ, pos, ◌+ℤ◌, ◌≤ℤ◌, ◌<ℤ◌, Bool, true, false, ◌&&◌, ◌||◌, refl, sym, ap, ◌∙◌, arith}
+use Rattle.std.proofs.Common.{◌≡◌, ℕ, zero, suc, ◌+◌, ◌-◌, ◌*◌, ◌/◌, ◌%◌, min, ◌<◌, ◌≤◌, ℤ, pos, ◌+ℤ◌, ◌≤ℤ◌, ◌<ℤ◌, Bool, true, false, ◌&&◌, ◌||◌, refl, sym, ap, ◌∙◌, arith}
+use Rattle.std.proofs.lemmas.Nat.{div-add-mod'}
 use Rattle.geom_core.specs.declared.rectangle.Rect.{Rect}
 use Rattle.geom_core.specs.Rect.{in_span, in_rect, area_of, IsNear, IsInRange}
 use Rattle.geom_core.specs.Splits.{upper_rows, lower_rows, left_columns, right_columns, IsSplit}
@@ -45,3 +46,14 @@ IsSplit-columns a k e near = record {
 -- a hole that is split off in four steps leaves the four parts around it
 pub center_is : (a hole : Rect) (above left : ℕ) → a.y +ℤ pos above ≡ hole.y → a.x +ℤ pos left ≡ hole.x → left_columns (right_columns (upper_rows (lower_rows a above) hole.h) left) hole.w ≡ hole
 center_is a hole above left e f = ap (λ (y : ℤ). rect_of (a.x +ℤ pos left) y hole.w hole.h) e ∙ ap (λ (x : ℤ). rect_of x hole.y hole.w hole.h) f
+
+times_min : (k : ℕ) → k * min k 1 ≡ k
+times_min zero = omega arith
+times_min (suc k) = let e : min (suc k) 1 ≡ 1 = omega arith in rw e (omega arith)
+
+-- the whole lines and the line drawn in part have n pixels
+pub lines_areas : (a upper line left : Rect) (n w : ℕ) → w ≡ a.w → upper ≡ upper_rows a (n / w) → line.h ≡ min (n % w) 1 → left ≡ left_columns line (n % w) → area_of upper + area_of left ≡ n
+lines_areas a upper line left n w e u h l =
+    let first = ap area_of u ∙ ap (λ v. v * (n / w)) (sym e) in
+    let second = ap area_of l ∙ ap (λ v. (n % w) * v) h ∙ times_min (n % w) in
+    omega (arith, first, second, div-add-mod' n w)

@@ -1,5 +1,5 @@
 -- A rectangle is split into two along a row or a column: each of its pixels is in one of the two parts alone.
-use Rattle.std.specs.Prelude.{◌≡◌, ℕ, ◌+◌, ◌-◌, ℤ, pos, ◌+ℤ◌, false, ◌&&◌, ◌||◌, List, [], ◌∷◌, ◌++◌, ◌==◌, ◌≤◌, length, not, if◌then◌else◌}
+use Rattle.std.specs.Prelude.{◌≡◌, ℕ, ◌+◌, ◌-◌, ℤ, pos, ◌+ℤ◌, false, ◌&&◌, ◌||◌, List, [], ◌∷◌, ◌++◌, ◌==◌, ◌≤◌, min, length, not, if◌then◌else◌}
 use Rattle.geom_core.specs.declared.rectangle.Rect.{Rect}
 use Rattle.geom_core.specs.Rect.{in_rect, area_of, IsInRange}
 use Rattle.geom_core.specs.Pieces.{covers, total_area, AreDisjoint, HavePixels, AreInRange}
@@ -38,3 +38,13 @@ pub record IsCut (whole hole : Rect) (parts : List Rect) : Type 0 where
   pub in_range : AreInRange parts
   pub areas : total_area parts + area_of hole ≡ area_of whole
   pub count : length parts ≤ 4
+
+-- the drawn and the remaining parts are disjoint, none is empty, they have the pixels of the whole, and n of
+-- them, or all where there are fewer, are drawn
+pub record IsFront (whole : Rect) (n : ℕ) (drawn rest : List Rect) : Type 0 where
+  pub pixels : (x y : ℤ) → covers (drawn ++ rest) x y ≡ in_rect whole x y
+  pub disjoint : AreDisjoint (drawn ++ rest)
+  pub filled : HavePixels (drawn ++ rest)
+  pub in_range : AreInRange (drawn ++ rest)
+  pub drawn_area : total_area drawn ≡ min n (area_of whole)
+  pub rest_area : total_area rest ≡ area_of whole - n

@@ -3,9 +3,11 @@
 #![tactic(auto)]
 
 mod cuts;
+mod fronts;
 mod rectangle;
 mod spans;
 mod splits;
 
 pub use cuts::cut;
+pub use fronts::{Front, take_front};
 pub use rectangle::{Rect, area, holds, meet};
