@@ -39,6 +39,9 @@ in_span-first from len e = grind (arith, ints)
 pub in_span-last : (from : ℤ) (len : ℕ) → 0 < len → in_span from len (from +ℤ pos (len - 1)) ≡ true
 in_span-last from len e = grind (arith, ints)
 
+pub in_span-at : (from : ℤ) (len k : ℕ) → k < len → in_span from len (from +ℤ pos k) ≡ true
+in_span-at from len k e = grind (arith, ints)
+
 -- what a test of a span tells
 pub in_span-true : (from : ℤ) (len : ℕ) (p : ℤ) → in_span from len p ≡ true → (from ≤ℤ p) × (p <ℤ (from +ℤ pos len))
 in_span-true from len p e = (grind (arith, ints), grind (arith, ints))

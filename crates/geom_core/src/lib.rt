@@ -11,3 +11,6 @@ mod splits;
 pub use cuts::cut;
 pub use fronts::{Front, take_front};
 pub use rectangle::{Rect, area, holds, meet};
+
+/// Laws over the definitions.
+pub mod laws;

@@ -1,0 +1,1 @@
+// Laws over rectangles as sets of pixels.
