@@ -1,10 +1,10 @@
 -- Counts of pixels: equal tests, tests that exclude each other, a rectangle in a box, and disjoint rectangles.
-use Rattle.std.proofs.Common.{◌≡◌, ℕ, zero, suc, ◌+◌, ◌-◌, ◌*◌, ◌<◌, ◌≤◌, min, ℤ, pos, ◌+ℤ◌, ◌-ℤ◌, ◌≤ℤ◌, ◌<ℤ◌, Bool, true, false, cond, ◌&&◌, ◌||◌, List, [], ◌∷◌, ◌⊎◌, inl, inr, refl, sym, ap, ◌∙◌, arith}
+use Rattle.std.proofs.Common.{◌≡◌, ℕ, zero, suc, ◌+◌, ◌-◌, ◌*◌, ◌<◌, min, ℤ, pos, ◌+ℤ◌, ◌-ℤ◌, ◌≤ℤ◌, Bool, true, false, cond, ◌&&◌, ◌||◌, List, [], ◌∷◌, inl, inr, refl, sym, ap, ◌∙◌, arith}
 use Rattle.std.specs.Prelude.{nat_abs}
 use Rattle.std.proofs.lemmas.Bool.{cases_lt, and_from, or_left, or_right}
 use Rattle.std.proofs.lemmas.Int.{ints}
 use Rattle.geom_core.specs.declared.rectangle.Rect.{Rect}
-use Rattle.geom_core.specs.Rect.{in_span, in_rect, area_of, IsInside, IsEnclosed}
+use Rattle.geom_core.specs.Rect.{in_span, in_rect, area_of, IsInside}
 use Rattle.geom_core.specs.Pieces.{covers, total_area, AreDisjoint}
 use Rattle.geom_core.specs.Count.{count_span, count_rows, count_in}
 use Rattle.geom_core.proofs.SpanLemmas.{in_span-at}
@@ -90,17 +90,36 @@ count_in-same t u box h = count_rows-same t u box.x box.w box.y box.h (λ k j l 
 pub count_in-or : (t u : ℤ → ℤ → Bool) (box : Rect) → ((x y : ℤ) → (t x y && u x y) ≡ false) → count_in (λ x y. t x y || u x y) box ≡ count_in t box + count_in u box
 count_in-or t u box h = count_rows-or t u box.x box.w box.y box.h h
 
+within_box : (t b : Bool) → b ≡ true → (t && b) ≡ t
+within_box true b e = e
+within_box false b e = refl
+
+apart_in_box : (t u b : Bool) → (b ≡ true → (t && u) ≡ false) → ((t && b) && (u && b)) ≡ false
+apart_in_box t u true h = let e = h refl in grind arith
+apart_in_box t u false h = grind arith
+
+-- where the pixels of the box that pass v are those that pass t or u, and none passes both, the counts add up
+pub count_in-parts : (v t u : ℤ → ℤ → Bool) (box : Rect) → ((x y : ℤ) → in_rect box x y ≡ true → v x y ≡ (t x y || u x y)) → ((x y : ℤ) → in_rect box x y ≡ true → (t x y && u x y) ≡ false) → count_in v box ≡ count_in t box + count_in u box
+count_in-parts v t u box same apart =
+    let t_here = λ (x y : ℤ). t x y && in_rect box x y in
+    let u_here = λ (x y : ℤ). u x y && in_rect box x y in
+    count_in-same v (λ x y. t_here x y || u_here x y) box (λ x y e. same x y e ∙ ap (λ b. b || u x y) (sym (within_box (t x y) (in_rect box x y) e)) ∙ ap (λ b. t_here x y || b) (sym (within_box (u x y) (in_rect box x y) e)))
+    ∙ count_in-or t_here u_here box (λ x y. apart_in_box (t x y) (u x y) (in_rect box x y) (apart x y))
+    ∙ ap (λ n. n + count_in u_here box) (count_in-same t_here t box (λ x y e. within_box (t x y) (in_rect box x y) e))
+    ∙ ap (λ n. count_in t box + n) (count_in-same u_here u box (λ x y e. within_box (u x y) (in_rect box x y) e))
+
 -- a rectangle in the box is counted whole
 pub count_in-rect : (r box : Rect) → IsInside r box → count_in (in_rect r) box ≡ area_of r
 count_in-rect r box inside = elim (cases_lt 0 (area_of r)) [
-    inl some ↦
-        let sides = IsEnclosed-from_inside r box some inside in
-        count_rows-and (in_span r.x r.w) (in_span r.y r.h) box.x box.w box.y box.h
-        ∙ ap (λ n. n * count_span (in_span r.y r.h) box.y box.h) (count_span-in_span box.x r.x r.w box.w sides.left sides.right)
-        ∙ ap (λ n. r.w * n) (count_span-in_span box.y r.y r.h box.h sides.upper sides.lower)
+  | inl some ↦
+      let sides = IsEnclosed-from_inside r box some inside in
+      count_rows-and (in_span r.x r.w) (in_span r.y r.h) box.x box.w box.y box.h
+      ∙ ap (λ n. n * count_span (in_span r.y r.h) box.y box.h) (count_span-in_span box.x r.x r.w box.w sides.left sides.right)
+      ∙ ap (λ n. r.w * n) (count_span-in_span box.y r.y r.h box.h sides.upper sides.lower)
   | inr none ↦
-        let empty : area_of r ≡ 0 = omega arith in
-        count_rows-none (in_rect r) box.x box.w box.y box.h (λ x y. in_rect-empty r x y empty) ∙ sym empty ]
+      let empty : area_of r ≡ 0 = omega arith in
+      count_rows-none (in_rect r) box.x box.w box.y box.h (λ x y. in_rect-empty r x y empty) ∙ sym empty
+]
 
 -- disjoint rectangles in the box: as many pixels as the sum of their areas
 pub count_in-covers : (rs : List Rect) (box : Rect) → AreDisjoint rs → ((x y : ℤ) → covers rs x y ≡ true → in_rect box x y ≡ true) → count_in (covers rs) box ≡ total_area rs

@@ -1,8 +1,8 @@
 -- Lists of rectangles: what one more part does to the pixels covered, the areas and the disjointness.
-use Rattle.std.proofs.Common.{◌≡◌, ℕ, ◌+◌, ◌-◌, ◌*◌, min, ◌<◌, ◌≤◌, ℤ, Bool, true, false, not, cond, eqb, ◌&&◌, ◌||◌, List, [], ◌∷◌, ◌++◌, length, ◌⊎◌, inl, inr, refl, sym, ap, ◌∙◌, arith, length-append}
+use Rattle.std.proofs.Common.{◌≡◌, ℕ, ◌+◌, ◌<◌, ◌≤◌, ℤ, Bool, true, false, not, eqb, ◌&&◌, ◌||◌, List, [], ◌∷◌, ◌++◌, length, refl, ap, ◌∙◌, arith, length-append}
 use Rattle.std.proofs.lemmas.Bool.{cond_both, eqb-true, eqb-false}
 use Rattle.geom_core.specs.declared.rectangle.Rect.{Rect}
-use Rattle.geom_core.specs.Rect.{in_span, in_rect, area_of, IsInRange}
+use Rattle.geom_core.specs.Rect.{in_rect, area_of, IsInRange}
 use Rattle.geom_core.specs.Pieces.{covers, total_area, AreDisjoint, HavePixels, AreInRange}
 use Rattle.geom_core.specs.Splits.{with_part, IsSplit, IsCut, IsFront}
 use Rattle.geom_core.proofs.RectLemmas.{in_rect-empty}
@@ -28,9 +28,10 @@ AreInRange-append (r ∷ rs) ss h k = (h.0, AreInRange-append rs ss h.1 k)
 -- joined lists are disjoint where each is and no pixel is in both
 pub AreDisjoint-append : (rs ss : List Rect) → AreDisjoint rs → AreDisjoint ss → ((x y : ℤ) → (covers rs x y && covers ss x y) ≡ false) → AreDisjoint (rs ++ ss)
 AreDisjoint-append [] ss h k apart = k
-AreDisjoint-append (r ∷ rs) ss h k apart =
-    (λ x y. let e = covers-append rs ss x y in let d = apart x y in let f = h.0 x y in let p = in_rect r x y in grind arith,
-     AreDisjoint-append rs ss h.1 k (λ x y. let d = apart x y in let p = in_rect r x y in grind arith))
+AreDisjoint-append (r ∷ rs) ss h k apart = (
+  λ x y. let e = covers-append rs ss x y in let d = apart x y in let f = h.0 x y in let p = in_rect r x y in grind arith,
+  AreDisjoint-append rs ss h.1 k (λ x y. let d = apart x y in let p = in_rect r x y in grind arith),
+)
 
 -- one more part, kept where it has a pixel
 by_part : (P : List Rect → Type 0) (rs : List Rect) (r : Rect) → (area_of r ≡ 0 → P rs) → (0 < area_of r → P (rs ++ r ∷ [])) → P (with_part rs r)
@@ -84,28 +85,28 @@ IsCut-from_splits a hole above rest middle below left others right near one two 
     let c2 = λ (x y : ℤ). covers-with_part p1 left x y ∙ ap (λ t. t || in_rect left x y) (c1 x y) in
     let c3 = λ (x y : ℤ). covers-with_part p2 right x y ∙ ap (λ t. t || in_rect right x y) (c2 x y) in
     record {
-        pixels = λ x y.
-            covers-with_part p3 below x y ∙ ap (λ t. t || in_rect below x y) (c3 x y)
-            ∙ cut_bits (in_rect a x y) (in_rect rest x y) (in_rect middle x y) (in_rect below x y) (in_rect left x y) (in_rect others x y) (in_rect hole x y) (in_rect right x y) (in_rect above x y) (one.pixels x y) (one.apart x y) (two.pixels x y) (two.apart x y) (three.pixels x y) (three.apart x y) (four.pixels x y) (four.apart x y);
-        disjoint = AreDisjoint-with_part p3 below (AreDisjoint-with_part p2 right (AreDisjoint-with_part p1 left (AreDisjoint-with_part [] above tt (λ x y. refl))
-            (λ x y. ap (λ t. t && in_rect left x y) (c1 x y) ∙ left_bits (in_rect rest x y) (in_rect middle x y) (in_rect below x y) (in_rect left x y) (in_rect others x y) (in_rect above x y) (one.apart x y) (two.pixels x y) (three.pixels x y)))
-            (λ x y. ap (λ t. t && in_rect right x y) (c2 x y) ∙ right_bits (in_rect rest x y) (in_rect middle x y) (in_rect below x y) (in_rect left x y) (in_rect others x y) (in_rect hole x y) (in_rect right x y) (in_rect above x y) (one.apart x y) (two.pixels x y) (three.pixels x y) (three.apart x y) (four.pixels x y)))
-            (λ x y. ap (λ t. t && in_rect below x y) (c3 x y) ∙ below_bits (in_rect rest x y) (in_rect middle x y) (in_rect below x y) (in_rect left x y) (in_rect others x y) (in_rect hole x y) (in_rect right x y) (in_rect above x y) (one.apart x y) (two.pixels x y) (two.apart x y) (three.pixels x y) (four.pixels x y));
-        filled = HavePixels-with_part p3 below (HavePixels-with_part p2 right (HavePixels-with_part p1 left (HavePixels-with_part [] above tt)));
-        in_range = AreInRange-with_part p3 below (AreInRange-with_part p2 right (AreInRange-with_part p1 left (AreInRange-with_part [] above tt one.first_in_range) three.first_in_range) four.second_in_range) two.second_in_range;
-        areas = omega (arith, total_area-with_part p3 below, total_area-with_part p2 right, total_area-with_part p1 left, total_area-with_part [] above, one.areas, two.areas, three.areas, four.areas);
-        count = omega (arith, length-with_part p3 below, length-with_part p2 right, length-with_part p1 left, length-with_part [] above)
+      pixels = λ x y.
+          covers-with_part p3 below x y ∙ ap (λ t. t || in_rect below x y) (c3 x y)
+          ∙ cut_bits (in_rect a x y) (in_rect rest x y) (in_rect middle x y) (in_rect below x y) (in_rect left x y) (in_rect others x y) (in_rect hole x y) (in_rect right x y) (in_rect above x y) (one.pixels x y) (one.apart x y) (two.pixels x y) (two.apart x y) (three.pixels x y) (three.apart x y) (four.pixels x y) (four.apart x y);
+      disjoint = AreDisjoint-with_part p3 below (AreDisjoint-with_part p2 right (AreDisjoint-with_part p1 left (AreDisjoint-with_part [] above tt (λ x y. refl))
+          (λ x y. ap (λ t. t && in_rect left x y) (c1 x y) ∙ left_bits (in_rect rest x y) (in_rect middle x y) (in_rect below x y) (in_rect left x y) (in_rect others x y) (in_rect above x y) (one.apart x y) (two.pixels x y) (three.pixels x y)))
+          (λ x y. ap (λ t. t && in_rect right x y) (c2 x y) ∙ right_bits (in_rect rest x y) (in_rect middle x y) (in_rect below x y) (in_rect left x y) (in_rect others x y) (in_rect hole x y) (in_rect right x y) (in_rect above x y) (one.apart x y) (two.pixels x y) (three.pixels x y) (three.apart x y) (four.pixels x y)))
+          (λ x y. ap (λ t. t && in_rect below x y) (c3 x y) ∙ below_bits (in_rect rest x y) (in_rect middle x y) (in_rect below x y) (in_rect left x y) (in_rect others x y) (in_rect hole x y) (in_rect right x y) (in_rect above x y) (one.apart x y) (two.pixels x y) (two.apart x y) (three.pixels x y) (four.pixels x y));
+      filled = HavePixels-with_part p3 below (HavePixels-with_part p2 right (HavePixels-with_part p1 left (HavePixels-with_part [] above tt)));
+      in_range = AreInRange-with_part p3 below (AreInRange-with_part p2 right (AreInRange-with_part p1 left (AreInRange-with_part [] above tt one.first_in_range) three.first_in_range) four.second_in_range) two.second_in_range;
+      areas = omega (arith, total_area-with_part p3 below, total_area-with_part p2 right, total_area-with_part p1 left, total_area-with_part [] above, one.areas, two.areas, three.areas, four.areas);
+      count = omega (arith, length-with_part p3 below, length-with_part p2 right, length-with_part p1 left, length-with_part [] above);
     }
 
 -- an empty hole leaves the whole
 pub IsCut-from_empty : (a hole : Rect) → IsInRange a → area_of hole ≡ 0 → IsCut a hole (with_part [] a)
 IsCut-from_empty a hole near none = record {
-    pixels = λ x y. let d = in_rect-empty hole x y none in let e = covers-with_part [] a x y in let p = in_rect a x y in grind arith;
-    disjoint = AreDisjoint-with_part [] a tt (λ x y. refl);
-    filled = HavePixels-with_part [] a tt;
-    in_range = AreInRange-with_part [] a tt near;
-    areas = omega (arith, total_area-with_part [] a, none);
-    count = omega (arith, length-with_part [] a)
+  pixels = λ x y. let d = in_rect-empty hole x y none in let e = covers-with_part [] a x y in let p = in_rect a x y in grind arith;
+  disjoint = AreDisjoint-with_part [] a tt (λ x y. refl);
+  filled = HavePixels-with_part [] a tt;
+  in_range = AreInRange-with_part [] a tt near;
+  areas = omega (arith, total_area-with_part [] a, none);
+  count = omega (arith, length-with_part [] a);
 }
 
 -- what is outside the hole is what is outside b, where the hole is what a and b share
@@ -140,19 +141,19 @@ IsFront-from_splits a upper others line lower left right n one two three drawn_n
     let areas_r = total_area-with_part r1 lower in
     let areas_r1 = total_area-with_part [] right in
     record {
-        pixels = λ x y. covers-append drawn rest x y ∙ ap (λ t. t || covers rest x y) (cd x y) ∙ ap (λ t. (in_rect upper x y || in_rect left x y) || t) (cr x y)
-            ∙ front_bits (in_rect a x y) (in_rect upper x y) (in_rect others x y) (in_rect line x y) (in_rect lower x y) (in_rect left x y) (in_rect right x y) (one.pixels x y) (two.pixels x y) (three.pixels x y);
-        disjoint = AreDisjoint-append drawn rest
-            (AreDisjoint-with_part d1 left (AreDisjoint-with_part [] upper tt (λ x y. refl))
-                (λ x y. ap (λ t. t && in_rect left x y) (cd1 x y) ∙ drawn_bits (in_rect upper x y) (in_rect others x y) (in_rect line x y) (in_rect lower x y) (in_rect left x y) (in_rect right x y) (one.apart x y) (two.pixels x y) (three.pixels x y)))
-            (AreDisjoint-with_part r1 lower (AreDisjoint-with_part [] right tt (λ x y. refl))
-                (λ x y. ap (λ t. t && in_rect lower x y) (cr1 x y) ∙ rest_bits (in_rect line x y) (in_rect lower x y) (in_rect left x y) (in_rect right x y) (two.apart x y) (three.pixels x y)))
-            (λ x y. ap (λ t. t && covers rest x y) (cd x y) ∙ ap (λ t. (in_rect upper x y || in_rect left x y) && t) (cr x y)
-                ∙ apart_bits (in_rect upper x y) (in_rect others x y) (in_rect line x y) (in_rect lower x y) (in_rect left x y) (in_rect right x y) (one.apart x y) (two.pixels x y) (two.apart x y) (three.pixels x y) (three.apart x y));
-        filled = HavePixels-append drawn rest (HavePixels-with_part d1 left (HavePixels-with_part [] upper tt)) (HavePixels-with_part r1 lower (HavePixels-with_part [] right tt));
-        in_range = AreInRange-append drawn rest (AreInRange-with_part d1 left (AreInRange-with_part [] upper tt one.first_in_range) three.first_in_range) (AreInRange-with_part r1 lower (AreInRange-with_part [] right tt three.second_in_range) two.second_in_range);
-        drawn_area = omega (arith, areas_d, areas_d1, one.areas, two.areas, three.areas, drawn_n);
-        rest_area = omega (arith, areas_r, areas_r1, one.areas, two.areas, three.areas, drawn_n)
+      pixels = λ x y. covers-append drawn rest x y ∙ ap (λ t. t || covers rest x y) (cd x y) ∙ ap (λ t. (in_rect upper x y || in_rect left x y) || t) (cr x y)
+          ∙ front_bits (in_rect a x y) (in_rect upper x y) (in_rect others x y) (in_rect line x y) (in_rect lower x y) (in_rect left x y) (in_rect right x y) (one.pixels x y) (two.pixels x y) (three.pixels x y);
+      disjoint = AreDisjoint-append drawn rest
+          (AreDisjoint-with_part d1 left (AreDisjoint-with_part [] upper tt (λ x y. refl))
+          (λ x y. ap (λ t. t && in_rect left x y) (cd1 x y) ∙ drawn_bits (in_rect upper x y) (in_rect others x y) (in_rect line x y) (in_rect lower x y) (in_rect left x y) (in_rect right x y) (one.apart x y) (two.pixels x y) (three.pixels x y)))
+          (AreDisjoint-with_part r1 lower (AreDisjoint-with_part [] right tt (λ x y. refl))
+          (λ x y. ap (λ t. t && in_rect lower x y) (cr1 x y) ∙ rest_bits (in_rect line x y) (in_rect lower x y) (in_rect left x y) (in_rect right x y) (two.apart x y) (three.pixels x y)))
+          (λ x y. ap (λ t. t && covers rest x y) (cd x y) ∙ ap (λ t. (in_rect upper x y || in_rect left x y) && t) (cr x y)
+          ∙ apart_bits (in_rect upper x y) (in_rect others x y) (in_rect line x y) (in_rect lower x y) (in_rect left x y) (in_rect right x y) (one.apart x y) (two.pixels x y) (two.apart x y) (three.pixels x y) (three.apart x y));
+      filled = HavePixels-append drawn rest (HavePixels-with_part d1 left (HavePixels-with_part [] upper tt)) (HavePixels-with_part r1 lower (HavePixels-with_part [] right tt));
+      in_range = AreInRange-append drawn rest (AreInRange-with_part d1 left (AreInRange-with_part [] upper tt one.first_in_range) three.first_in_range) (AreInRange-with_part r1 lower (AreInRange-with_part [] right tt three.second_in_range) two.second_in_range);
+      drawn_area = omega (arith, areas_d, areas_d1, one.areas, two.areas, three.areas, drawn_n);
+      rest_area = omega (arith, areas_r, areas_r1, one.areas, two.areas, three.areas, drawn_n);
     }
 
 or_none : (t : Bool) → (t || false) ≡ t
@@ -162,10 +163,10 @@ or_none false = refl
 -- all of the whole is drawn
 pub IsFront-whole : (a : Rect) (n : ℕ) → IsInRange a → area_of a ≤ n → IsFront a n (with_part [] a) []
 IsFront-whole a n near all = record {
-    pixels = λ x y. covers-append (with_part [] a) [] x y ∙ ap (λ t. t || false) (covers-with_part [] a x y) ∙ or_none (in_rect a x y);
-    disjoint = AreDisjoint-append (with_part [] a) [] (AreDisjoint-with_part [] a tt (λ x y. refl)) tt (λ x y. let p = covers (with_part [] a) x y in grind arith);
-    filled = HavePixels-append (with_part [] a) [] (HavePixels-with_part [] a tt) tt;
-    in_range = AreInRange-append (with_part [] a) [] (AreInRange-with_part [] a tt near) tt;
-    drawn_area = omega (arith, total_area-with_part [] a);
-    rest_area = omega arith
+  pixels = λ x y. covers-append (with_part [] a) [] x y ∙ ap (λ t. t || false) (covers-with_part [] a x y) ∙ or_none (in_rect a x y);
+  disjoint = AreDisjoint-append (with_part [] a) [] (AreDisjoint-with_part [] a tt (λ x y. refl)) tt (λ x y. let p = covers (with_part [] a) x y in grind arith);
+  filled = HavePixels-append (with_part [] a) [] (HavePixels-with_part [] a tt) tt;
+  in_range = AreInRange-append (with_part [] a) [] (AreInRange-with_part [] a tt near) tt;
+  drawn_area = omega (arith, total_area-with_part [] a);
+  rest_area = omega arith;
 }

@@ -1,10 +1,10 @@
 -- Rectangles as sets of pixels: which pixels an empty one and a met one have.
-use Rattle.std.proofs.Common.{◌≡◌, ℕ, zero, suc, ◌+◌, ◌*◌, ◌<◌, ◌≤◌, ℤ, pos, ◌+ℤ◌, ◌≤ℤ◌, ◌<ℤ◌, Bool, true, false, ◌&&◌, ◌⊎◌, refl, inl, inr, sym, ap, ◌∙◌, arith}
-use Rattle.std.specs.Prelude.{int_le, int_lt}
+use Rattle.std.proofs.Common.{◌≡◌, ℕ, zero, suc, ◌*◌, ◌<◌, ◌≤◌, ℤ, Bool, true, false, ◌&&◌, ◌⊎◌, refl, inl, inr, sym, ap, ◌∙◌, arith}
 use Rattle.std.proofs.lemmas.Int.{ints}
-use Rattle.geom_core.proofs.SpanLemmas.{in_span-some, in_span-first, in_span-last, in_span-true, in_span-part, IsPart, IsPart-from}
+use Rattle.geom_core.proofs.SpanLemmas.{in_span-some, in_span-first, in_span-part, IsPart-from, IsNear-part, IsNear-zero}
 use Rattle.geom_core.specs.declared.rectangle.Rect.{Rect}
-use Rattle.geom_core.specs.Rect.{in_span, in_rect, area_of, IsNear, IsInRange, IsEnclosed, IsInside, SamePixels}
+use Rattle.geom_core.specs.Rect.{in_span, in_rect, area_of, IsInRange, IsEnclosed, IsInside, SamePixels}
+use Rattle.geom_core.specs.Count.{screen_of}
 use Rattle.std.proofs.lemmas.Bool.{and_parts, and_from, cases_lt}
 
 -- a span of length 0 has nothing
@@ -85,7 +85,20 @@ rect_from_pixels a b some same =
 -- rectangles with the same pixels have one area
 pub area_of-same : (a b : Rect) → SamePixels a b → area_of a ≡ area_of b
 area_of-same a b same = elim (cases_lt 0 (area_of a)) [
-    inl some ↦ ap area_of (rect_from_pixels a b some same)
+  | inl some ↦ ap area_of (rect_from_pixels a b some same)
   | inr none ↦ elim (cases_lt 0 (area_of b)) [
-        inl some ↦ ap area_of (sym (rect_from_pixels b a some (λ x y. sym (same x y))))
-      | inr no_more ↦ omega arith ] ]
+    | inl some ↦ ap area_of (sym (rect_from_pixels b a some (λ x y. sym (same x y))))
+    | inr no_more ↦ omega arith
+  ]
+]
+
+-- a rectangle enclosed in one within the limit is within it
+pub IsInRange-from_enclosed : (inner outer : Rect) → IsEnclosed inner outer → IsInRange outer → IsInRange inner
+IsInRange-from_enclosed inner outer h near = record {
+  across = IsNear-part inner.x inner.w outer.x outer.w h.left h.right near.across;
+  down = IsNear-part inner.y inner.h outer.y outer.h h.upper h.lower near.down;
+}
+
+-- a screen is within the limit
+pub IsInRange-screen : (width height : ℕ) → width ≤ 4096 → height ≤ 4096 → IsInRange (screen_of width height)
+IsInRange-screen width height w h = record { across = IsNear-zero width w; down = IsNear-zero height h }

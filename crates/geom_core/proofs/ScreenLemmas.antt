@@ -1,15 +1,16 @@
 -- Pixels of a screen by their row-major index: the index y * width + x is the pixel (x, y).
-use Rattle.std.proofs.Common.{◌≡◌, ℕ, zero, suc, ◌+◌, ◌-◌, ◌*◌, ◌/◌, ◌%◌, ◌<◌, ◌≤◌, ℤ, pos, ◌+ℤ◌, Bool, true, false, cond, ◌&&◌, List, map, get_or, refl, sym, ap, ◌∙◌, arith, nat_le, nat_lt, nat_eq, ◌⊎◌, inl, inr}
+use Rattle.std.proofs.Common.{◌≡◌, ℕ, zero, suc, ◌+◌, ◌*◌, ◌/◌, ◌%◌, ◌<◌, ◌≤◌, ℤ, pos, ◌+ℤ◌, Bool, true, cond, ◌&&◌, List, map, get_or, sym, ap, ◌∙◌, arith, nat_le, nat_lt, nat_eq, inl, inr}
 use Rattle.std.proofs.Math.Nat.{mul-le-mul_right, mod-lt}
-use Rattle.std.specs.List.{range_with_len, sum_by}
+use Rattle.std.specs.List.{range_with_len}
 use Rattle.std.proofs.lemmas.List.FromFn.{sum_by-map-range_with_len_more, get_or-map-range_with_len}
 use Rattle.std.proofs.lemmas.Nat.{div-mul-add, mod-mul-add, mul-add-lt, div-add-mod'}
 use Rattle.std.proofs.lemmas.Bool.{cases_order}
 use Rattle.std.proofs.lemmas.Bool.Decides.{nat_tests}
 use Rattle.geom_core.specs.declared.rectangle.Rect.{Rect}
-use Rattle.geom_core.specs.Rect.{in_span, in_rect, area_of, IsInside}
+use Rattle.geom_core.specs.Rect.{in_rect, area_of, IsInside}
+use Rattle.geom_core.specs.Pieces.{covers, total_area, AreDisjoint}
 use Rattle.geom_core.specs.Count.{count_span, count_rows, count_in, screen_of, marks_on, true_count}
-use Rattle.geom_core.proofs.CountLemmas.{count_in-rect}
+use Rattle.geom_core.proofs.CountLemmas.{count_in-rect, count_in-covers}
 
 -- the column and the row of an index, as integers
 abbrev pixel_at : (ℤ → ℤ → Bool) → ℕ → ℕ → Bool
@@ -61,13 +62,19 @@ true_count-marks_on test width height = first_count-rows test width height
 pub true_count-rect : (r : Rect) (width height : ℕ) → IsInside r (screen_of width height) → true_count (marks_on (in_rect r) width height) ≡ area_of r
 true_count-rect r width height inside = true_count-marks_on (in_rect r) width height ∙ count_in-rect r (screen_of width height) inside
 
+-- on a screen disjoint rectangles have as many pixels as the sum of their areas
+pub true_count-covers : (rs : List Rect) (width height : ℕ) → AreDisjoint rs → ((x y : ℤ) → covers rs x y ≡ true → in_rect (screen_of width height) x y ≡ true) → true_count (marks_on (covers rs) width height) ≡ total_area rs
+true_count-covers rs width height disjoint inside = true_count-marks_on (covers rs) width height ∙ count_in-covers rs (screen_of width height) disjoint inside
+
 -- an index lies in a run of a row exactly where its row is that row and its column is in the run
 pub run_at : (width rx rw x y row : ℕ) → x < width → rx + rw ≤ width → (nat_le (row * width + rx) (y * width + x) && nat_lt (y * width + x) (row * width + rx + rw)) ≡ ((nat_le rx x && nat_lt x (rx + rw)) && nat_eq y row)
 run_at width rx rw x y row h k = elim (cases_order y row) [
-    inl same ↦ let p = ap (λ n. n * width) same in grind (arith, nat_tests)
+  | inl same ↦ let p = ap (λ n. n * width) same in grind (arith, nat_tests)
   | inr other ↦ elim other [
-        inl above ↦ let p = mul-le-mul_right width above in grind (arith, nat_tests)
-      | inr below ↦ let p = mul-le-mul_right width below in grind (arith, nat_tests) ] ]
+    | inl above ↦ let p = mul-le-mul_right width above in grind (arith, nat_tests)
+    | inr below ↦ let p = mul-le-mul_right width below in grind (arith, nat_tests)
+  ]
+]
 
 one_line : (y row : ℕ) → (nat_le row y && nat_lt y (row + 1)) ≡ nat_eq y row
 one_line y row = grind (arith, nat_tests)

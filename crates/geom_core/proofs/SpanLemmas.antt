@@ -1,8 +1,7 @@
 -- Spans of integers: what two share, and what one is cut into.
-use Rattle.std.proofs.Common.{◌≡◌, ℕ, ◌+◌, ◌-◌, ◌<◌, ◌≤◌, ℤ, pos, ◌+ℤ◌, ◌≤ℤ◌, ◌<ℤ◌, Bool, true, false, ◌&&◌, ◌||◌, ◌⊎◌, refl, inl, inr, arith}
-use Rattle.std.specs.Prelude.{int_le, int_lt}
+use Rattle.std.proofs.Common.{◌≡◌, ℕ, ◌+◌, ◌-◌, ◌<◌, ◌≤◌, ℤ, pos, ◌+ℤ◌, ◌≤ℤ◌, ◌<ℤ◌, true, false, ◌&&◌, ◌||◌, ◌⊎◌, arith}
 use Rattle.std.proofs.lemmas.Int.{ints}
-use Rattle.geom_core.specs.Rect.{in_span, IsNear, farthest}
+use Rattle.geom_core.specs.Rect.{in_span, IsNear}
 
 -- the later and the earlier of two integers
 abbrev pub IsLater : ℤ → ℤ → ℤ → Type 0
@@ -63,3 +62,14 @@ IsPart-from from len whole size some h =
 
 pub in_span-part : (from : ℤ) (len : ℕ) (whole : ℤ) (size : ℕ) (p : ℤ) → IsPart from len whole size → in_span from len p ≡ true → in_span whole size p ≡ true
 in_span-part from len whole size p part e = grind (arith, ints, part.start, part.end)
+
+pub IsNear-part : (from : ℤ) (len : ℕ) (whole : ℤ) (size : ℕ) → whole ≤ℤ from → (from +ℤ pos len) ≤ℤ (whole +ℤ pos size) → IsNear whole size → IsNear from len
+IsNear-part from len whole size low high near = record {
+  least = omega (arith, ints, near.least);
+  greatest = omega (arith, ints, near.greatest);
+  start = omega (arith, ints, near.greatest);
+  size = omega (arith, ints, near.size);
+}
+
+pub IsNear-zero : (len : ℕ) → len ≤ 4096 → IsNear (pos 0) len
+IsNear-zero len h = record { least = omega (arith, ints); greatest = omega (arith, ints); start = omega (arith, ints); size = omega arith }

@@ -1,8 +1,8 @@
 -- A rectangle split along a row or a column is two parts that are disjoint and have its pixels.
-use Rattle.std.proofs.Common.{◌≡◌, ℕ, zero, suc, ◌+◌, ◌-◌, ◌*◌, ◌/◌, ◌%◌, min, ◌<◌, ◌≤◌, ℤ, pos, ◌+ℤ◌, ◌≤ℤ◌, ◌<ℤ◌, Bool, true, false, ◌&&◌, ◌||◌, refl, sym, ap, ◌∙◌, arith}
+use Rattle.std.proofs.Common.{◌≡◌, ℕ, zero, suc, ◌+◌, ◌-◌, ◌*◌, ◌/◌, ◌%◌, min, ◌≤◌, ℤ, pos, ◌+ℤ◌, Bool, false, ◌&&◌, ◌||◌, sym, ap, ◌∙◌, arith}
 use Rattle.std.proofs.lemmas.Nat.{div-add-mod'}
 use Rattle.geom_core.specs.declared.rectangle.Rect.{Rect}
-use Rattle.geom_core.specs.Rect.{in_span, in_rect, area_of, IsNear, IsInRange}
+use Rattle.geom_core.specs.Rect.{in_span, area_of, IsInRange}
 use Rattle.geom_core.specs.Splits.{upper_rows, lower_rows, left_columns, right_columns, IsSplit}
 use Rattle.geom_core.proofs.RectLemmas.{rect_of}
 use Rattle.geom_core.proofs.SpanLemmas.{in_span-add, in_span-apart, IsNear-first, IsNear-second}
@@ -27,20 +27,20 @@ parts_times w h k e = let d = w - k in let s : w ≡ k + d = omega arith in grin
 
 pub IsSplit-rows : (a : Rect) (k : ℕ) → k ≤ a.h → IsInRange a → IsSplit a (upper_rows a k) (lower_rows a k)
 IsSplit-rows a k e near = record {
-    pixels = λ x y. split_right (in_span a.x a.w x) (in_span a.y k y) (in_span (a.y +ℤ pos k) (a.h - k) y) (in_span a.y a.h y) (in_span-add a.y a.h k (a.h - k) y (omega arith));
-    apart = λ x y. apart_right (in_span a.x a.w x) (in_span a.y k y) (in_span (a.y +ℤ pos k) (a.h - k) y) (in_span-apart a.y k (a.h - k) y);
-    areas = times_parts a.w a.h k e;
-    first_in_range = record { across = near.across; down = IsNear-first a.y a.h k e near.down };
-    second_in_range = record { across = near.across; down = IsNear-second a.y a.h k e near.down }
+  pixels = λ x y. split_right (in_span a.x a.w x) (in_span a.y k y) (in_span (a.y +ℤ pos k) (a.h - k) y) (in_span a.y a.h y) (in_span-add a.y a.h k (a.h - k) y (omega arith));
+  apart = λ x y. apart_right (in_span a.x a.w x) (in_span a.y k y) (in_span (a.y +ℤ pos k) (a.h - k) y) (in_span-apart a.y k (a.h - k) y);
+  areas = times_parts a.w a.h k e;
+  first_in_range = record { across = near.across; down = IsNear-first a.y a.h k e near.down };
+  second_in_range = record { across = near.across; down = IsNear-second a.y a.h k e near.down };
 }
 
 pub IsSplit-columns : (a : Rect) (k : ℕ) → k ≤ a.w → IsInRange a → IsSplit a (left_columns a k) (right_columns a k)
 IsSplit-columns a k e near = record {
-    pixels = λ x y. split_left (in_span a.y a.h y) (in_span a.x k x) (in_span (a.x +ℤ pos k) (a.w - k) x) (in_span a.x a.w x) (in_span-add a.x a.w k (a.w - k) x (omega arith));
-    apart = λ x y. apart_left (in_span a.y a.h y) (in_span a.x k x) (in_span (a.x +ℤ pos k) (a.w - k) x) (in_span-apart a.x k (a.w - k) x);
-    areas = parts_times a.w a.h k e;
-    first_in_range = record { across = IsNear-first a.x a.w k e near.across; down = near.down };
-    second_in_range = record { across = IsNear-second a.x a.w k e near.across; down = near.down }
+  pixels = λ x y. split_left (in_span a.y a.h y) (in_span a.x k x) (in_span (a.x +ℤ pos k) (a.w - k) x) (in_span a.x a.w x) (in_span-add a.x a.w k (a.w - k) x (omega arith));
+  apart = λ x y. apart_left (in_span a.y a.h y) (in_span a.x k x) (in_span (a.x +ℤ pos k) (a.w - k) x) (in_span-apart a.x k (a.w - k) x);
+  areas = parts_times a.w a.h k e;
+  first_in_range = record { across = IsNear-first a.x a.w k e near.across; down = near.down };
+  second_in_range = record { across = IsNear-second a.x a.w k e near.across; down = near.down };
 }
 
 -- a hole that is split off in four steps leaves the four parts around it

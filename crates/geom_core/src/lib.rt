@@ -4,13 +4,13 @@
 
 mod cuts;
 mod fronts;
+pub mod laws;
 mod rectangle;
 mod spans;
 mod splits;
+#[cfg(test)]
+mod tests;
 
 pub use cuts::cut;
 pub use fronts::{Front, take_front};
 pub use rectangle::{Rect, area, holds, meet};
-
-/// Laws over the definitions.
-pub mod laws;

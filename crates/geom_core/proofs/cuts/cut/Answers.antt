@@ -1,4 +1,4 @@
-use Rattle.std.proofs.Common.{◌≡◌, arith, sym, ◌∙◌, subst, ap}
+use Rattle.std.proofs.Common.{arith, sym, ◌∙◌}
 use Rattle.std.proofs.lemmas.Bool.{and_parts}
 use Rattle.geom_core.specs.Rect.{in_rect}
 use Rattle.geom_core.proofs.RectLemmas.{IsEnclosed-from_inside, area_of-same}

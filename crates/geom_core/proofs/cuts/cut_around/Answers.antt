@@ -1,7 +1,7 @@
 use Rattle.std.proofs.Common.{◌≡◌, ◌+ℤ◌, pos, arith, ap, ◌∙◌, subst}
 use Rattle.std.proofs.lemmas.Int.{ints}
 use Rattle.geom_core.specs.declared.rectangle.Rect.{Rect}
-use Rattle.geom_core.specs.Splits.{left_columns, right_columns, upper_rows, lower_rows, IsSplit}
+use Rattle.geom_core.specs.Splits.{left_columns, right_columns, upper_rows, IsSplit}
 use Rattle.geom_core.proofs.PieceLemmas.{IsCut-from_splits}
 use Rattle.geom_core.proofs.SplitLemmas.{center_is}
 use Rattle.geom_core.proofs.cuts.cut_around.Goals as goal
@@ -25,4 +25,4 @@ returns c =
     let center = c.split_columns-2.ensures.left ∙ ap (λ (r : Rect). left_columns r hole.w) (c.split_columns.ensures.right ∙ ap (λ (r : Rect). right_columns r c.columns_left.result) (middle ∙ ap (λ (r : Rect). upper_rows r hole.h) rest)) ∙ center_is a hole c.rows_above.result c.columns_left.result c.rows_above.ensures across in
     let last = subst (λ (r : Rect). IsSplit c.split_columns.result.1 r c.split_columns-2.result.1) center c.split_columns-2.ensures.split in
     rw (c.put-4.ensures.items, c.put-3.ensures.items, c.put-2.ensures.items, c.put.ensures.items, c.new-parts.ensures)
-        (IsCut-from_splits a hole c.split_rows.result.0 c.split_rows.result.1 c.split_rows-2.result.0 c.split_rows-2.result.1 c.split_columns.result.0 c.split_columns.result.1 c.split_columns-2.result.1 c.requires.in_range c.split_rows.ensures.split c.split_rows-2.ensures.split c.split_columns.ensures.split last)
+    (IsCut-from_splits a hole c.split_rows.result.0 c.split_rows.result.1 c.split_rows-2.result.0 c.split_rows-2.result.1 c.split_columns.result.0 c.split_columns.result.1 c.split_columns-2.result.1 c.requires.in_range c.split_rows.ensures.split c.split_rows-2.ensures.split c.split_columns.ensures.split last)

@@ -1,6 +1,3 @@
-use Rattle.std.proofs.Common.{◌∙◌, ap}
-use Rattle.geom_core.specs.declared.rectangle.Rect.{Rect}
-use Rattle.geom_core.specs.Splits.{with_part}
 use Rattle.geom_core.proofs.PieceLemmas.{IsFront-whole, with_part-some}
 use Rattle.geom_core.proofs.fronts.whole.Goals as goal
 

@@ -1,5 +1,5 @@
-use Rattle.std.proofs.Common.{◌≡◌, inl, inr, arith, rules, w32, to_z, of_z}
-use Rattle.std.proofs.lemmas.Int.{ints, to_z-of_z}
+use Rattle.std.proofs.Common.{inl, inr, arith, rules, w32}
+use Rattle.std.proofs.lemmas.Int.{to_z-of_z}
 use Rattle.geom_core.proofs.RectLemmas.{meet_none, meet_some}
 use Rattle.geom_core.proofs.rectangle.meet.Goals as goal
 use Rattle.geom_core.proofs.rectangle.meet.Goals.{then-w-eq0-via-then-w-eq0, then-w-eq0-via-else-w-eq0+then-h-eq0}
@@ -12,7 +12,7 @@ returns-then-w-eq0-clause-pixels c =
     let bx : SFits w32 c.args.b.x = search rules in
     let by : SFits w32 c.args.b.y = search rules in
     meet_none c.args.a c.args.b _ _ _ _ c.shared-x.result.1 c.shared-y.result.1 (simp to_z-of_z at c.shared-x.ensures.pixels) (simp to_z-of_z at c.shared-y.ensures.pixels)
-        (elim c.then-w-eq0.branch [ then-w-eq0-via-then-w-eq0 w ↦ inl (omega arith) | then-w-eq0-via-else-w-eq0+then-h-eq0 w ↦ inr (omega arith) ])
+    (elim c.then-w-eq0.branch [ then-w-eq0-via-then-w-eq0 w ↦ inl (omega arith) | then-w-eq0-via-else-w-eq0+then-h-eq0 w ↦ inr (omega arith) ])
 
 pub returns-clause-pixels : goal.returns-clause-pixels
 returns-clause-pixels c =
