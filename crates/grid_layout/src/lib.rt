@@ -1,13 +1,7 @@
-// A library with one function.
+//! The layout of a grid's columns, or of its rows: room spread over them by their weights.
 #![tactic(auto)]
 
-ghost use Rattle.std.specs.Prelude.{◌≡◌};
-ghost use Rattle.grid_layout.specs.Echo.{echo_of};
+pub mod laws;
+mod spreading;
 
-// The `ensures` clause is the contract: what `echo` returns is `echo_of` of its argument, a definition
-// in `specs/Echo.antt`, which a caller's clause can cite too.
-pub fn echo(x: usize) -> usize
-    ensures { result ≡ echo_of x }
-{
-    x
-}
+pub use spreading::spread;

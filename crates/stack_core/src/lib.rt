@@ -1,13 +1,8 @@
-// A library with one function.
+//! An order of keys from top to bottom, such as that of windows. No key is there twice.
 #![tactic(auto)]
 
-ghost use Rattle.std.specs.Prelude.{◌≡◌};
-ghost use Rattle.stack_core.specs.Echo.{echo_of};
+mod order;
+#[cfg(test)]
+mod tests;
 
-// The `ensures` clause is the contract: what `echo` returns is `echo_of` of its argument, a definition
-// in `specs/Echo.antt`, which a caller's clause can cite too.
-pub fn echo(x: usize) -> usize
-    ensures { result ≡ echo_of x }
-{
-    x
-}
+pub use order::{Stack, StackFull};
