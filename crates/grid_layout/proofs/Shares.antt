@@ -1,12 +1,13 @@
 -- Shares by weight: their bounds and their sums.
-use Rattle.std.proofs.Common.{◌≡◌, ◌==◌, ℕ, zero, suc, ◌+◌, ◌-◌, ◌*◌, ◌/◌, ◌<◌, ◌≤◌, max, Bool, true, false, cond, eqb, List, [], ◌∷◌, sum, take, map, length, get_or, refl, sym, ap, ◌∙◌, ◌⊎◌, inl, inr, arith}
+use Rattle.std.proofs.Common.{◌≡◌, ℕ, zero, suc, ◌+◌, ◌-◌, ◌*◌, ◌/◌, ◌<◌, ◌≤◌, max, Bool, true, false, cond, eqb, List, [], ◌∷◌, sum, take, map, length, get_or, refl, ap, ◌∙◌, arith}
 use Rattle.std.proofs.lemmas.Bool.{eqb-false, ne_eqb, cond-false}
 use Rattle.std.proofs.lemmas.Bool.Decides.{nat_tests}
 use Rattle.std.proofs.lemmas.List.{take_all}
-use Rattle.std.proofs.lemmas.List.Sums.{sum_by-take-le, sum_by_more, sum_by-le}
+use Rattle.std.proofs.lemmas.List.Sums.{sum_by-take-le, sum_by_more, sum_by-le, get_or-le-sum_by}
 use Rattle.std.proofs.lemmas.List.FromFn.{sum_by-map-range_with_len_more, take-map-range_with_len}
-use Rattle.std.proofs.Math.Nat.{div-mul-le_self, le-div_iff_mul-le, mul-div_cancel, div-le_of_le-mul, zero-div, mul-le-mul_left}
-use Rattle.std.specs.List.{range_with_len, sum_by, All}
+use Rattle.std.proofs.Math.Nat.{div-mul-le_self, le-div_iff_mul-le, mul-div_cancel, zero-div, mul-le-mul_left}
+use Rattle.std.proofs.lemmas.Nat.{mul-le}
+use Rattle.std.specs.List.{range_with_len, All}
 use Rattle.grid_layout.specs.Spread.{left_over, part_before, share_of, shares_of, width_of, widths_of}
 
 -- division keeps the order
@@ -80,13 +81,18 @@ sum-shares_of weights extra h =
     let sums = telescope (given_before weights extra) (share_of weights extra) (length weights) (λ i l. share_step weights extra i l) (length weights) (omega arith) in
     omega (arith, sums, given_none weights extra h, given_all weights extra)
 
+width_step : (least weights : List ℕ) (room i : ℕ) → length weights ≡ length least → i < length least → width_of least weights room i + (sum (take i least) + given_before weights (left_over least room) i) ≡ sum (take (i + 1) least) + given_before weights (left_over least room) (i + 1)
+width_step least weights room i same l =
+    let s = share_step weights (left_over least room) i (omega arith) in
+    let m = sum_by_more (λ x. x) least i 0 l in
+    omega arith
+
 -- what the first columns have together
 pub sum-first_widths : (least weights : List ℕ) (room k : ℕ) → length weights ≡ length least → 0 < length least → k ≤ length least → sum (map (width_of least weights room) (range_with_len 0 k)) ≡ sum (take k least) + given_before weights (left_over least room) k
 sum-first_widths least weights room k same some h =
     let extra = left_over least room in
     let p = λ (i : ℕ). sum (take i least) + given_before weights extra i in
-    let step = λ (i : ℕ) (l : i < length least). (let s = share_step weights extra i (omega arith) in let m = sum_by_more (λ x. x) least i 0 l in omega arith) in
-    let sums = telescope p (width_of least weights room) (length least) step k h in
+    let sums = telescope p (width_of least weights room) (length least) (λ i l. width_step least weights room i same l) k h in
     omega (arith, sums, given_none weights extra (omega arith))
 
 -- the widths fill the room, or take what the least widths need
@@ -113,11 +119,34 @@ sum-take-widths_of least weights room count same some h =
     ∙ ap (λ n. sum (take count least) + n) (cond-false (eqb (sum weights) 0) _ (part_before weights extra count) (ne_eqb (sum weights) 0 (λ e. omega arith)))
 
 -- bounds on the way
-pub weights_small : (weights : List ℕ) (k : ℕ) → length weights ≤ 16 → All (λ n. n ≤ 1000) weights → sum (take k weights) ≤ 16000
-weights_small weights k few small =
-    let part = sum_by-take-le (λ x. x) weights k in
-    let whole = sum_by-le (λ x. x) 1000 weights small in
-    omega arith
+pub weights_sum_small : (weights : List ℕ) → length weights ≤ 16 → All (λ n. n ≤ 1000) weights → sum weights ≤ 16000
+weights_sum_small weights few small = let whole = sum_by-le (λ x. x) 1000 weights small in omega arith
 
-pub least_small : (least : List ℕ) → length least ≤ 16 → All (λ n. n ≤ 4128) least → sum least ≤ 66048
-least_small least few small = let whole = sum_by-le (λ x. x) 4128 least small in omega arith
+pub first_weights_small : (weights : List ℕ) (k : ℕ) → length weights ≤ 16 → All (λ n. n ≤ 1000) weights → sum (take k weights) ≤ 16000
+first_weights_small weights k few small = omega (arith, sum_by-take-le (λ x. x) weights k, weights_sum_small weights few small)
+
+pub least_sum_small : (least : List ℕ) → length least ≤ 16 → All (λ n. n ≤ 4128) least → sum least ≤ 66048
+least_sum_small least few small = let whole = sum_by-le (λ x. x) 4128 least small in omega arith
+
+-- a product on the way to a share
+pub product_small : (extra passed : ℕ) → extra ≤ 4128 → passed ≤ 16000 → extra * passed ≤ 66048000
+product_small extra passed e p = mul-le extra passed 4128 16000 e p
+
+-- one more width, from the sums of weights that the loop has
+pub width_written : (extra least passed next all : ℕ) (weights : List ℕ) (i : ℕ) → passed ≡ sum (take i weights) → next ≡ sum (take (i + 1) weights) → all ≡ sum weights → least + (extra * next / all - extra * passed / all) ≡ least + (part_before weights extra (i + 1) - part_before weights extra i)
+width_written extra least passed next all weights i p n a = cc
+
+-- a column gets no more than what is left
+share_of-le : (weights : List ℕ) (extra i : ℕ) → i < length weights → share_of weights extra i ≤ extra
+share_of-le weights extra i h = by (eqb (sum weights) 0) refl
+  where
+    by : (t : Bool) → eqb (sum weights) 0 ≡ t → cond t (cond (eqb (i + 1) (length weights)) extra 0) (part_before weights extra (i + 1) - part_before weights extra i) ≤ extra
+    by true e = grind (arith, nat_tests)
+    by false e = let some = eqb-false (sum weights) 0 e in let positive : 0 < sum weights = grind arith in omega (arith, part_before-le weights extra (i + 1) positive)
+
+-- a column is no wider than the room or than its least width
+pub width_of-le : (least weights : List ℕ) (room i : ℕ) → length weights ≡ length least → i < length least → width_of least weights room i ≤ max room (get_or least i 0)
+width_of-le least weights room i same h =
+    let own = get_or-le-sum_by (λ x. x) least i 0 h in
+    let share = share_of-le weights (left_over least room) i (omega arith) in
+    omega arith

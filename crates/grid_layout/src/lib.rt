@@ -3,5 +3,7 @@
 
 pub mod laws;
 mod spreading;
+#[cfg(test)]
+mod tests;
 
 pub use spreading::spread;

@@ -1,4 +1,4 @@
-ghost use Rattle.std.specs.Prelude.{◌≡◌, ℕ, ◌+◌, ◌-◌, ◌*◌, ◌<◌, ◌≤◌, length, sum, map, slice_index, All, ◌==◌, if◌then◌else◌};
+ghost use Rattle.std.specs.Prelude.{◌≡◌, ℕ, ◌+◌, ◌-◌, ◌*◌, ◌^◌, ◌<◌, ◌≤◌, length, sum, map, slice_index, All, ◌==◌, if◌then◌else◌};
 ghost use Rattle.std.specs.List.{range_with_len};
 ghost use Rattle.grid_layout.specs.Spread.{left_over, part_before, share_of, width_of, widths_of};
 
@@ -18,9 +18,8 @@ pub fn spread(least: &[u32], weights: &[u32], room: u32, out: &mut [u32])
     requires room_small { room ≤ 4128 }
     ensures { out.new ≡ widths_of least.now weights.now room }
 {
-    let needed: u32 = least.iter().sum();
-    let extra = room.saturating_sub(needed);
-    let all: u32 = weights.iter().sum();
+    let extra = room.saturating_sub(sum_of(least));
+    let all = sum_of(weights);
     if all == 0 {
         give_last(least, extra, out);
     } else {
@@ -37,7 +36,11 @@ fn give_last(least: &[u32], extra: u32, out: &mut [u32])
 {
     let last = least.len();
     for i in 0..least.len() {
-        out[i] = if i + 1 == last { least[i] + extra } else { least[i] };
+        out[i] = if i + 1 == last {
+            least[i] + extra
+        } else {
+            least[i]
+        };
     }
 }
 
@@ -60,4 +63,12 @@ fn give_by_weight(least: &[u32], weights: &[u32], extra: u32, all: u32, out: &mu
         let upto = extra * passed / all;
         out[i] = least[i] + (upto - before);
     }
+}
+
+/// The sum of a list whose sum fits.
+fn sum_of(numbers: &[u32]) -> u32
+    requires { sum numbers.now < 2 ^ 32 }
+    ensures { result ≡ sum numbers.now }
+{
+    numbers.iter().sum()
 }
