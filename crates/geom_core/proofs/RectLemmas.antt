@@ -1,5 +1,6 @@
 -- Rectangles as sets of pixels: which pixels an empty one and a met one have.
-use Rattle.std.proofs.Common.{◌≡◌, ℕ, zero, suc, ◌*◌, ◌<◌, ◌≤◌, ℤ, Bool, true, false, ◌&&◌, ◌⊎◌, refl, inl, inr, sym, ap, ◌∙◌, arith}
+use Rattle.std.proofs.Common.{◌≡◌, ℕ, zero, suc, ◌*◌, ◌<◌, ◌≤◌, ℤ, pos, ◌+◌, Bool, true, false, ◌&&◌, ◌⊎◌, refl, inl, inr, sym, ap, ◌∙◌, arith}
+use Rattle.std.specs.Prelude.{nat_abs}
 use Rattle.std.proofs.lemmas.Int.{ints}
 use Rattle.geom_core.proofs.SpanLemmas.{in_span-some, in_span-first, in_span-part, IsPart-from, IsNear-part, IsNear-zero}
 use Rattle.geom_core.specs.declared.rectangle.Rect.{Rect}
@@ -102,3 +103,8 @@ IsInRange-from_enclosed inner outer h near = record {
 -- a screen is within the limit
 pub IsInRange-screen : (width height : ℕ) → width ≤ 4096 → height ≤ 4096 → IsInRange (screen_of width height)
 IsInRange-screen width height w h = record { across = IsNear-zero width w; down = IsNear-zero height h }
+
+-- on a screen the corner of a rectangle is a pair of natural numbers
+pub corner_on_screen : (r : Rect) (width height : ℕ) → IsEnclosed r (screen_of width height) → (pos (nat_abs r.x) ≡ r.x) × (pos (nat_abs r.y) ≡ r.y) × (nat_abs r.x + r.w ≤ width) × (nat_abs r.y + r.h ≤ height)
+corner_on_screen r width height h =
+    (omega (arith, ints, h.left), omega (arith, ints, h.upper), omega (arith, ints, h.left, h.right), omega (arith, ints, h.upper, h.lower))

@@ -2,8 +2,8 @@
 use Rattle.std.proofs.Common.{◌≡◌, ℕ, zero, suc, ◌+◌, ◌-◌, ◌*◌, ◌/◌, ◌%◌, min, ◌≤◌, ℤ, pos, ◌+ℤ◌, Bool, false, ◌&&◌, ◌||◌, sym, ap, ◌∙◌, arith}
 use Rattle.std.proofs.lemmas.Nat.{div-add-mod'}
 use Rattle.geom_core.specs.declared.rectangle.Rect.{Rect}
-use Rattle.geom_core.specs.Rect.{in_span, area_of, IsInRange}
-use Rattle.geom_core.specs.Splits.{upper_rows, lower_rows, left_columns, right_columns, IsSplit}
+use Rattle.geom_core.specs.Rect.{in_span, in_rect, area_of, IsInRange}
+use Rattle.geom_core.specs.Splits.{row_at, upper_rows, lower_rows, left_columns, right_columns, IsSplit}
 use Rattle.geom_core.proofs.RectLemmas.{rect_of}
 use Rattle.geom_core.proofs.SpanLemmas.{in_span-add, in_span-apart, IsNear-first, IsNear-second}
 
@@ -57,3 +57,11 @@ lines_areas a upper line left n w e u h l =
     let first = ap area_of u ∙ ap (λ v. v * (n / w)) (sym e) in
     let second = ap area_of l ∙ ap (λ v. (n % w) * v) h ∙ times_min (n % w) in
     omega (arith, first, second, div-add-mod' n w)
+
+-- one more of the upper rows, for a loop over the rows
+pub in_rect-upper_rows_more : (a : Rect) (k : ℕ) (x y : ℤ) → in_rect (upper_rows a (k + 1)) x y ≡ (in_rect (upper_rows a k) x y || in_rect (row_at a k) x y)
+in_rect-upper_rows_more a k x y = split_right (in_span a.x a.w x) (in_span a.y k y) (in_span (a.y +ℤ pos k) 1 y) (in_span a.y (k + 1) y) (in_span-add a.y (k + 1) k 1 y (omega arith))
+
+-- no row has a pixel of the rows above it
+pub row_at-apart : (a : Rect) (k : ℕ) (x y : ℤ) → (in_rect (upper_rows a k) x y && in_rect (row_at a k) x y) ≡ false
+row_at-apart a k x y = apart_right (in_span a.x a.w x) (in_span a.y k y) (in_span (a.y +ℤ pos k) 1 y) (in_span-apart a.y k 1 y)

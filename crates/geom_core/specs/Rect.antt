@@ -1,5 +1,5 @@
 -- A rectangle is the set of its pixels: those from x to x + w - 1 across and from y to y + h - 1 down.
-use Rattle.std.specs.Prelude.{◌≡◌, ℕ, ◌*◌, ◌≤◌, ℤ, pos, ◌+ℤ◌, ◌≤ℤ◌, neg_ℤ, Bool, ◌&&◌, int_le, int_lt, true, false}
+use Rattle.std.specs.Prelude.{◌≡◌, ℕ, ◌*◌, ◌≤◌, ℤ, pos, ◌+ℤ◌, ◌≤ℤ◌, neg_ℤ, Bool, ◌&&◌, int_le, int_lt, true}
 use Rattle.geom_core.specs.declared.rectangle.Rect.{Rect}
 
 -- whether p is one of the `len` integers from `from` on
@@ -41,10 +41,6 @@ SamePixels a b = (x y : ℤ) → in_rect a x y ≡ in_rect b x y
 -- each pixel of the inner rectangle is in the outer one
 abbrev pub IsInside : Rect → Rect → Type 0
 IsInside inner outer = (x y : ℤ) → in_rect inner x y ≡ true → in_rect outer x y ≡ true
-
--- no pixel is in both
-abbrev pub IsApart : Rect → Rect → Type 0
-IsApart a b = (x y : ℤ) → (in_rect a x y && in_rect b x y) ≡ false
 
 -- the inner rectangle's sides are within the outer one's
 pub record IsEnclosed (inner outer : Rect) : Type 0 where

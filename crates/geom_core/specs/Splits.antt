@@ -11,6 +11,10 @@ upper_rows a rows = record { x = a.x; y = a.y; w = a.w; h = rows }
 abbrev pub lower_rows : Rect → ℕ → Rect
 lower_rows a rows = record { x = a.x; y = a.y +ℤ pos rows; w = a.w; h = a.h - rows }
 
+-- the row with that index, from 0 at the top
+abbrev pub row_at : Rect → ℕ → Rect
+row_at a row = record { x = a.x; y = a.y +ℤ pos row; w = a.w; h = 1 }
+
 -- the left columns, and the columns right of them
 abbrev pub left_columns : Rect → ℕ → Rect
 left_columns a columns = record { x = a.x; y = a.y; w = columns; h = a.h }
