@@ -1,0 +1,9 @@
+//! The layout of a grid's columns, or of its rows: room spread over them by their weights.
+#![tactic(auto)]
+
+pub mod laws;
+mod spreading;
+#[cfg(test)]
+mod tests;
+
+pub use spreading::spread;

@@ -1,0 +1,8 @@
+//! An order of keys from top to bottom, such as that of windows. No key is there twice.
+#![tactic(auto)]
+
+mod order;
+#[cfg(test)]
+mod tests;
+
+pub use order::{Stack, StackFull};
