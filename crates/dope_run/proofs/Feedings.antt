@@ -183,7 +183,7 @@ fed_after status a b c first second before middle after p q =
   }
 
 -- what is off the grammar stays off, whatever comes behind it
-off_more : (setup : Setup) (bytes more : List ℕ) → BeginsOff setup bytes → BeginsOff setup (bytes ++ more)
+pub off_more : (setup : Setup) (bytes more : List ℕ) → BeginsOff setup bytes → BeginsOff setup (bytes ++ more)
 off_more setup bytes more (inl unread) = inl (record {
   line = unread.line;
   later = unread.later ++ more;

@@ -3,6 +3,7 @@
 
 mod cut;
 mod ending;
+pub mod laws;
 mod line;
 mod number;
 mod obeying;
