@@ -1,6 +1,6 @@
 -- What holds of every script: its bytes are read in one way, so there is one first line off the grammar; and a
 -- script inside the grammar isn't refused.
-use Rattle.std.specs.Prelude.{◌≡◌, ◌⊎◌, ℕ, ◌+◌, ◌≤◌, List, [], ◌++◌, length, Option, Some}
+use Rattle.std.specs.Prelude.{◌≡◌, ◌⊎◌, ℕ, ◌≤◌, List, ◌++◌, length, Option, Some}
 use Rattle.std.specs.List.{All}
 use Rattle.desk_model.specs.declared.shape.Shape.{Shape}
 use Rattle.desk_model.specs.State.{State}
