@@ -15,8 +15,9 @@ pub enum Kind {
 
 /// The attributes, by their words `x`, `y`, `w`, `h`, `title`, `text`, `caret`, `cols`, `value`, `max`,
 /// `real`, `view` and `vert`. Which kind has which stands in docs/GUIDE.md.
-#[derive(Clone, Copy, Debug, PartialEq, Eq, Hash)]
+#[derive(Clone, Copy, Debug, Default, PartialEq, Eq, Hash)]
 pub enum Attr {
+    #[default]
     X,
     Y,
     W,

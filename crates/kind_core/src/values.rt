@@ -1,3 +1,6 @@
+ghost use Rattle.std.specs.Prelude.{◌≡◌, pos};
+ghost use Rattle.kind_core.specs.declared.values.Value.TheVariants.{Number};
+
 use crate::texts::Text;
 
 /// The value of an attribute.
@@ -5,6 +8,15 @@ use crate::texts::Text;
 pub enum Value {
     Number(i32),
     Words(Text),
+}
+
+impl Default for Value {
+    ghost is_default = { λ value. value ≡ Number (pos 0) };
+
+    /// The number 0: what lies in an unused place of a list of fixed capacity.
+    fn default() -> Self {
+        Value::Number(0)
+    }
 }
 
 /// Why an attribute can't have a value.
