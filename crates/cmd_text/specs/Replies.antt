@@ -53,7 +53,7 @@ abbrev pub reply_text : Reply → List ℕ
 reply_text Done = codes "ok"
 reply_text (Number n) = codes "ok" ++ spaced n
 reply_text (Words t) = codes "ok " ++ quoted t
-reply_text (Event tag kind a b) = codes "event " ++ (tag ++ (codes " " ++ (event_word kind ++ (spaced a ++ spaced b))))
+reply_text (Event tag kind a b) = codes "event " ++ tag ++ codes " " ++ event_word kind ++ spaced a ++ spaced b
 reply_text NoEvent = codes "none"
 reply_text (Lost n) = codes "lost" ++ spaced (pos n)
-reply_text (Refused refusal) = codes "error" ++ (spaced (pos (error_number refusal)) ++ flat_map spaced (error_details refusal))
+reply_text (Refused refusal) = codes "error" ++ spaced (pos (error_number refusal)) ++ flat_map spaced (error_details refusal)

@@ -10,12 +10,16 @@ use kind_core::{Attr, EventKind, Kind};
 
 /// A value that is written as a word.
 pub(crate) trait Word: Copy {
-    ghost use Rattle.std.specs.Prelude.{List, ℕ};
+    ghost use Rattle.std.specs.Prelude.{◌≡◌, ◌≤◌, length, IsTrue, List, ℕ};
+    ghost use Rattle.std.specs.List.{list_all};
+    ghost use Rattle.kind_core.specs.Bytes.{is_printable};
 
     ghost spelling: { Self → List ℕ };
 
     fn word(self) -> &'static [u8]
-        ensures { result.now ≡ spelling self };
+        ensures word { result.now ≡ spelling self }
+        ensures prints { IsTrue (list_all is_printable result.now) }
+        ensures short { length result.now ≤ 12 };
 }
 
 impl Word for Kind {

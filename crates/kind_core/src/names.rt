@@ -1,4 +1,4 @@
-ghost use Rattle.std.specs.Prelude.{◌≡◌, Some, None, IsTrue, if◌then◌else◌};
+ghost use Rattle.std.specs.Prelude.{◌≡◌, Some, None, IsTrue, ◌≤◌, length, if◌then◌else◌};
 ghost use Rattle.std.specs.List.{list_all};
 ghost use Rattle.kind_core.specs.Bytes.{is_letter, is_name_byte, is_name};
 
@@ -35,6 +35,7 @@ impl Name {
     pub fn as_slice(&self) -> &[u8]
         ensures bytes { result.now ≡ self.now }
         ensures name { IsTrue (is_name result.now) }
+        ensures short { length result.now ≤ 16 }
     {
         &self.cells[..self.len as usize]
     }

@@ -1,4 +1,4 @@
-ghost use Rattle.std.specs.Prelude.{◌≡◌, Some, None, [], IsTrue, if◌then◌else◌};
+ghost use Rattle.std.specs.Prelude.{◌≡◌, Some, None, [], IsTrue, ◌≤◌, length, if◌then◌else◌};
 ghost use Rattle.std.specs.List.{list_all};
 ghost use Rattle.kind_core.specs.Bytes.{is_printable, is_text};
 
@@ -43,6 +43,7 @@ impl Text {
     pub fn as_slice(&self) -> &[u8]
         ensures bytes { result.now ≡ self.now }
         ensures text { IsTrue (is_text result.now) }
+        ensures short { length result.now ≤ 64 }
     {
         &self.cells[..self.len as usize]
     }
