@@ -1,0 +1,14 @@
+pub mod Settling
+pub mod Joins
+pub mod Parts
+pub mod Texts
+pub mod Picks
+pub mod WordTables
+pub mod OptionLists
+pub mod Lines
+pub mod Runs
+pub mod Characters
+pub mod OptionSteps
+pub mod Places
+pub mod NameBytes
+pub mod FrameFronts

@@ -1,0 +1,9 @@
+pub mod Words
+pub mod Language
+pub mod Productions
+pub mod Grammar
+pub mod Printed
+pub mod Replies
+pub mod FrameLine
+pub mod Reading
+pub mod Laws

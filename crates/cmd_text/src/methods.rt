@@ -1,0 +1,22 @@
+/// The words that may follow a name and a dot.
+#[derive(Clone, Copy)]
+pub(crate) enum Method {
+    Set,
+    Get,
+    Place,
+    Lift,
+    ColumnConfig,
+    RowConfig,
+    Link,
+    Unlink,
+    Bind,
+    Unbind,
+    Open,
+    Close,
+    Top,
+    Mode,
+    Admit,
+    Leave,
+    Frame,
+    Drop,
+}
