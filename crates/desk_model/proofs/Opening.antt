@@ -2,7 +2,7 @@
 use Rattle.std.proofs.Common.{[], ◌≡◌, ℕ, ◌+◌, ◌*◌, false, replicate, refl, sym, ◌∙◌, zero, suc, arith}
 use Rattle.std.proofs.lemmas.List.{length-replicate, get_or-replicate}
 use Rattle.std.proofs.lemmas.Nat.{mul-add-lt}
-use Rattle.desk_model.specs.declared.shape.Shape.{Shape}
+use Rattle.kind_core.specs.declared.shapes.Shape.{Shape}
 use Rattle.desk_model.specs.Desk.{IsShape, area, opening_desk}
 use Rattle.desk_model.specs.State.{IsState, opening, dirty_count, count_true}
 use Rattle.desk_model.specs.Windows.{shown_by_any}

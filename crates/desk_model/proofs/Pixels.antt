@@ -5,7 +5,7 @@ use Rattle.std.proofs.lemmas.Nat.{mul-add-lt, div-mul-add, mod-mul-add, div-add-
 use Rattle.std.proofs.lemmas.List.FromFn.{get_or-map-range_with_len}
 use Rattle.std.proofs.Math.Nat.{mul_comm}
 use Rattle.desk_model.specs.Desk.{area}
-use Rattle.desk_model.specs.declared.shape.Shape.{Shape}
+use Rattle.kind_core.specs.declared.shapes.Shape.{Shape}
 use Rattle.desk_model.specs.State.{EachPixel}
 
 -- what holds of each pixel holds of each place

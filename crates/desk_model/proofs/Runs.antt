@@ -3,7 +3,7 @@ use Rattle.std.proofs.Common.{◌≡◌, ℕ, suc, ◌-◌, ◌*◌, ◌≤◌, 
 use Rattle.std.specs.List.{All}
 use Rattle.std.proofs.lemmas.List.{map-append}
 use Rattle.std.proofs.lemmas.List.Elements.{All-nil, All-cons, All-head, All-tail}
-use Rattle.desk_model.specs.declared.shape.Shape.{Shape}
+use Rattle.kind_core.specs.declared.shapes.Shape.{Shape}
 use Rattle.desk_model.specs.State.{State, IsState, dirty_count}
 use Rattle.desk_model.specs.Events.{Event, Answer}
 use Rattle.desk_model.specs.Events.Event.{Ready, Show, Tick, CountDirty, LookAt}

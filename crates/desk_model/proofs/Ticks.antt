@@ -4,8 +4,8 @@ use Rattle.std.proofs.Common.{◌≡◌, ℕ, ◌+◌, ◌-◌, ◌*◌, ◌/◌
 use Rattle.std.proofs.lemmas.Bool.{and_parts, cases_lt, false≢true}
 use Rattle.std.proofs.lemmas.List.{get_or_past}
 use Rattle.std.proofs.lemmas.List.FromFn.{fill_by_all}
-use Rattle.desk_model.specs.declared.drew.Drew.{Drew}
-use Rattle.desk_model.specs.declared.shape.Shape.{Shape}
+use Rattle.cmd_text.specs.declared.inputs.Drew.{Drew}
+use Rattle.kind_core.specs.declared.shapes.Shape.{Shape}
 use Rattle.desk_model.specs.Desk.{Desk, area}
 use Rattle.desk_model.specs.Picture.{colour, colour_of_byte, picture}
 use Rattle.desk_model.specs.Beat.{beat, in_band, band_count}

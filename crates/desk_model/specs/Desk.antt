@@ -1,7 +1,7 @@
 -- The desk: a server's fixed numbers, and what clients have put on it. So far that is the list of open
 -- windows, from top to bottom.
 use Rattle.std.specs.Prelude.{ℕ, ◌*◌, ◌≤◌, List, []}
-use Rattle.desk_model.specs.declared.shape.Shape.{Shape}
+use Rattle.kind_core.specs.declared.shapes.Shape.{Shape}
 use Rattle.desk_model.specs.declared.window.Window.{Window}
 
 pub record Desk : Type 0 where

@@ -2,7 +2,7 @@
 -- dirt map a list of as many truth values; the pixel (x, y) is the one at y * width + x.
 use Rattle.std.specs.Prelude.{◌≡◌, ℕ, ◌+◌, ◌*◌, ◌<◌, Bool, false, List, length, replicate, slice_index_or, Option, Some, None, nat_lt, ◌&&◌, if◌then◌else◌}
 use Rattle.std.specs.List.{count_by}
-use Rattle.desk_model.specs.declared.shape.Shape.{Shape}
+use Rattle.kind_core.specs.declared.shapes.Shape.{Shape}
 use Rattle.desk_model.specs.Desk.{Desk, opening_desk, area, IsDesk}
 use Rattle.desk_model.specs.Picture.{colour}
 

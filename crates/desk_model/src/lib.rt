@@ -3,10 +3,8 @@
 //! docs/MACHINE.md reads them in prose.
 #![tactic(auto)]
 
-pub mod drew;
-pub mod shape;
-pub mod window;
+mod window;
 
-pub use drew::Drew;
-pub use shape::Shape;
+pub use cmd_text::Drew;
+pub use kind_core::Shape;
 pub use window::Window;

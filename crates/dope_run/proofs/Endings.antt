@@ -3,7 +3,7 @@ use Rattle.std.proofs.Common.{◌≡◌, ◌≢◌, ℕ, ◌+◌, ◌≤◌, Lis
 use Rattle.std.specs.Io.KnownBytes.{Appends, Consumes, Keeps, IsAtEnd}
 use Rattle.outside_io.specs.Sink.{AppendsFront}
 use Rattle.outside_io.proofs.Told.{Consumes-none, Consumes-append, Consumes-keeps}
-use Rattle.desk_model.specs.declared.shape.Shape.{Shape}
+use Rattle.kind_core.specs.declared.shapes.Shape.{Shape}
 use Rattle.desk_model.proofs.Opening.{shape-opening, windows-opening}
 use Rattle.desk_model.specs.State.{State, IsState, opening}
 use Rattle.desk_model.specs.Run.{Moment, state_after}

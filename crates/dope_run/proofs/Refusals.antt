@@ -1,7 +1,7 @@
 -- A script inside the grammar isn't refused: what a refusal says of its bytes contradicts how they are read.
 use Rattle.std.proofs.Common.{◌≡◌, ◌≢◌, ◌⊎◌, ℕ, ◌+◌, ◌≤◌, ◌<◌, List, [], ◌∷◌, ◌++◌, length, Option, Some, None, refl, sym, ap, subst, ◌∙◌, inl, inr, arith, append_assoc, append-nil, length-append}
 use Rattle.std.specs.List.{All}
-use Rattle.desk_model.specs.declared.shape.Shape.{Shape}
+use Rattle.kind_core.specs.declared.shapes.Shape.{Shape}
 use Rattle.desk_model.specs.State.{State}
 use Rattle.desk_model.specs.Events.{Event}
 use Rattle.desk_model.specs.Run.{events_of}

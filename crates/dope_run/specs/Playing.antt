@@ -2,7 +2,7 @@
 -- written of it, and how far the player has come.
 use Rattle.std.specs.Prelude.{◌≡◌, ◌≢◌, ◌⊎◌, ℕ, ◌+◌, List, [], ◌∷◌, ◌++◌, length, Option, None}
 use Rattle.std.specs.Io.KnownBytes.{Consumes}
-use Rattle.desk_model.specs.declared.shape.Shape.{Shape}
+use Rattle.kind_core.specs.declared.shapes.Shape.{Shape}
 use Rattle.desk_model.specs.State.{IsState, opening}
 use Rattle.desk_model.specs.Run.{Moment}
 use Rattle.dope_run.specs.declared.setup.Setup.{Setup}

@@ -2,7 +2,7 @@
 -- script inside the grammar isn't refused.
 use Rattle.std.specs.Prelude.{◌≡◌, ◌⊎◌, ℕ, ◌≤◌, List, ◌++◌, length, Option, Some}
 use Rattle.std.specs.List.{All}
-use Rattle.desk_model.specs.declared.shape.Shape.{Shape}
+use Rattle.kind_core.specs.declared.shapes.Shape.{Shape}
 use Rattle.desk_model.specs.State.{State}
 use Rattle.desk_model.specs.Events.{Event}
 use Rattle.dope_run.specs.declared.setup.Setup.{Setup}

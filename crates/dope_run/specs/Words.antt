@@ -1,6 +1,6 @@
 -- The plain form of `play`: the command, then each option in this order with its number in range.
 use Rattle.std.specs.Prelude.{ℕ, if◌then◌else◌, List, [], ◌∷◌, Option, Some, None, bytes_eq, codes}
-use Rattle.desk_model.specs.declared.shape.Shape.{Shape}
+use Rattle.kind_core.specs.declared.shapes.Shape.{Shape}
 use Rattle.dope_run.specs.Steps.{◌>>=◌}
 use Rattle.dope_run.specs.Numbers.{number_in}
 

@@ -3,7 +3,7 @@
 use Rattle.std.specs.Prelude.{◌≡◌, ℕ, Bool, List, Option}
 use Rattle.std.specs.Option.{option_to_list}
 use Rattle.canvas_core.specs.Screen.{Screen, IsScreen}
-use Rattle.desk_model.specs.declared.shape.Shape.{Shape}
+use Rattle.kind_core.specs.declared.shapes.Shape.{Shape}
 use Rattle.desk_model.specs.declared.window.Window.{Window}
 use Rattle.desk_model.specs.State.{State, IsState, count_true}
 
