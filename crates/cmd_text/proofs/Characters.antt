@@ -1,5 +1,5 @@
 -- One step of the loop over the characters of a text.
-use Rattle.std.proofs.Common.{◌≡◌, ℕ, zero, suc, ◌+◌, ◌-◌, ◌≤◌, ◌<◌, Bool, true, false, cond, ◌&&◌, ◌==◌, leb, List, [], ◌∷◌, ◌++◌, length, drop, Result, Ok, Err, refl, sym, ap, ◌∙◌, arith, IsTrue}
+use Rattle.std.proofs.Common.{◌≡◌, ℕ, zero, suc, ◌≤◌, Bool, true, false, cond, ◌==◌, List, [], ◌∷◌, ◌++◌, length, drop, Ok, Err, refl, ap, ◌∙◌}
 use Rattle.std.specs.List.{list_all}
 use Rattle.std.proofs.lemmas.Bool.{and_parts, and_from, le-leb, false≢true}
 use Rattle.kind_core.specs.Bytes.{is_printable, is_text}
@@ -34,6 +34,7 @@ chars_next k front (x ∷ xs) e =
     by_plain : (b : Bool) → cond b (chars_at k (front ++ x ∷ []) xs) (Err (length (x ∷ xs))) ≡ (cond b (Ok (read x xs)) (Err (length (x ∷ xs))) >>= λ c. chars_at k (front ++ c.0 ∷ []) c.1)
     by_plain true = refl
     by_plain false = refl
+
     by_escape : (b : Bool) → cond b (escaped_at (chars_at k) front xs) (cond (is_printable x) (chars_at k (front ++ x ∷ []) xs) (Err (length (x ∷ xs)))) ≡ (cond b (escaped_char_at xs) (cond (is_printable x) (Ok (read x xs)) (Err (length (x ∷ xs)))) >>= λ c. chars_at k (front ++ c.0 ∷ []) c.1)
     by_escape true = escaped_is k front xs
     by_escape false = by_plain (is_printable x)

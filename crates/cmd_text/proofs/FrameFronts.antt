@@ -1,5 +1,5 @@
 -- Reading of the front of a frame line.
-use Rattle.std.proofs.Common.{◌≡◌, ℕ, Bool, true, false, List, [], ◌∷◌, codes, Result, Ok, Err, ◌↔◌, refl, sym, subst, ◌∙◌, is_ok}
+use Rattle.std.proofs.Common.{◌≡◌, ℕ, Bool, true, List, [], codes, Result, Ok, Err, ◌↔◌, refl, sym, ◌∙◌, is_ok}
 use Rattle.std.proofs.lemmas.Bool.{false≢true}
 use Rattle.kind_core.specs.Bytes.{is_name_byte}
 use Rattle.cmd_text.specs.Language.{Language, ◌▹◌, ◌▸◌, word}

@@ -11,4 +11,5 @@ pub mod Characters
 pub mod OptionSteps
 pub mod Places
 pub mod NameBytes
+pub mod PrintedLines
 pub mod FrameFronts

@@ -1,8 +1,8 @@
 -- Reading of a whole line.
-use Rattle.std.proofs.Common.{◌≡◌, ℕ, ℤ, zero, suc, Bool, true, false, cond, ◌&&◌, ◌==◌, List, [], ◌∷◌, ◌++◌, length, codes, Result, Ok, Err, ◌⊎◌, refl, sym, ap, subst, ◌∙◌, inl, inr, IsTrue}
+use Rattle.std.proofs.Common.{◌≡◌, ℕ, ℤ, Bool, true, false, cond, ◌&&◌, ◌==◌, List, [], ◌∷◌, codes, Result, Ok, Err, refl, sym, ap, subst, ◌∙◌, inl, inr}
 use Rattle.std.specs.Str.{bytes_eq}
 use Rattle.std.proofs.lemmas.Slice.Eq.{bytes_eq-Decides}
-use Rattle.std.proofs.lemmas.Bool.{false≢true, both_ways, eqb-true}
+use Rattle.std.proofs.lemmas.Bool.{false≢true}
 use Rattle.kind_core.specs.Bytes.{is_digit, is_name, is_name_byte}
 use Rattle.kind_core.specs.declared.kinds.Kind.{Kind}
 use Rattle.kind_core.specs.declared.kinds.Attr.{Attr}
@@ -15,17 +15,17 @@ use Rattle.cmd_text.specs.declared.commands.Command.TheVariants.{New, Set, Get, 
 use Rattle.cmd_text.specs.declared.methods.Method.{Method}
 use Rattle.cmd_text.specs.declared.methods.Method.TheVariants as method
 use Rattle.cmd_text.specs.Words.{kind_word, attr_word, event_word, place_word, config_word}
-use Rattle.cmd_text.specs.Language.{Language, Then, With, ◌▹◌, ◌▸◌, ◌⊕◌, any, only, stands_for, word}
+use Rattle.cmd_text.specs.Language.{Language, ◌▹◌, ◌▸◌, ◌⊕◌, any, only, stands_for, word}
 use Rattle.cmd_text.specs.Productions.{is_space, sp, sp1, name, number, count, kind, attr, event, place_option, config_option, value, sopt, popt, copt, options}
 use Rattle.cmd_text.specs.Grammar.{opens, closes, empty, comma, call, body, command_line}
-use Rattle.cmd_text.specs.Reading.{◌>>=◌, method_word, all_methods, all_kinds, all_attrs, all_events, all_place_options, all_config_options, expect_at, skip_at, skip_some_at, begins_with, name_at, count_at, number_at, value_at, kind_at, attr_at, event_at, place_option_at, config_option_at, method_at, sopt_at, popt_at, copt_at, options_at, open_at, comma_at, nothing_at, end_at, finish_at, close_at, place_rest_at, arguments_at, called_at, made_at, body_at, line_at}
-use Rattle.cmd_text.proofs.Settling.{Live, Stuck, Settles, Reads, Within, Same, Never, Apart, stop, settles_same, reads_same}
-use Rattle.cmd_text.proofs.Joins.{same_refl, same_sym, same_trans, same_or, same_then, same_with, then_or, with_both}
-use Rattle.cmd_text.proofs.Parts.{Lit, lit_reads, lit_apart, lit_begins, BeginsBy, or_reads, or_apart, sp_reads, sp_apart, sp1_reads, name_reads, name_apart, count_reads, count_apart, number_reads, number_apart}
+use Rattle.cmd_text.specs.Reading.{◌>>=◌, method_word, all_methods, all_kinds, all_attrs, all_events, all_place_options, all_config_options, expect_at, skip_at, skip_some_at, begins_with, name_at, number_at, value_at, kind_at, attr_at, event_at, place_option_at, config_option_at, method_at, sopt_at, popt_at, copt_at, options_at, open_at, comma_at, nothing_at, end_at, finish_at, close_at, place_rest_at, arguments_at, called_at, made_at, body_at, line_at}
+use Rattle.cmd_text.proofs.Settling.{Settles, Reads, Within, Same, Apart, stop, reads_same}
+use Rattle.cmd_text.proofs.Joins.{same_sym, same_then, same_with, then_or}
+use Rattle.cmd_text.proofs.Parts.{Lit, lit_reads, lit_apart, lit_begins, or_reads, or_apart, sp_reads, sp_apart, sp1_reads, name_reads, name_apart, count_reads, count_apart, number_reads, number_apart}
 use Rattle.cmd_text.proofs.Texts.{value_reads, value_apart}
 use Rattle.cmd_text.proofs.Picks.{pick_reads, pick_apart}
 use Rattle.cmd_text.proofs.WordTables.{method_words, kind_words, attr_words, event_words, place_words, config_words}
-use Rattle.cmd_text.proofs.OptionLists.{assoc, IsReader, IsListed, option_of, option_reads, option_begins, option_apart, options_reads, options_apart}
+use Rattle.cmd_text.proofs.OptionLists.{IsReader, IsListed, option_of, option_reads, option_begins, option_apart, options_reads, options_apart}
 
 -- what follows a command
 abbrev pub ending : Command → Language Command
@@ -72,7 +72,7 @@ unfolding open_at
 open_reads K f a r =
     let g : List ℕ → Result Command ℕ = λ xs. f (skip_at xs) in
     let l : Reads (opens K) (λ xs. expect_at (codes "(") (skip_at xs) >>= g) =
-        sp_reads (word "(" ▹ sp ▹ K) (λ xs. expect_at (codes "(") xs >>= g) (lit_apart is_space 40 [] (sp ▹ K) refl) (lit_reads (codes "(") (sp ▹ K) g (sp_reads K f a r)) in
+    sp_reads (word "(" ▹ sp ▹ K) (λ xs. expect_at (codes "(") xs >>= g) (lit_apart is_space 40 [] (sp ▹ K) refl) (lit_reads (codes "(") (sp ▹ K) g (sp_reads K f a r)) in
     record { live = l.live; settles = λ xs. let P : Result Command ℕ → Type 0 = λ z. Settles (opens K) xs z in subst P (sym (skipped (expect_at (codes "(") (skip_at xs)) f)) (l.settles xs) }
 
 comma_reads : (K : Language Command) (f : List ℕ → Result Command ℕ) → Apart is_space K → Reads K f → Reads (comma K) (λ xs. comma_at xs >>= f)
@@ -80,7 +80,7 @@ unfolding comma_at
 comma_reads K f a r =
     let g : List ℕ → Result Command ℕ = λ xs. f (skip_at xs) in
     let l : Reads (comma K) (λ xs. expect_at (codes ",") (skip_at xs) >>= g) =
-        sp_reads (word "," ▹ sp ▹ K) (λ xs. expect_at (codes ",") xs >>= g) (lit_apart is_space 44 [] (sp ▹ K) refl) (lit_reads (codes ",") (sp ▹ K) g (sp_reads K f a r)) in
+    sp_reads (word "," ▹ sp ▹ K) (λ xs. expect_at (codes ",") xs >>= g) (lit_apart is_space 44 [] (sp ▹ K) refl) (lit_reads (codes ",") (sp ▹ K) g (sp_reads K f a r)) in
     record { live = l.live; settles = λ xs. let P : Result Command ℕ → Type 0 = λ z. Settles (comma K) xs z in subst P (sym (skipped (expect_at (codes ",") (skip_at xs)) f)) (l.settles xs) }
 
 comma_apart : (test : ℕ → Bool) (K : Language Command) → test 32 ≡ false → test 44 ≡ false → Apart test (comma K)
@@ -179,7 +179,7 @@ place_rest_apart : (test : ℕ → Bool) (n c : List ℕ) → test 44 ≡ false 
 unfolding place_rest
 place_rest_apart test n c e f = or_apart test (word "," ▹ sp ▹ options popt (λ os. closes (ending (Place n c os)))) (finishing (Place n c [])) (lit_apart test 44 [] (sp ▹ options popt (λ os. closes (ending (Place n c os)))) e) (finish_apart test (Place n c []) f)
 
-abbrev place_after : List ℕ → List ℕ → Language Command
+abbrev pub place_after : List ℕ → List ℕ → Language Command
 place_after n c = comma (options popt (λ os. closes (ending (Place n c os)))) ⊕ closes (ending (Place n c []))
 
 place_same : (n c : List ℕ) → Same (sp ▹ place_rest n c) (place_after n c)
@@ -195,7 +195,7 @@ place_reads n =
 -- ---- calls
 
 -- what is between the `(` of a method and the end
-abbrev arguments : List ℕ → Method → Language Command
+abbrev pub arguments : List ℕ → Method → Language Command
 arguments n method.Set = options sopt (λ os. closes (ending (Set n os)))
 arguments n method.Get = attr ▸ λ a. closes (ending (Get n a))
 arguments n method.Place = name ▸ place_after n
@@ -265,7 +265,7 @@ arguments_apart n method.Drop = finish_apart is_space (DropWidget n) refl
 abbrev methods : List ℕ → Language Command
 methods n = (λ u m. u ≡ method_word m) ▸ λ m. opens (arguments n m)
 
-call_lit : (n : List ℕ) (m : Method) → Within (call ending n m) (Lit (method_word m) (opens (arguments n m)))
+pub call_lit : (n : List ℕ) (m : Method) → Within (call ending n m) (Lit (method_word m) (opens (arguments n m)))
 call_lit n method.Set xs c h = h
 call_lit n method.Get xs c h = h
 call_lit n method.Place xs c h = h
@@ -285,7 +285,7 @@ call_lit n method.Leave xs c h = h
 call_lit n method.Frame xs c h = h
 call_lit n method.Drop xs c h = h
 
-lit_call : (n : List ℕ) (m : Method) → Within (Lit (method_word m) (opens (arguments n m))) (call ending n m)
+pub lit_call : (n : List ℕ) (m : Method) → Within (Lit (method_word m) (opens (arguments n m))) (call ending n m)
 lit_call n method.Set xs c h = h
 lit_call n method.Get xs c h = h
 lit_call n method.Place xs c h = h
@@ -306,9 +306,10 @@ lit_call n method.Frame xs c h = h
 lit_call n method.Drop xs c h = h
 
 calls_same : (n : List ℕ) → Same (methods n) (any (call ending n))
-calls_same n =
-    (λ xs c h. (h.value, lit_call n h.value xs c (record { front = h.front; after = h.after; split = h.split; word = h.stands; goes_on = h.goes_on })),
-    λ xs c h. let l = call_lit n h.0 xs c h.1 in record { front = l.front; after = l.after; value = h.0; split = l.split; stands = l.word; goes_on = l.goes_on })
+calls_same n = (
+  λ xs c h. (h.value, lit_call n h.value xs c (record { front = h.front; after = h.after; split = h.split; word = h.stands; goes_on = h.goes_on })),
+  λ xs c h. let l = call_lit n h.0 xs c h.1 in record { front = l.front; after = l.after; value = h.0; split = l.split; stands = l.word; goes_on = l.goes_on },
+)
 
 methods_apart : (n : List ℕ) → Apart is_space (methods n)
 methods_apart n = pick_apart method_word all_methods method_words (λ m. opens (arguments n m))
@@ -329,9 +330,9 @@ made_reads : (n : List ℕ) → Reads (makes n) (made_at n)
 unfolding made_at
 made_reads n =
     let last : (k : Kind) → Reads (empty (ending (New n k))) (λ ys. open_at ys >>= λ rest. finish_at (New n k) rest) =
-        λ k. open_reads (finishing (New n k)) (finish_at (New n k)) (finish_apart is_space (New n k) refl) (finish_reads (New n k)) in
+    λ k. open_reads (finishing (New n k)) (finish_at (New n k)) (finish_apart is_space (New n k) refl) (finish_reads (New n k)) in
     let kinds : Reads (kind ▸ λ k. empty (ending (New n k))) (λ ys. kind_at ys >>= λ k. (open_at k.1 >>= λ rest. finish_at (New n k.0) rest)) =
-        kind_reads (λ k. empty (ending (New n k))) (λ k ys. open_at ys >>= λ rest. finish_at (New n k) rest) last in
+    kind_reads (λ k. empty (ending (New n k))) (λ k ys. open_at ys >>= λ rest. finish_at (New n k) rest) last in
     sp_reads (word "new" ▹ sp1 ▹ kind ▸ λ k. empty (ending (New n k))) (λ ys. expect_at (codes "new") ys >>= λ rest. (skip_some_at rest >>= λ rest. (kind_at rest >>= λ k. (open_at k.1 >>= λ rest. finish_at (New n k.0) rest))))
     (lit_apart is_space 110 (codes "ew") (sp1 ▹ kind ▸ λ k. empty (ending (New n k))) refl)
     (lit_reads (codes "new") (sp1 ▹ kind ▸ λ k. empty (ending (New n k))) (λ rest. skip_some_at rest >>= λ rest. (kind_at rest >>= λ k. (open_at k.1 >>= λ rest. finish_at (New n k.0) rest)))
@@ -356,9 +357,9 @@ other b n = only b polls ⊕ dotted n
 
 other_apart : (test : ℕ → Bool) (b : Bool) (n : List ℕ) → test 40 ≡ false → test 46 ≡ false → Apart test (other b n)
 other_apart test b n e f x t xs c h = elim h [
-    | inl p ↦ lit_apart test 40 [] (sp ▹ finishing Poll) e x t xs c p.1
-    | inr d ↦ lit_apart test 46 [] (sp ▹ any (call ending n)) f x t xs c d
-  ]
+  | inl p ↦ lit_apart test 40 [] (sp ▹ finishing Poll) e x t xs c p.1
+  | inr d ↦ lit_apart test 46 [] (sp ▹ any (call ending n)) f x t xs c d
+]
 
 other_reads : (b : Bool) (n : List ℕ) → Reads (other b n) (λ xs. cond (b && begins_with (λ x. x == 40) xs) (expect_at (codes "(") xs >>= λ rest. finish_at Poll (skip_at rest)) (expect_at (codes ".") xs >>= called_at n))
 other_reads true n =
@@ -392,15 +393,33 @@ named = name ▸ λ n. sp ▹ after_name n
 
 body_into : Within (body ending) named
 body_into xs c h = elim h [
-    | inl m ↦ record { front = m.front; after = m.after; value = m.value; split = m.split; stands = m.stands;
-        goes_on = record { front = m.goes_on.front; after = m.goes_on.after; split = m.goes_on.split; word = m.goes_on.word; goes_on = inl m.goes_on.goes_on } }
-    | inr k ↦ elim k [
-      | inl p ↦ record { front = p.front; after = p.after; value = codes "poll"; split = p.split; stands = (p.word, ap is_name p.word);
-          goes_on = record { front = p.goes_on.front; after = p.goes_on.after; split = p.goes_on.split; word = p.goes_on.word; goes_on = inr (inl (refl, p.goes_on.goes_on)) } }
-      | inr d ↦ record { front = d.front; after = d.after; value = d.value; split = d.split; stands = d.stands;
-          goes_on = record { front = d.goes_on.front; after = d.goes_on.after; split = d.goes_on.split; word = d.goes_on.word; goes_on = inr (inr d.goes_on.goes_on) } }
-    ]
+  | inl m ↦ record {
+    front = m.front;
+    after = m.after;
+    value = m.value;
+    split = m.split;
+    stands = m.stands;
+    goes_on = record { front = m.goes_on.front; after = m.goes_on.after; split = m.goes_on.split; word = m.goes_on.word; goes_on = inl m.goes_on.goes_on };
+  }
+  | inr k ↦ elim k [
+    | inl p ↦ record {
+      front = p.front;
+      after = p.after;
+      value = codes "poll";
+      split = p.split;
+      stands = (p.word, ap is_name p.word);
+      goes_on = record { front = p.goes_on.front; after = p.goes_on.after; split = p.goes_on.split; word = p.goes_on.word; goes_on = inr (inl (refl, p.goes_on.goes_on)) };
+    }
+    | inr d ↦ record {
+      front = d.front;
+      after = d.after;
+      value = d.value;
+      split = d.split;
+      stands = d.stands;
+      goes_on = record { front = d.goes_on.front; after = d.goes_on.after; split = d.goes_on.split; word = d.goes_on.word; goes_on = inr (inr d.goes_on.goes_on) };
+    }
   ]
+]
 
 body_back : Within named (body ending)
 body_back xs c h =
@@ -408,8 +427,13 @@ body_back xs c h =
     elim g.goes_on [
       | inl m ↦ inl (record { front = h.front; after = h.after; value = h.value; split = h.split; stands = h.stands; goes_on = record { front = g.front; after = g.after; split = g.split; word = g.word; goes_on = m } })
       | inr k ↦ elim k [
-        | inl p ↦ inr (inl (record { front = h.front; after = h.after; split = h.split; word = h.stands.0 ∙ (bytes_eq-Decides h.value (codes "poll")).0 p.0;
-            goes_on = record { front = g.front; after = g.after; split = g.split; word = g.word; goes_on = p.1 } }))
+        | inl p ↦ inr (inl (record {
+          front = h.front;
+          after = h.after;
+          split = h.split;
+          word = h.stands.0 ∙ (bytes_eq-Decides h.value (codes "poll")).0 p.0;
+          goes_on = record { front = g.front; after = g.after; split = g.split; word = g.word; goes_on = p.1 };
+        }))
         | inr d ↦ inr (inr (record { front = h.front; after = h.after; value = h.value; split = h.split; stands = h.stands; goes_on = record { front = g.front; after = g.after; split = g.split; word = g.word; goes_on = d } }))
       ]
     ]

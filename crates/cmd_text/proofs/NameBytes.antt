@@ -1,5 +1,5 @@
 -- The bytes of a name print.
-use Rattle.std.proofs.Common.{◌≡◌, ℕ, ◌≤◌, Bool, true, ◌&&◌, ◌||◌, ◌==◌, leb, List, [], ◌∷◌, length, refl, sym, ap, ◌∙◌, arith, ⊎_elim, inl, inr}
+use Rattle.std.proofs.Common.{◌≡◌, ℕ, ◌≤◌, true, ◌&&◌, ◌||◌, ◌==◌, leb, List, [], ◌∷◌, length, refl, ap, arith, inl, inr}
 use Rattle.std.specs.List.{list_all}
 use Rattle.std.proofs.lemmas.Bool.{and_parts, and_from, or_cases, leb-true, le-leb, eqb-true, false≢true}
 use Rattle.kind_core.specs.Bytes.{is_between, is_letter, is_digit, is_name_byte, is_name, is_printable}
@@ -13,15 +13,15 @@ within low high b l h e =
 
 letter_prints : (b : ℕ) → is_letter b ≡ true → is_printable b ≡ true
 letter_prints b e = elim (or_cases (is_between 65 90 b) (is_between 97 122 b) e) [
-    | inl u ↦ within 65 90 b (omega arith) (omega arith) u
-    | inr v ↦ within 97 122 b (omega arith) (omega arith) v
-  ]
+  | inl u ↦ within 65 90 b (omega arith) (omega arith) u
+  | inr v ↦ within 97 122 b (omega arith) (omega arith) v
+]
 
 byte_prints : (b : ℕ) → is_name_byte b ≡ true → is_printable b ≡ true
 byte_prints b e = elim (or_cases (is_letter b || is_digit b) (b == 95) e) [
-    | inl u ↦ elim (or_cases (is_letter b) (is_digit b) u) [ inl v ↦ letter_prints b v | inr v ↦ within 48 57 b (omega arith) (omega arith) v ]
-    | inr u ↦ ap is_printable (eqb-true b 95 u)
-  ]
+  | inl u ↦ elim (or_cases (is_letter b) (is_digit b) u) [ inl v ↦ letter_prints b v | inr v ↦ within 48 57 b (omega arith) (omega arith) v ]
+  | inr u ↦ ap is_printable (eqb-true b 95 u)
+]
 
 all_print : (bs : List ℕ) → list_all is_name_byte bs ≡ true → list_all is_printable bs ≡ true
 all_print [] e = refl

@@ -1,11 +1,11 @@
 -- Reading of options and of their lists.
-use Rattle.std.proofs.Common.{◌≡◌, ℕ, zero, suc, Bool, true, false, cond, ◌&&◌, ◌==◌, List, [], ◌∷◌, ◌++◌, length, Result, Ok, Err, ◌⊎◌, refl, sym, ap, subst, ◌∙◌, inl, inr}
-use Rattle.std.proofs.lemmas.Bool.{eqb-true, false≢true, both_ways}
+use Rattle.std.proofs.Common.{◌≡◌, ℕ, zero, suc, Bool, true, false, cond, ◌&&◌, ◌==◌, List, [], ◌∷◌, ◌++◌, Result, Ok, Err, refl, sym, subst, inl, inr}
+use Rattle.std.proofs.lemmas.Bool.{eqb-true}
 use Rattle.kind_core.specs.Bytes.{is_digit}
-use Rattle.cmd_text.specs.Language.{Language, Then, With, ◌▹◌, ◌▸◌, ◌⊕◌, stands_for, word}
+use Rattle.cmd_text.specs.Language.{Language, ◌▹◌, ◌▸◌, ◌⊕◌, stands_for, word}
 use Rattle.cmd_text.specs.Productions.{is_space, sp, sp1, up_to, options}
-use Rattle.cmd_text.specs.Reading.{◌>>=◌, expect_at, skip_at, skip_some_at, begins_with, map_at, option_at, option_comes, more_at, options_at}
-use Rattle.cmd_text.proofs.Settling.{Live, Settles, Reads, Within, Same, Derives, Never, Apart, step, same_at, same_nil, reads_same}
+use Rattle.cmd_text.specs.Reading.{◌>>=◌, expect_at, skip_at, skip_some_at, begins_with, map_at, option_at, more_at, options_at}
+use Rattle.cmd_text.proofs.Settling.{Settles, Reads, Same, Derives, Never, Apart, step, same_at, same_nil, reads_same}
 use Rattle.cmd_text.proofs.Joins.{same_trans, with_then, with_with, with_stands, same_then, same_with, then_or}
 use Rattle.cmd_text.proofs.Parts.{Lit, lit_nil, lit_derives, lit_reads, lit_apart, lit_begins, BeginsBy, or_reads, or_apart, sp_reads, sp_apart, sp_settles, sp_derives, sp1_reads, sp1_same, sp1_apart, map_bind}
 
@@ -29,14 +29,14 @@ module _ {A V C : Type 0} where
   option_same P Q K =
       let inner : A → Language (A × V) = λ a. sp1 ▹ Q ▸ λ v. stands_for (a, v) in
       let back : Same (option_of P Q ▸ K) (opened P Q K) =
-          same_trans (option_of P Q ▸ K) (word "-" ▹ ((P ▸ inner) ▸ K)) (opened P Q K) (with_then (word "-") (P ▸ inner) K)
-          (same_then (word "-") ((P ▸ inner) ▸ K) (P ▸ λ a. sp1 ▹ Q ▸ λ v. K (a, v))
-          (same_trans ((P ▸ inner) ▸ K) (P ▸ λ a. (inner a ▸ K)) (P ▸ λ a. sp1 ▹ Q ▸ λ v. K (a, v)) (with_with P inner K)
-          (same_with P (λ a. (inner a ▸ K)) (λ a. sp1 ▹ Q ▸ λ v. K (a, v)) (λ a.
-            same_trans (inner a ▸ K) (sp1 ▹ ((Q ▸ λ v. stands_for (a, v)) ▸ K)) (sp1 ▹ Q ▸ λ v. K (a, v)) (with_then sp1 (Q ▸ λ v. stands_for (a, v)) K)
-            (same_then sp1 ((Q ▸ λ v. stands_for (a, v)) ▸ K) (Q ▸ λ v. K (a, v))
-            (same_trans ((Q ▸ λ v. stands_for (a, v)) ▸ K) (Q ▸ λ v. (stands_for (a, v) ▸ K)) (Q ▸ λ v. K (a, v)) (with_with Q (λ v. stands_for (a, v)) K)
-            (same_with Q (λ v. (stands_for (a, v) ▸ K)) (λ v. K (a, v)) (λ v. with_stands (a, v) K)))))))) in
+      same_trans (option_of P Q ▸ K) (word "-" ▹ ((P ▸ inner) ▸ K)) (opened P Q K) (with_then (word "-") (P ▸ inner) K)
+      (same_then (word "-") ((P ▸ inner) ▸ K) (P ▸ λ a. sp1 ▹ Q ▸ λ v. K (a, v))
+      (same_trans ((P ▸ inner) ▸ K) (P ▸ λ a. (inner a ▸ K)) (P ▸ λ a. sp1 ▹ Q ▸ λ v. K (a, v)) (with_with P inner K)
+      (same_with P (λ a. (inner a ▸ K)) (λ a. sp1 ▹ Q ▸ λ v. K (a, v)) (λ a.
+      same_trans (inner a ▸ K) (sp1 ▹ ((Q ▸ λ v. stands_for (a, v)) ▸ K)) (sp1 ▹ Q ▸ λ v. K (a, v)) (with_then sp1 (Q ▸ λ v. stands_for (a, v)) K)
+      (same_then sp1 ((Q ▸ λ v. stands_for (a, v)) ▸ K) (Q ▸ λ v. K (a, v))
+      (same_trans ((Q ▸ λ v. stands_for (a, v)) ▸ K) (Q ▸ λ v. (stands_for (a, v) ▸ K)) (Q ▸ λ v. K (a, v)) (with_with Q (λ v. stands_for (a, v)) K)
+      (same_with Q (λ v. (stands_for (a, v) ▸ K)) (λ v. K (a, v)) (λ v. with_stands (a, v) K)))))))) in
       (back.1, back.0)
 
   option_step : (p : List ℕ → Result (A × List ℕ) ℕ) (q : List ℕ → Result (V × List ℕ) ℕ) (f : A × V → List ℕ → Result C ℕ) (xs : List ℕ)
@@ -46,9 +46,11 @@ module _ {A V C : Type 0} where
       by_space : (a : A) (r : Result (List ℕ) ℕ) → ((r >>= λ rest. map_at (λ v. (a, v)) (q rest)) >>= λ o. f o.0 o.1) ≡ (r >>= λ zs. (q zs >>= λ v. f (a, v.0) v.1))
       by_space a (Ok zs) = map_bind (λ v. (a, v)) f (q zs)
       by_space a (Err e) = refl
+
       by_word : (r : Result (A × List ℕ) ℕ) → ((r >>= λ a. (skip_some_at a.1 >>= λ rest. map_at (λ v. (a.0, v)) (q rest))) >>= λ o. f o.0 o.1) ≡ (r >>= λ a. (skip_some_at a.1 >>= λ zs. (q zs >>= λ v. f (a.0, v.0) v.1)))
       by_word (Ok a) = by_space a.0 (skip_some_at a.1)
       by_word (Err e) = refl
+
       by_dash : (r : Result (List ℕ) ℕ) → ((r >>= λ rest. (p rest >>= λ a. (skip_some_at a.1 >>= λ rest. map_at (λ v. (a.0, v)) (q rest)))) >>= λ o. f o.0 o.1) ≡ (r >>= λ ys. (p ys >>= λ a. (skip_some_at a.1 >>= λ zs. (q zs >>= λ v. f (a.0, v.0) v.1))))
       by_dash (Ok ys) = by_word (p ys)
       by_dash (Err e) = refl
@@ -58,9 +60,9 @@ module _ {A V C : Type 0} where
       → IsReader V C Q q is_digit → ((K : V → Language C) → Apart is_space (Q ▸ K)) → IsReader (A × V) C (option_of P Q) (option_at p q) is_digit
   option_reads P p Q q reads_p reads_q apart K f a r =
       let spaced : (b : A) → Reads (sp1 ▹ Q ▸ λ v. K (b, v)) (λ zs. skip_some_at zs >>= λ ys. (q ys >>= λ v. f (b, v.0) v.1)) =
-          λ b. sp1_reads (Q ▸ λ v. K (b, v)) (λ ys. q ys >>= λ v. f (b, v.0) v.1) (apart (λ v. K (b, v))) (reads_q (λ v. K (b, v)) (λ v. f (b, v)) (λ v. a (b, v)) (λ v. r (b, v))) in
+      λ b. sp1_reads (Q ▸ λ v. K (b, v)) (λ ys. q ys >>= λ v. f (b, v.0) v.1) (apart (λ v. K (b, v))) (reads_q (λ v. K (b, v)) (λ v. f (b, v)) (λ v. a (b, v)) (λ v. r (b, v))) in
       let l = lit_reads (45 ∷ []) (P ▸ λ b. sp1 ▹ Q ▸ λ v. K (b, v)) (λ ys. p ys >>= λ b. (skip_some_at b.1 >>= λ zs. (q zs >>= λ v. f (b.0, v.0) v.1)))
-          (reads_p (λ b. sp1 ▹ Q ▸ λ v. K (b, v)) (λ b zs. skip_some_at zs >>= λ ys. (q ys >>= λ v. f (b, v.0) v.1)) spaced) in
+      (reads_p (λ b. sp1 ▹ Q ▸ λ v. K (b, v)) (λ b zs. skip_some_at zs >>= λ ys. (q ys >>= λ v. f (b, v.0) v.1)) spaced) in
       reads_same (opened P Q K) (option_of P Q ▸ K) (option_same P Q K) (λ xs. option_at p q xs >>= λ o. f o.0 o.1)
       (record { live = l.live; settles = λ xs. let R : Result C ℕ → Type 0 = λ z. Settles (opened P Q K) xs z in subst R (sym (option_step p q f xs)) (l.settles xs) })
 
@@ -121,6 +123,7 @@ module _ {A C : Type 0} where
     where
       whole : Language C
       whole = (sp ▹ B) ⊕ (sp1 ▹ (option ▸ K))
+
       by_space : (b : Bool) → is_space x ≡ b → Settles ((sp ▹ B) ⊕ (sp1 ▹ (option ▸ K))) (x ∷ xs) (cond b (next one more end (skip_at (x ∷ xs))) (end (skip_at (x ∷ xs))))
       by_space true e =
           let P : ℕ → Type 0 = λ y. Settles ((sp ▹ B) ⊕ (sp1 ▹ (option ▸ K))) (y ∷ xs) (next one more end (skip_at (y ∷ xs))) in
@@ -151,9 +154,9 @@ module _ {A C : Type 0} where
       record {
         live = (first.live.0, first.live.1, inl first.live.2);
         settles = λ xs.
-          let P : Result C ℕ → Type 0 = λ z. Settles (up_to (suc k) option front (closing B)) xs z in
-          subst P (sym (more_step one k front g xs (begins_with is_space xs) (begins_with (λ b. b == 45) (skip_at xs))))
-          (next_settles option (B front) K one more (g front) (is.begins K) (is.solid K) (is.no_space front) (is.no_dash front) r (ends front) xs);
+            let P : Result C ℕ → Type 0 = λ z. Settles (up_to (suc k) option front (closing B)) xs z in
+            subst P (sym (more_step one k front g xs (begins_with is_space xs) (begins_with (λ b. b == 45) (skip_at xs))))
+            (next_settles option (B front) K one more (g front) (is.begins K) (is.solid K) (is.no_space front) (is.no_dash front) r (ends front) xs);
       }
 
   pub options_reads : (option : Language A) (one : List ℕ → Result (A × List ℕ) ℕ) → IsReader A C option one is_digit → (B : List A → Language C) → IsListed option B → (g : List A → List ℕ → Result C ℕ) → ((os : List A) → Reads (B os) (g os))
@@ -164,8 +167,8 @@ module _ {A C : Type 0} where
       record {
         live = r.live;
         settles = λ xs.
-          let P : Result C ℕ → Type 0 = λ z. Settles (option ▸ λ o. up_to 7 option (o ∷ []) (closing B)) xs z in
-          subst P (sym (assoc (one xs) (λ o. more_at one 7 (o.0 ∷ []) o.1) (λ p. g p.0 p.1))) (r.settles xs);
+            let P : Result C ℕ → Type 0 = λ z. Settles (option ▸ λ o. up_to 7 option (o ∷ []) (closing B)) xs z in
+            subst P (sym (assoc (one xs) (λ o. more_at one 7 (o.0 ∷ []) o.1) (λ p. g p.0 p.1))) (r.settles xs);
       }
 
   pub options_apart : (option : Language A) (B : List A → Language C) → IsListed option B → Apart is_space (options option (λ os. sp ▹ B os))

@@ -1,5 +1,5 @@
 -- One step of the loop over the options of a command.
-use Rattle.std.proofs.Common.{◌≡◌, ℕ, zero, suc, ◌+◌, ◌-◌, ◌≤◌, length, length-append, Bool, true, false, cond, List, [], ◌∷◌, ◌++◌, Result, Ok, Err, ◌⊎◌, refl, sym, ap, ◌∙◌, inl, inr, arith}
+use Rattle.std.proofs.Common.{◌≡◌, ℕ, zero, suc, ◌+◌, ◌-◌, ◌≤◌, length, length-append, true, false, cond, List, [], ◌∷◌, ◌++◌, Result, Ok, Err, refl, sym, ap, ◌∙◌, arith}
 use Rattle.cmd_text.specs.Reading.{◌>>=◌, read, skip_at, option_comes, pushed_at, more_at}
 
 module _ {A : Type 0} where
@@ -30,9 +30,10 @@ module _ {A : Type 0} where
   more_kept one list new rest next after o whole few room comes skipped r pushed reads =
       let l : length new ≡ length list + 1 = ap length pushed ∙ length-append list (o ∷ []) in
       let k : 8 - length list ≡ suc (7 - length list) = omega arith in
-      let j : 8 - length new ≡ 7 - length list = omega arith in
-      (omega arith,
-      ap (λ n. more_at one n new next) j ∙ ap (λ (xs : List A). more_at one (7 - length list) xs next) pushed ∙ sym (more_step one (8 - length list) (7 - length list) list rest next o k comes (ap one (sym skipped) ∙ r)) ∙ reads)
+      let j : 8 - length new ≡ 7 - length list = omega arith in (
+        omega arith,
+        ap (λ n. more_at one n new next) j ∙ ap (λ (xs : List A). more_at one (7 - length list) xs next) pushed ∙ sym (more_step one (8 - length list) (7 - length list) list rest next o k comes (ap one (sym skipped) ∙ r)) ∙ reads,
+      )
 
   abbrev made : List A → List ℕ → Result (List A × List ℕ) ℕ
   made xs ys = Ok (xs, ys)
@@ -74,6 +75,7 @@ module _ {A : Type 0} where
     where
       k : 8 - length list ≡ suc (7 - length list)
       k = omega arith
+
       by : (r : Result (A × List ℕ) ℕ) → one after ≡ r → (r >>= λ o. Ok (read (list ++ o.0 ∷ []) o.1)) ≡ unmade left → whole ≡ Err left
       by (Ok x) e p = absurd cc
       by (Err m) e p = sym reads ∙ more_fail one (8 - length list) (7 - length list) list rest m k comes (ap one (sym skipped) ∙ e) ∙ ap unmade (unmade_left m left p)

@@ -1,12 +1,12 @@
 -- Reading of the small parts: words, spaces, runs of bytes, names and numbers, each before something that goes on.
-use Rattle.std.proofs.Common.{◌≡◌, ℕ, zero, suc, ◌+◌, ◌≤◌, ◌<◌, Bool, true, false, cond, ◌&&◌, eqb, leb, ltb, ◌==◌, List, [], ◌∷◌, ◌++◌, length, take, drop, Result, Ok, Err, ◌⊎◌, refl, sym, ap, subst, ◌∙◌, inl, inr, arith, append_assoc, length-append, ℤ, pos, neg_ℤ, IsTrue}
+use Rattle.std.proofs.Common.{◌≡◌, ℕ, zero, suc, ◌≤◌, Bool, true, false, cond, ◌&&◌, leb, ltb, ◌==◌, List, [], ◌∷◌, ◌++◌, length, take, drop, Result, Ok, Err, ◌⊎◌, refl, sym, ap, subst, ◌∙◌, inl, inr, arith, ℤ, pos, neg_ℤ}
 use Rattle.std.specs.List.{list_all}
-use Rattle.std.proofs.lemmas.Bool.{eqb-true, eqb-false, and_parts, and_from, true≢false, false≢true, both_ways, le-leb, leb-true, lt-ltb, ltb-true}
-use Rattle.kind_core.specs.Bytes.{is_digit, is_letter, is_name, is_name_byte}
-use Rattle.cmd_text.specs.Language.{Language, Then, With, ◌▹◌, ◌▸◌, ◌⊕◌, stands_for, word}
-use Rattle.cmd_text.specs.Productions.{is_space, sp, sp1, name, are_digits, number_of, count, number}
+use Rattle.std.proofs.lemmas.Bool.{eqb-true, eqb-false, and_parts, and_from, false≢true, both_ways, le-leb, leb-true, lt-ltb}
+use Rattle.kind_core.specs.Bytes.{is_digit, is_letter, is_name_byte}
+use Rattle.cmd_text.specs.Language.{Language, ◌▹◌, ◌▸◌, ◌⊕◌, stands_for, word}
+use Rattle.cmd_text.specs.Productions.{is_space, sp, sp1, name, number_of, count, number}
 use Rattle.cmd_text.specs.Reading.{◌>>=◌, expect_at, skip_at, skip_some_at, run_len, begins_with, first_and_run, cut_run, map_at, minus, name_at, count_at, number_at}
-use Rattle.cmd_text.proofs.Settling.{Live, Stuck, Settles, Reads, Within, Same, Derives, Never, Apart, heads, tails, step, stop, ends, same_at, same_nil, settles_same, reads_same}
+use Rattle.cmd_text.proofs.Settling.{Live, Settles, Reads, Within, Same, Derives, Never, Apart, heads, tails, step, stop, ends, same_at, same_nil, settles_same, reads_same}
 use Rattle.cmd_text.proofs.Joins.{same_trans, with_or, with_then, with_with, with_stands, same_or, same_then, same_with}
 
 -- a first byte that may be first, and then at most k that pass
@@ -32,9 +32,10 @@ Lit w K = (λ u. u ≡ w) ▹ K
 
 module _ {C : Type 0} where
   pub lit_nil : (K : Language C) → Same K (Lit [] K)
-  lit_nil K =
-      (λ xs c h. record { front = []; after = xs; split = refl; word = refl; goes_on = h },
-      λ xs c h. let P : List ℕ → Type 0 = λ ys. K ys c in subst P (sym (h.split ∙ ap (λ (u : List ℕ). u ++ h.after) h.word)) h.goes_on)
+  lit_nil K = (
+    λ xs c h. record { front = []; after = xs; split = refl; word = refl; goes_on = h },
+    λ xs c h. let P : List ℕ → Type 0 = λ ys. K ys c in subst P (sym (h.split ∙ ap (λ (u : List ℕ). u ++ h.after) h.word)) h.goes_on,
+  )
 
   pub lit_derives : (w : ℕ) (ws : List ℕ) (K : Language C) → Derives w (Lit (w ∷ ws) K) (Lit ws K)
   lit_derives w ws K = record {
@@ -131,15 +132,16 @@ module _ {C : Type 0} where
       }
 
   pub sp1_same : (K : Language C) → Same (Lit (32 ∷ []) (sp ▹ K)) (sp1 ▹ K)
-  sp1_same K =
-      (λ xs c h. record {
-        front = 32 ∷ h.goes_on.front;
-        after = h.goes_on.after;
-        split = h.split ∙ ap (λ (u : List ℕ). u ++ h.after) h.word ∙ ap (λ (u : List ℕ). 32 ∷ u) h.goes_on.split;
-        word = and_from _ _ (lt-ltb 0 (length (32 ∷ h.goes_on.front)) (omega arith)) h.goes_on.word;
-        goes_on = h.goes_on.goes_on;
-      },
-      λ xs c h. sp1_front K xs c h.front h.after h.split h.word h.goes_on)
+  sp1_same K = (
+    λ xs c h. record {
+      front = 32 ∷ h.goes_on.front;
+      after = h.goes_on.after;
+      split = h.split ∙ ap (λ (u : List ℕ). u ++ h.after) h.word ∙ ap (λ (u : List ℕ). 32 ∷ u) h.goes_on.split;
+      word = and_from _ _ (lt-ltb 0 (length (32 ∷ h.goes_on.front)) (omega arith)) h.goes_on.word;
+      goes_on = h.goes_on.goes_on;
+    },
+    λ xs c h. sp1_front K xs c h.front h.after h.split h.word h.goes_on,
+  )
 
   bind_ok : (r : Result (List ℕ) ℕ) (g : List ℕ → List ℕ) (f : List ℕ → Result C ℕ) → ((r >>= λ rest. Ok (g rest)) >>= f) ≡ (r >>= λ rest. f (g rest))
   bind_ok (Ok x) g f = refl
@@ -363,17 +365,17 @@ module _ {C : Type 0} where
       let minus : Language ℤ = word "-" ▹ count ▸ λ n. stands_for (neg_ℤ (pos n)) in
       let plus : Language ℤ = count ▸ λ n. stands_for (pos n) in
       let back : Same (number ▸ K) (signed K) =
-          same_trans (number ▸ K) ((minus ▸ K) ⊕ (plus ▸ K)) (signed K) (with_or minus plus K)
-          (same_or (minus ▸ K) (plus ▸ K) (Lit (45 ∷ []) (count ▸ λ n. K (neg_ℤ (pos n)))) (count ▸ λ n. K (pos n))
-          (same_trans (minus ▸ K) (word "-" ▹ ((count ▸ λ n. stands_for (neg_ℤ (pos n))) ▸ K)) (Lit (45 ∷ []) (count ▸ λ n. K (neg_ℤ (pos n))))
-          (with_then (word "-") (count ▸ λ n. stands_for (neg_ℤ (pos n))) K)
-          (same_then (word "-") ((count ▸ λ n. stands_for (neg_ℤ (pos n))) ▸ K) (count ▸ λ n. K (neg_ℤ (pos n)))
-          (same_trans ((count ▸ λ n. stands_for (neg_ℤ (pos n))) ▸ K) (count ▸ λ n. (stands_for (neg_ℤ (pos n)) ▸ K)) (count ▸ λ n. K (neg_ℤ (pos n)))
-          (with_with count (λ n. stands_for (neg_ℤ (pos n))) K)
-          (same_with count (λ n. (stands_for (neg_ℤ (pos n)) ▸ K)) (λ n. K (neg_ℤ (pos n))) (λ n. with_stands (neg_ℤ (pos n)) K)))))
-          (same_trans (plus ▸ K) (count ▸ λ n. (stands_for (pos n) ▸ K)) (count ▸ λ n. K (pos n))
-          (with_with count (λ n. stands_for (pos n)) K)
-          (same_with count (λ n. (stands_for (pos n) ▸ K)) (λ n. K (pos n)) (λ n. with_stands (pos n) K)))) in
+      same_trans (number ▸ K) ((minus ▸ K) ⊕ (plus ▸ K)) (signed K) (with_or minus plus K)
+      (same_or (minus ▸ K) (plus ▸ K) (Lit (45 ∷ []) (count ▸ λ n. K (neg_ℤ (pos n)))) (count ▸ λ n. K (pos n))
+      (same_trans (minus ▸ K) (word "-" ▹ ((count ▸ λ n. stands_for (neg_ℤ (pos n))) ▸ K)) (Lit (45 ∷ []) (count ▸ λ n. K (neg_ℤ (pos n))))
+      (with_then (word "-") (count ▸ λ n. stands_for (neg_ℤ (pos n))) K)
+      (same_then (word "-") ((count ▸ λ n. stands_for (neg_ℤ (pos n))) ▸ K) (count ▸ λ n. K (neg_ℤ (pos n)))
+      (same_trans ((count ▸ λ n. stands_for (neg_ℤ (pos n))) ▸ K) (count ▸ λ n. (stands_for (neg_ℤ (pos n)) ▸ K)) (count ▸ λ n. K (neg_ℤ (pos n)))
+      (with_with count (λ n. stands_for (neg_ℤ (pos n))) K)
+      (same_with count (λ n. (stands_for (neg_ℤ (pos n)) ▸ K)) (λ n. K (neg_ℤ (pos n))) (λ n. with_stands (neg_ℤ (pos n)) K)))))
+      (same_trans (plus ▸ K) (count ▸ λ n. (stands_for (pos n) ▸ K)) (count ▸ λ n. K (pos n))
+      (with_with count (λ n. stands_for (pos n)) K)
+      (same_with count (λ n. (stands_for (pos n) ▸ K)) (λ n. K (pos n)) (λ n. with_stands (pos n) K)))) in
       (back.1, back.0)
 
   pub map_bind : {A B : Type 0} (g : A → B) (f : B → List ℕ → Result C ℕ) (r : Result (A × List ℕ) ℕ) → (map_at g r >>= λ z. f z.0 z.1) ≡ (r >>= λ n. f (g n.0) n.1)
@@ -395,10 +397,10 @@ module _ {C : Type 0} where
       let low : List ℕ → Result C ℕ = λ xs. count_at xs >>= λ n. f (minus n.0) n.1 in
       let high : List ℕ → Result C ℕ = λ xs. count_at xs >>= λ n. f (pos n.0) n.1 in
       let both : Reads (signed K) (λ xs. cond (begins_with (λ b. b == 45) xs) (expect_at (45 ∷ []) xs >>= low) (high xs)) =
-          or_reads (λ b. b == 45) (Lit (45 ∷ []) (count ▸ λ n. K (minus n))) (count ▸ λ n. K (pos n)) (λ xs. expect_at (45 ∷ []) xs >>= low) high
-          (lit_begins 45 [] (count ▸ λ n. K (minus n))) (count_not_minus (λ n. K (pos n)))
-          (lit_reads (45 ∷ []) (count ▸ λ n. K (minus n)) low (count_reads (λ n. K (minus n)) (λ n. f (minus n)) (λ n. a (minus n)) (λ n. r (minus n))))
-          (count_reads (λ n. K (pos n)) (λ n. f (pos n)) (λ n. a (pos n)) (λ n. r (pos n))) in
+      or_reads (λ b. b == 45) (Lit (45 ∷ []) (count ▸ λ n. K (minus n))) (count ▸ λ n. K (pos n)) (λ xs. expect_at (45 ∷ []) xs >>= low) high
+      (lit_begins 45 [] (count ▸ λ n. K (minus n))) (count_not_minus (λ n. K (pos n)))
+      (lit_reads (45 ∷ []) (count ▸ λ n. K (minus n)) low (count_reads (λ n. K (minus n)) (λ n. f (minus n)) (λ n. a (minus n)) (λ n. r (minus n))))
+      (count_reads (λ n. K (pos n)) (λ n. f (pos n)) (λ n. a (pos n)) (λ n. r (pos n))) in
       reads_same (signed K) (number ▸ K) (signed_same K) (λ xs. number_at xs >>= λ n. f n.0 n.1)
       (record { live = both.live; settles = λ xs. let P : Result C ℕ → Type 0 = λ z. Settles (signed K) xs z in subst P (sym (number_step f xs (begins_with (λ b. b == 45) xs))) (both.settles xs) })
 

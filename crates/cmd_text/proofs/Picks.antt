@@ -1,11 +1,11 @@
 -- Reading of one of some words, of which none begins another.
-use Rattle.std.proofs.Common.{◌≡◌, ℕ, zero, suc, ◌+◌, ◌≤◌, ◌<◌, min, Bool, true, false, cond, not, ◌&&◌, ◌||◌, ◌==◌, List, [], ◌∷◌, ◌++◌, length, get_or, Result, Ok, Err, ◌⊎◌, refl, sym, ap, subst, ◌∙◌, inl, inr, arith, append_assoc, length-append}
+use Rattle.std.proofs.Common.{◌≡◌, ℕ, ◌≤◌, min, Bool, true, false, cond, not, ◌||◌, ◌==◌, List, [], ◌∷◌, ◌++◌, length, get_or, Result, Ok, Err, ◌⊎◌, refl, sym, ap, subst, ◌∙◌, inl, inr, arith, append_assoc, length-append}
 use Rattle.std.specs.List.{list_all}
-use Rattle.std.proofs.lemmas.Bool.{eqb-true, eqb-false, eq-eqb, and_parts, or_cases, not-true, false≢true, both_ways, cases_lt}
-use Rattle.cmd_text.specs.Language.{Language, With, ◌▸◌}
+use Rattle.std.proofs.lemmas.Bool.{eqb-true, eqb-false, and_parts, or_cases, not-true, false≢true, both_ways, cases_lt}
+use Rattle.cmd_text.specs.Language.{Language, ◌▸◌}
 use Rattle.cmd_text.specs.Productions.{is_space}
 use Rattle.cmd_text.specs.Reading.{◌>>=◌, expect_at, begins_with, or_nearer, pick_at}
-use Rattle.cmd_text.proofs.Settling.{Live, Stuck, Settles, Reads, Within, Same, Derives, Never, Apart, heads, tails, left_le, step, settles_same}
+use Rattle.cmd_text.proofs.Settling.{Live, Stuck, Settles, Reads, Within, Apart, heads, tails, left_le, step, settles_same}
 use Rattle.cmd_text.proofs.Parts.{Lit, lit_nil, lit_derives, lit_settles}
 
 abbrev pub Among : {A : Type 0} → List A → A → Type 0
@@ -126,15 +126,15 @@ missed_one {A} word_of a all xs l m e h =
     let s : Stuck (Lit (word_of a) all_bytes) xs l = expect_stuck (word_of a) xs l e in
     let p : Shared (word_of a) xs l = expect_shared (word_of a) xs l e in
     let none : (b : A) → Among (a ∷ all) b → (rest : List ℕ) → xs ≡ word_of b ++ rest → ⊥ =
-        λ b n rest q. elim n [
-          | inl same ↦ s.none tt (record { front = word_of a; after = rest; split = q ∙ ap (λ z. word_of z ++ rest) (sym same); word = refl; goes_on = tt })
-          | inr n ↦ h.none b n rest q
-        ] in
+    λ b n rest q. elim n [
+      | inl same ↦ s.none tt (record { front = word_of a; after = rest; split = q ∙ ap (λ z. word_of z ++ rest) (sym same); word = refl; goes_on = tt })
+      | inr n ↦ h.none b n rest q
+    ] in
     let longest : (b : A) → Among (a ∷ all) b → (u v t rest : List ℕ) → xs ≡ u ++ v → u ++ t ≡ word_of b ++ rest → min l m ≤ length v =
-        λ b n u v t rest q r. elim n [
-          | inl same ↦ let k : l ≤ length v = s.longest u v t tt q (record { front = word_of a; after = rest; split = r ∙ ap (λ z. word_of z ++ rest) (sym same); word = refl; goes_on = tt }) in omega arith
-          | inr n ↦ let k : m ≤ length v = h.longest b n u v t rest q r in omega arith
-        ] in
+    λ b n u v t rest q r. elim n [
+      | inl same ↦ let k : l ≤ length v = s.longest u v t tt q (record { front = word_of a; after = rest; split = r ∙ ap (λ z. word_of z ++ rest) (sym same); word = refl; goes_on = tt }) in omega arith
+      | inr n ↦ let k : m ≤ length v = h.longest b n u v t rest q r in omega arith
+    ] in
     elim (cases_lt l m) [
       | inl lt ↦ record { none = none; longest = longest; front = p.front; after = p.after; split = p.split; count = omega (arith, p.count); near = inr (a, p.more, p.begins) }
       | inr le ↦ record { none = none; longest = longest; front = h.front; after = h.after; split = h.split; count = omega (arith, h.count); near = h.near }
@@ -198,8 +198,8 @@ module _ {A C : Type 0} where
     longest = λ u v t c e h. elim (cases_lt (length u) (length (word_of a))) [
       | inl lt ↦ omega (arith, left_le (K a) rest left k, ap length e, length-append (word_of a) rest, length-append u v)
       | inr le ↦
-        let f = front_of (word_of a) rest u v e le in
-        s.longest u v t c e (lit_picks word_of all are K a (f.0 ++ t) (u ++ t) c (ap (λ (z : List ℕ). z ++ t) f.1 ∙ append_assoc (word_of a) f.0 t) h)
+          let f = front_of (word_of a) rest u v e le in
+          s.longest u v t c e (lit_picks word_of all are K a (f.0 ++ t) (u ++ t) c (ap (λ (z : List ℕ). z ++ t) f.1 ∙ append_assoc (word_of a) f.0 t) h)
     ];
   }
 
@@ -214,17 +214,25 @@ module _ {A C : Type 0} where
   picks_settles word_of all are K f r xs (Err left) h =
       let none : (c : C) → Picks word_of K xs c → ⊥ = λ c m. h.none m.value (are.complete m.value) m.after (m.split ∙ ap (λ (u : List ℕ). u ++ m.after) m.stands) in
       let longest : (u v t : List ℕ) (c : C) → xs ≡ u ++ v → Picks word_of K (u ++ t) c → left ≤ length v =
-          λ u v t c e m. h.longest m.value (are.complete m.value) u v t m.after e (m.split ∙ ap (λ (z : List ℕ). z ++ m.after) m.stands) in
+      λ u v t c e m. h.longest m.value (are.complete m.value) u v t m.after e (m.split ∙ ap (λ (z : List ℕ). z ++ m.after) m.stands) in
       elim h.near [
         | inl empty ↦
-          let live = picks_live word_of K are.one (r are.one).live in
-          let P : List ℕ → Type 0 = λ z. Picks word_of K (z ++ live.0) live.1 in
-          record { none = none; front = h.front; after = h.after; split = h.split; count = h.count; more = live.0; of = live.1; begins = subst P (sym empty) live.2; longest = longest }
+            let live = picks_live word_of K are.one (r are.one).live in
+            let P : List ℕ → Type 0 = λ z. Picks word_of K (z ++ live.0) live.1 in
+            record { none = none; front = h.front; after = h.after; split = h.split; count = h.count; more = live.0; of = live.1; begins = subst P (sym empty) live.2; longest = longest }
         | inr n ↦
-          let live = (r n.0).live in
-          record { none = none; front = h.front; after = h.after; split = h.split; count = h.count; more = n.1 ++ live.0; of = live.1;
-            begins = record { front = word_of n.0; after = live.0; value = n.0; split = sym (append_assoc h.front n.1 live.0) ∙ ap (λ (z : List ℕ). z ++ live.0) (sym n.2); stands = refl; goes_on = live.2 };
-            longest = longest }
+            let live = (r n.0).live in
+            record {
+              none = none;
+              front = h.front;
+              after = h.after;
+              split = h.split;
+              count = h.count;
+              more = n.1 ++ live.0;
+              of = live.1;
+              begins = record { front = word_of n.0; after = live.0; value = n.0; split = sym (append_assoc h.front n.1 live.0) ∙ ap (λ (z : List ℕ). z ++ live.0) (sym n.2); stands = refl; goes_on = live.2 };
+              longest = longest;
+            }
       ]
 
   pub pick_reads : (word_of : A → List ℕ) (all : List A) → AreWords word_of all → (K : A → Language C) (f : A → List ℕ → Result C ℕ) → ((a : A) → Reads (K a) (f a)) → Reads (Picks word_of K) (λ xs. pick_at word_of all xs >>= λ x. f x.0 x.1)

@@ -1,10 +1,10 @@
 -- What a run of bytes is, for the functions that read it.
-use Rattle.std.proofs.Common.{◌≡◌, ℕ, zero, suc, ◌+◌, ◌*◌, ◌^◌, ◌≤◌, ◌<◌, Bool, true, false, cond, ◌&&◌, leb, List, [], ◌∷◌, ◌++◌, length, take, drop, get_or, Result, Ok, Err, ◌-◌, refl, sym, ap, ◌∙◌, arith, lit≤, length-take}
+use Rattle.std.proofs.Common.{◌≡◌, ℕ, zero, suc, ◌+◌, ◌*◌, ◌^◌, ◌≤◌, Bool, true, false, cond, List, [], ◌∷◌, length, take, drop, get_or, ◌-◌, refl, ap, ◌∙◌, arith, lit≤}
 use Rattle.std.proofs.Math.Seq.{take-length}
 use Rattle.std.specs.List.{list_all}
 use Rattle.std.proofs.lemmas.Bool.{and_from, le-leb}
 use Rattle.kind_core.specs.Bytes.{is_letter, is_name, is_name_byte}
-use Rattle.cmd_text.specs.Reading.{run_len, cut_run, name_at}
+use Rattle.cmd_text.specs.Reading.{run_len}
 
 run_passes : (test : ℕ → Bool) (k : ℕ) (xs : List ℕ) → list_all test (take (run_len test k xs) xs) ≡ true
 run_passes test zero xs = refl

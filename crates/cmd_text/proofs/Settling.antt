@@ -1,6 +1,6 @@
 -- What it means that a reading settles a language on some bytes: it finds the one thing that they stand for, or
 -- stops after the longest front that some word of the language has. And how readings of parts make one of the whole.
-use Rattle.std.proofs.Common.{◌≡◌, ℕ, zero, suc, ◌+◌, ◌≤◌, ◌<◌, Bool, true, false, cond, List, [], ◌∷◌, ◌++◌, length, Result, Ok, Err, ◌⊎◌, refl, sym, ap, subst, ◌∙◌, inl, inr, arith, append_assoc, length-append}
+use Rattle.std.proofs.Common.{◌≡◌, ℕ, ◌≤◌, Bool, true, List, [], ◌∷◌, ◌++◌, length, Result, Ok, Err, refl, sym, ap, subst, arith, length-append}
 use Rattle.cmd_text.specs.Language.{Language}
 
 -- the language has a word

@@ -1,15 +1,15 @@
 -- Reading of texts and values.
-use Rattle.std.proofs.Common.{◌≡◌, ℕ, zero, suc, ◌+◌, ◌≤◌, ◌<◌, Bool, true, false, cond, ◌&&◌, ◌||◌, eqb, leb, ltb, ◌==◌, List, [], ◌∷◌, ◌++◌, length, Result, Ok, Err, ◌⊎◌, refl, sym, ap, subst, ◌∙◌, inl, inr, arith, append_assoc, append-nil, length-append, IsTrue}
+use Rattle.std.proofs.Common.{◌≡◌, ℕ, zero, suc, ◌≤◌, Bool, true, false, cond, ◌||◌, leb, ◌==◌, List, [], ◌∷◌, ◌++◌, length, Result, Ok, Err, refl, sym, ap, subst, ◌∙◌, arith, append_assoc, append-nil}
 use Rattle.std.specs.List.{list_all, flat_map}
-use Rattle.std.proofs.lemmas.Bool.{eqb-true, eqb-false, and_parts, and_from, or_parts, false≢true, both_ways, le-leb, leb-true}
-use Rattle.kind_core.specs.Bytes.{is_digit, is_text, is_printable}
+use Rattle.std.proofs.lemmas.Bool.{eqb-true, eqb-false, and_parts, and_from, both_ways, le-leb, leb-true}
+use Rattle.kind_core.specs.Bytes.{is_digit, is_printable}
 use Rattle.kind_core.specs.declared.values.Value as value_type
 use Rattle.kind_core.specs.declared.values.Value.TheVariants.{Number, Words}
-use Rattle.cmd_text.specs.Language.{Language, Then, With, ◌▹◌, ◌▸◌, ◌⊕◌, stands_for, word}
+use Rattle.cmd_text.specs.Language.{Language, ◌▸◌, ◌⊕◌, stands_for}
 use Rattle.cmd_text.specs.Productions.{is_space, character, text, number, value}
 use Rattle.cmd_text.specs.Reading.{◌>>=◌, expect_at, begins_with, read, map_at, is_special, escaped_at, chars_at, text_at, number_at, value_at}
-use Rattle.cmd_text.proofs.Settling.{Live, Stuck, Settles, Reads, Within, Same, Derives, Never, Apart, heads, tails, step, stop, ends, same_at, same_nil, settles_same, reads_same}
-use Rattle.cmd_text.proofs.Joins.{same_trans, with_or, with_then, with_with, with_stands, same_or, same_then, same_with}
+use Rattle.cmd_text.proofs.Settling.{Live, Settles, Reads, Same, Derives, Never, Apart, heads, tails, step, stop, ends, reads_same}
+use Rattle.cmd_text.proofs.Joins.{same_trans, with_or, with_with, with_stands, same_or, same_with}
 use Rattle.cmd_text.proofs.Parts.{Lit, lit_reads, lit_apart, lit_begins, or_reads, or_apart, BeginsBy, map_bind, number_reads, number_apart, number_not_quote}
 
 longer : (front t : List ℕ) (b : ℕ) → front ++ b ∷ t ≡ (front ++ b ∷ []) ++ t
@@ -60,8 +60,13 @@ module _ {C : Type 0} where
   open_char k front K x xs c b t after short p ps h true e eq =
       let P : List ℕ → Type 0 = λ f. K f after c in
       Escape k refl (heads x 92 xs (b ∷ (flat_map character t ++ (34 ∷ after))) eq)
-      (record { byte = b; rest = flat_map character t ++ (34 ∷ after); split = tails x 92 xs (b ∷ (flat_map character t ++ (34 ∷ after))) eq; special = e;
-        others = record { chars = t; after = after; split = refl; short = omega (arith, short); prints = ps; goes_on = subst P (longer front t b) h } })
+      (record {
+        byte = b;
+        rest = flat_map character t ++ (34 ∷ after);
+        split = tails x 92 xs (b ∷ (flat_map character t ++ (34 ∷ after))) eq;
+        special = e;
+        others = record { chars = t; after = after; split = refl; short = omega (arith, short); prints = ps; goes_on = subst P (longer front t b) h };
+      })
   open_char k front K x xs c b t after short p ps h false e eq =
       let P : List ℕ → Type 0 = λ f. K f after c in
       let same : b ≡ x = sym (heads x b xs (flat_map character t ++ (34 ∷ after)) eq) in
@@ -106,7 +111,7 @@ module _ {C : Type 0} where
       | Plain j e f p m ↦ absurd (both_ways (is_special 92) f refl)
     ];
     back = λ xs c h. close_char k front K h.rest c h.byte (special_prints h.byte h.special) h.others (92 ∷ xs)
-      (ap (λ (u : List ℕ). 92 ∷ u) (h.split ∙ ap (λ (u : List ℕ). h.byte ∷ u) h.others.split) ∙ ap (λ (u : List ℕ). (u ++ flat_map character h.others.chars) ++ (34 ∷ h.others.after)) (sym (special_character h.byte h.special)));
+        (ap (λ (u : List ℕ). 92 ∷ u) (h.split ∙ ap (λ (u : List ℕ). h.byte ∷ u) h.others.split) ∙ ap (λ (u : List ℕ). (u ++ flat_map character h.others.chars) ++ (34 ∷ h.others.after)) (sym (special_character h.byte h.special)));
   }
 
   chars_plain : (k : ℕ) (front : List ℕ) (K : List ℕ → Language C) (x : ℕ) → is_special x ≡ false → is_printable x ≡ true → Derives x (CharsOf (suc k) front K) (CharsOf k (front ++ x ∷ []) K)
@@ -117,7 +122,7 @@ module _ {C : Type 0} where
       | Plain j e f q m ↦ let P : ℕ → Type 0 = λ z. CharsOf z (front ++ x ∷ []) K xs c in subst P (sym (omega (arith, e))) m
     ];
     back = λ xs c h. close_char k front K xs c x p h (x ∷ xs)
-      (ap (λ (u : List ℕ). x ∷ u) h.split ∙ ap (λ (u : List ℕ). (u ++ flat_map character h.chars) ++ (34 ∷ h.after)) (sym (plain_character x s)));
+        (ap (λ (u : List ℕ). x ∷ u) h.split ∙ ap (λ (u : List ℕ). (u ++ flat_map character h.chars) ++ (34 ∷ h.after)) (sym (plain_character x s)));
   }
 
   chars_not_nil : (k : ℕ) (front : List ℕ) (K : List ℕ → Language C) (c : C) (t after : List ℕ) → [] ≡ flat_map character t ++ (34 ∷ after) → ⊥
@@ -139,9 +144,9 @@ module _ {C : Type 0} where
   escaped_derives : (k : ℕ) (front : List ℕ) (K : List ℕ → Language C) (x : ℕ) → is_special x ≡ true → Derives x (EscapedOf k front K) (CharsOf k (front ++ x ∷ []) K)
   escaped_derives k front K x s = record {
     into = λ xs c h.
-      let P : ℕ → Type 0 = λ z. CharsOf k (front ++ z ∷ []) K xs c in
-      let Q : List ℕ → Type 0 = λ ys. CharsOf k (front ++ h.byte ∷ []) K ys c in
-      subst P (sym (heads x h.byte xs h.rest h.split)) (subst Q (sym (tails x h.byte xs h.rest h.split)) h.others);
+        let P : ℕ → Type 0 = λ z. CharsOf k (front ++ z ∷ []) K xs c in
+        let Q : List ℕ → Type 0 = λ ys. CharsOf k (front ++ h.byte ∷ []) K ys c in
+        subst P (sym (heads x h.byte xs h.rest h.split)) (subst Q (sym (tails x h.byte xs h.rest h.split)) h.others);
     back = λ xs c h. record { byte = x; rest = xs; split = refl; special = s; others = h };
   }
 
@@ -161,17 +166,20 @@ module _ {C : Type 0} where
           special : (b : Bool) → is_special y ≡ b → Settles (EscapedOf k front K) (y ∷ ys) (cond b (chars_at k (front ++ y ∷ []) ys) (Err (length (y ∷ ys))) >>= λ t. f t.0 t.1)
           special true e = step y (EscapedOf k front K) (CharsOf k (front ++ y ∷ []) K) (escaped_derives k front K y e) ys (chars_at k (front ++ y ∷ []) ys >>= λ t. f t.0 t.1) (rec (front ++ y ∷ []) ys)
           special false e = stop y (EscapedOf k front K) (escaped_live k front K (r (front ++ 34 ∷ [])).live) (escaped_never k front K y e) ys
+
       plain_byte : (x == 34) ≡ false → (x == 92) ≡ false → (b : Bool) → is_printable x ≡ b → Settles (CharsOf (suc k) front K) (x ∷ xs) (cond b (chars_at k (front ++ x ∷ []) xs) (Err (length (x ∷ xs))) >>= λ t. f t.0 t.1)
       plain_byte n m true e =
           step x (CharsOf (suc k) front K) (CharsOf k (front ++ x ∷ []) K) (chars_plain k front K x (ap (λ b. b || (x == 92)) n ∙ m) e) xs (chars_at k (front ++ x ∷ []) xs >>= λ t. f t.0 t.1) (rec (front ++ x ∷ []) xs)
       plain_byte n m false e =
           stop x (CharsOf (suc k) front K) (chars_live (suc k) front K (r front).live)
           (λ ys c h. elim (chars_open (suc k) front K x ys c h) [ Quote q w ↦ eqb-false x 34 n q | Escape j q p w ↦ eqb-false x 92 m p | Plain j q p s w ↦ both_ways (is_printable x) e s ]) xs
+
       escape_byte : (x == 34) ≡ false → (b : Bool) → (x == 92) ≡ b → Settles (CharsOf (suc k) front K) (x ∷ xs) (cond b (escaped_at (chars_at k) front xs) (cond (is_printable x) (chars_at k (front ++ x ∷ []) xs) (Err (length (x ∷ xs)))) >>= λ t. f t.0 t.1)
       escape_byte n true e =
           let P : ℕ → Type 0 = λ y. Settles (CharsOf (suc k) front K) (y ∷ xs) (escaped_at (chars_at k) front xs >>= λ t. f t.0 t.1) in
           subst P (sym (eqb-true x 92 e)) (step 92 (CharsOf (suc k) front K) (EscapedOf k front K) (chars_escape k front K) xs (escaped_at (chars_at k) front xs >>= λ t. f t.0 t.1) (escaped xs))
       escape_byte n false e = plain_byte n e (is_printable x) refl
+
       quote_byte : (b : Bool) → (x == 34) ≡ b → Settles (CharsOf (suc k) front K) (x ∷ xs) (cond b (Ok (read front xs)) (cond (x == 92) (escaped_at (chars_at k) front xs) (cond (is_printable x) (chars_at k (front ++ x ∷ []) xs) (Err (length (x ∷ xs))))) >>= λ t. f t.0 t.1)
       quote_byte true e =
           let P : ℕ → Type 0 = λ y. Settles (CharsOf (suc k) front K) (y ∷ xs) (f front xs) in
@@ -196,22 +204,23 @@ module _ {C : Type 0} where
   chars_reads k K f r = record { live = chars_live k [] K (r []).live; settles = chars_settles k [] K f r }
 
   text_same : (K : List ℕ → Language C) → Same (Lit (34 ∷ []) (CharsOf 64 [] K)) (text ▸ K)
-  text_same K =
-      (λ xs c h. record {
-        front = 34 ∷ flat_map character h.goes_on.chars ++ 34 ∷ [];
-        after = h.goes_on.after;
-        value = h.goes_on.chars;
-        split = h.split ∙ ap (λ (u : List ℕ). u ++ h.after) h.word ∙ ap (λ (u : List ℕ). 34 ∷ u) (h.goes_on.split ∙ sym (append_assoc (flat_map character h.goes_on.chars) (34 ∷ []) h.goes_on.after));
-        stands = (refl, and_from _ _ (le-leb (length h.goes_on.chars) 64 h.goes_on.short) h.goes_on.prints);
-        goes_on = h.goes_on.goes_on;
-      },
-      λ xs c h. let p = and_parts (leb (length h.value) 64) (list_all is_printable h.value) h.stands.1 in record {
-        front = 34 ∷ [];
-        after = flat_map character h.value ++ (34 ∷ h.after);
-        split = h.split ∙ ap (λ (u : List ℕ). u ++ h.after) h.stands.0 ∙ ap (λ (u : List ℕ). 34 ∷ u) (append_assoc (flat_map character h.value) (34 ∷ []) h.after);
-        word = refl;
-        goes_on = record { chars = h.value; after = h.after; split = refl; short = leb-true (length h.value) 64 p.0; prints = p.1; goes_on = h.goes_on };
-      })
+  text_same K = (
+    λ xs c h. record {
+      front = 34 ∷ flat_map character h.goes_on.chars ++ 34 ∷ [];
+      after = h.goes_on.after;
+      value = h.goes_on.chars;
+      split = h.split ∙ ap (λ (u : List ℕ). u ++ h.after) h.word ∙ ap (λ (u : List ℕ). 34 ∷ u) (h.goes_on.split ∙ sym (append_assoc (flat_map character h.goes_on.chars) (34 ∷ []) h.goes_on.after));
+      stands = (refl, and_from _ _ (le-leb (length h.goes_on.chars) 64 h.goes_on.short) h.goes_on.prints);
+      goes_on = h.goes_on.goes_on;
+    },
+    λ xs c h. let p = and_parts (leb (length h.value) 64) (list_all is_printable h.value) h.stands.1 in record {
+      front = 34 ∷ [];
+      after = flat_map character h.value ++ (34 ∷ h.after);
+      split = h.split ∙ ap (λ (u : List ℕ). u ++ h.after) h.stands.0 ∙ ap (λ (u : List ℕ). 34 ∷ u) (append_assoc (flat_map character h.value) (34 ∷ []) h.after);
+      word = refl;
+      goes_on = record { chars = h.value; after = h.after; split = refl; short = leb-true (length h.value) 64 p.0; prints = p.1; goes_on = h.goes_on };
+    },
+  )
 
   text_step : (f : List ℕ → List ℕ → Result C ℕ) (r : Result (List ℕ) ℕ) → ((r >>= λ rest. chars_at 64 [] rest) >>= λ t. f t.0 t.1) ≡ (r >>= λ rest. (chars_at 64 [] rest >>= λ t. f t.0 t.1))
   text_step f (Ok x) = refl
@@ -235,10 +244,10 @@ module _ {C : Type 0} where
       let words : Language value_type.Value = text ▸ λ t. stands_for (Words t) in
       let numbers : Language value_type.Value = number ▸ λ n. stands_for (Number n) in
       let back : Same (value ▸ K) (valued K) =
-          same_trans (value ▸ K) ((words ▸ K) ⊕ (numbers ▸ K)) (valued K) (with_or words numbers K)
-          (same_or (words ▸ K) (numbers ▸ K) (text ▸ λ t. K (Words t)) (number ▸ λ n. K (Number n))
-          (same_trans (words ▸ K) (text ▸ λ t. (stands_for (Words t) ▸ K)) (text ▸ λ t. K (Words t)) (with_with text (λ t. stands_for (Words t)) K) (same_with text (λ t. (stands_for (Words t) ▸ K)) (λ t. K (Words t)) (λ t. with_stands (Words t) K)))
-          (same_trans (numbers ▸ K) (number ▸ λ n. (stands_for (Number n) ▸ K)) (number ▸ λ n. K (Number n)) (with_with number (λ n. stands_for (Number n)) K) (same_with number (λ n. (stands_for (Number n) ▸ K)) (λ n. K (Number n)) (λ n. with_stands (Number n) K)))) in
+      same_trans (value ▸ K) ((words ▸ K) ⊕ (numbers ▸ K)) (valued K) (with_or words numbers K)
+      (same_or (words ▸ K) (numbers ▸ K) (text ▸ λ t. K (Words t)) (number ▸ λ n. K (Number n))
+      (same_trans (words ▸ K) (text ▸ λ t. (stands_for (Words t) ▸ K)) (text ▸ λ t. K (Words t)) (with_with text (λ t. stands_for (Words t)) K) (same_with text (λ t. (stands_for (Words t) ▸ K)) (λ t. K (Words t)) (λ t. with_stands (Words t) K)))
+      (same_trans (numbers ▸ K) (number ▸ λ n. (stands_for (Number n) ▸ K)) (number ▸ λ n. K (Number n)) (with_with number (λ n. stands_for (Number n)) K) (same_with number (λ n. (stands_for (Number n) ▸ K)) (λ n. K (Number n)) (λ n. with_stands (Number n) K)))) in
       (back.1, back.0)
 
   text_begins_by : (K : List ℕ → Language C) → BeginsBy (λ b. b == 34) (text ▸ K)
@@ -255,9 +264,9 @@ module _ {C : Type 0} where
   unfolding value_at
   value_reads K f a r =
       let both = or_reads (λ b. b == 34) (text ▸ λ t. K (Words t)) (number ▸ λ n. K (Number n)) (λ xs. text_at xs >>= λ t. f (Words t.0) t.1) (λ xs. number_at xs >>= λ n. f (Number n.0) n.1)
-          (text_begins_by (λ t. K (Words t))) (number_not_quote (λ n. K (Number n)))
-          (text_reads (λ t. K (Words t)) (λ t. f (Words t)) (λ t. r (Words t)))
-          (number_reads (λ n. K (Number n)) (λ n. f (Number n)) (λ n. a (Number n)) (λ n. r (Number n))) in
+      (text_begins_by (λ t. K (Words t))) (number_not_quote (λ n. K (Number n)))
+      (text_reads (λ t. K (Words t)) (λ t. f (Words t)) (λ t. r (Words t)))
+      (number_reads (λ n. K (Number n)) (λ n. f (Number n)) (λ n. a (Number n)) (λ n. r (Number n))) in
       reads_same (valued K) (value ▸ K) (valued_same K) (λ xs. value_at xs >>= λ v. f v.0 v.1)
       (record { live = both.live; settles = λ xs. let P : Result C ℕ → Type 0 = λ z. Settles (valued K) xs z in subst P (sym (value_step f xs (begins_with (λ b. b == 34) xs))) (both.settles xs) })
 

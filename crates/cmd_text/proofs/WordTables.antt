@@ -1,5 +1,5 @@
 -- Each table of words has each value, and none of its words begins another.
-use Rattle.std.proofs.Common.{◌≡◌, ℕ, Bool, true, not, ◌||◌, ◌==◌, List, get_or, refl, inl, inr}
+use Rattle.std.proofs.Common.{◌≡◌, ℕ, true, not, ◌||◌, ◌==◌, get_or, refl, inl, inr}
 use Rattle.std.specs.List.{list_all}
 use Rattle.cmd_text.specs.Words.{kind_word, attr_word, event_word, place_word, config_word}
 use Rattle.cmd_text.specs.Productions.{is_space}

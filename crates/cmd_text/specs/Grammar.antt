@@ -1,5 +1,5 @@
 -- The command grammar: which line stands for which command.
-use Rattle.std.specs.Prelude.{◌≡◌, ℕ, ◌≤◌, List, [], ◌++◌, length, take, codes, ◌⊎◌, Bool, IsTrue}
+use Rattle.std.specs.Prelude.{ℕ, ◌≤◌, List, [], ◌++◌, length, take}
 use Rattle.cmd_text.specs.declared.commands.Command.{Command}
 use Rattle.cmd_text.specs.declared.commands.Command.TheVariants.{New, Set, Get, Place, Lift, ColumnConfig, RowConfig, Link, Unlink, Bind, Unbind, OpenWindow, CloseWindow, TopWindow, Mode, Admit, Leave, SendFrame, DropWidget, Poll}
 use Rattle.cmd_text.specs.declared.methods.Method.{Method}

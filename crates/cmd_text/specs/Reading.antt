@@ -1,7 +1,7 @@
 -- How the private functions read a line from left to right. Only their contracts cite this, and none of it needs
 -- to be believed: `parse` promises the grammar, and that this reading meets it is proved. What is read is Ok with
 -- the bytes after it, or Err with how many bytes were left where reading stopped.
-use Rattle.std.specs.Prelude.{◌≡◌, ℕ, zero, suc, ◌+◌, ◌-◌, ◌*◌, ℤ, pos, neg_ℤ, min, Bool, true, false, ◌&&◌, ◌||◌, ◌==◌, nat_lt, if◌then◌else◌, List, [], ◌∷◌, ◌++◌, length, take, drop, codes, Result, Ok, Err}
+use Rattle.std.specs.Prelude.{◌≡◌, ℕ, zero, suc, ℤ, pos, neg_ℤ, min, Bool, false, ◌&&◌, ◌||◌, ◌==◌, if◌then◌else◌, List, [], ◌∷◌, ◌++◌, length, take, drop, codes, Result, Ok, Err}
 use Rattle.std.specs.Str.{bytes_eq}
 use Rattle.kind_core.specs.Bytes.{is_letter, is_name_byte, is_digit, is_printable}
 use Rattle.kind_core.specs.declared.kinds.Kind.{Kind}

@@ -1,7 +1,7 @@
 -- The texts of replies, and the numbers of errors.
 use Rattle.std.specs.Prelude.{ℕ, ℤ, pos, List, [], ◌∷◌, ◌++◌, codes}
 use Rattle.std.specs.List.{flat_map}
-use Rattle.std.specs.Fmt.{decimal, signed_decimal}
+use Rattle.std.specs.Fmt.{signed_decimal}
 use Rattle.cmd_text.specs.declared.replies.Reply.{Reply}
 use Rattle.cmd_text.specs.declared.replies.Reply.TheVariants.{Done, Number, Words, Event, NoEvent, Lost, Refused}
 use Rattle.cmd_text.specs.declared.replies.Refusal.{Refusal}

@@ -5,24 +5,26 @@
 mod commands;
 mod frames;
 mod inputs;
+pub mod laws;
 mod lists;
 mod methods;
+mod optioning;
+mod parsing;
 mod printing;
 mod putting;
 mod reading;
 mod replies;
 mod replying;
-mod parsing;
 mod words;
-
-pub mod laws;
-mod optioning;
 
 pub use commands::{Command, ConfigOption, PlaceOption};
 pub use frames::is_frame_line;
 pub use inputs::{Drew, Input};
 pub use lists::Options;
-pub use printing::print;
 pub use parsing::{BadLine, parse};
+pub use printing::print;
 pub use replies::{Refusal, Reply};
 pub use replying::print_reply;
+
+#[cfg(test)]
+mod tests;

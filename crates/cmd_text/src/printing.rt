@@ -201,7 +201,12 @@ fn of_set(name: Name, options: &[(Attr, Value)]) -> ArrayString<1536>
 }
 
 /// `columnconfig` and `rowconfig`.
-fn of_config(name: Name, call: &str, index: i32, options: &[(ConfigOption, i32)]) -> ArrayString<1536>
+fn of_config(
+    name: Name,
+    call: &str,
+    index: i32,
+    options: &[(ConfigOption, i32)],
+) -> ArrayString<1536>
     requires call { length call.now ≤ 16 }
     requires few { length options.now ≤ 8 }
     ensures { result.bytes ≡ name ++ call.now ++ signed_decimal index ++ codes ", " ++ printed_options printed_config options.now ++ codes ")" }

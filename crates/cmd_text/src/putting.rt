@@ -59,8 +59,8 @@ pub(crate) fn put_count<const CAP: usize>(text: &mut ArrayString<CAP>, n: u32)
     ensures bytes { text.new.bytes ≡ text.old.bytes ++ decimal n }
     ensures len { array_string_len text.new ≤ array_string_len text.old + 10 }
 {
-    let mut buffer = Buffer::new();
-    text.push_str(buffer.format(n));
+    let mut digits = Buffer::new();
+    text.push_str(digits.format(n));
 }
 
 /// Puts a text in quotes, with a `\` before each quote and each `\`.

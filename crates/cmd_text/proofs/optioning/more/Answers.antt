@@ -1,7 +1,7 @@
 -- each turn takes one option, as reading does
-use Rattle.std.proofs.Common.{◌≡◌, ℕ, suc, ◌-◌, ◌≤◌, true, false, ◌==◌, [], ◌∷◌, ◌++◌, length, Ok, Err, sym, ap, ◌∙◌, arith, Bor, List, length-append}
+use Rattle.std.proofs.Common.{◌≡◌, ◌-◌, true, false, length, sym, ◌∙◌}
 use Rattle.std.proofs.lemmas.Bool.{eqb-false}
-use Rattle.cmd_text.specs.Reading.{skip_at, option_comes, more_at}
+use Rattle.cmd_text.specs.Reading.{skip_at, option_comes}
 use Rattle.cmd_text.proofs.OptionSteps.{more_end, more_pushed, more_unread}
 use Rattle.cmd_text.proofs.optioning.more.Goals as goal
 

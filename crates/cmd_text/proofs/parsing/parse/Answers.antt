@@ -1,5 +1,5 @@
 -- what was read is what the grammar says
-use Rattle.std.proofs.Common.{◌≡◌, ap, Result, Ok}
+use Rattle.std.proofs.Common.{ap, Result, Ok}
 use Rattle.cmd_text.specs.declared.commands.Command.{Command}
 use Rattle.cmd_text.specs.declared.parsing.BadLine.{BadLine}
 use Rattle.cmd_text.proofs.Places.{found_line, only_line, no_line, left_within, place_is}

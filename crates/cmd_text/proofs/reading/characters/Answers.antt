@@ -1,10 +1,10 @@
 -- each turn takes one character, as reading does
-use Rattle.std.proofs.Common.{◌≡◌, ℕ, suc, ◌-◌, ◌≤◌, true, false, ◌==◌, List, [], ◌∷◌, ◌++◌, length, drop, Result, Ok, sym, ap, ◌∙◌, arith}
+use Rattle.std.proofs.Common.{◌≡◌, ℕ, suc, ◌-◌, true, false, ◌==◌, List, length, drop, Result, Ok, sym, ap, ◌∙◌, arith}
 use Rattle.std.specs.List.{list_all}
 use Rattle.std.proofs.lemmas.Bool.{eqb-false}
 use Rattle.kind_core.specs.Bytes.{is_printable}
-use Rattle.cmd_text.specs.Reading.{begins_with, char_at, chars_at}
-use Rattle.cmd_text.proofs.Characters.{chars_end, chars_step, chars_fail, all_push, text_made}
+use Rattle.cmd_text.specs.Reading.{begins_with, chars_at}
+use Rattle.cmd_text.proofs.Characters.{chars_end, chars_step, chars_fail, all_push}
 use Rattle.cmd_text.proofs.reading.characters.Goals as goal
 
 pub loop-rest-init : goal.loop-rest-init

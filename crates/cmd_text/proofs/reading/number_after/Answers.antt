@@ -1,5 +1,5 @@
 -- seven digits are below 2 ^ 30
-use Rattle.std.proofs.Common.{arith, ◌≤◌, ◌*◌, ◌^◌, ◌+◌}
+use Rattle.std.proofs.Common.{arith}
 use Rattle.cmd_text.proofs.Runs.{small_power}
 use Rattle.cmd_text.proofs.reading.number_after.Goals as goal
 
