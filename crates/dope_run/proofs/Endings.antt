@@ -1,16 +1,13 @@
 -- How a run ends, from what its player did.
-use Rattle.std.proofs.Common.{◌≡◌, ◌≢◌, ◌⊎◌, ℕ, ◌+◌, ◌≤◌, List, [], ◌∷◌, ◌++◌, length, take, Option, Some, None, refl, sym, ap, subst, ◌∙◌, inl, inr, arith, append-nil, append_assoc, length-append}
-use Rattle.std.specs.List.{All}
+use Rattle.std.proofs.Common.{◌≡◌, ◌≢◌, ℕ, ◌+◌, ◌≤◌, List, [], ◌∷◌, ◌++◌, length, take, Option, Some, None, refl, sym, ap, subst, ◌∙◌, inl, inr, arith, append-nil, append_assoc, length-append}
 use Rattle.std.specs.Io.KnownBytes.{Appends, Consumes, Keeps, IsAtEnd}
-use Rattle.std.proofs.lemmas.List.{map-append}
 use Rattle.outside_io.specs.Sink.{AppendsFront}
 use Rattle.outside_io.proofs.Told.{Consumes-none, Consumes-append, Consumes-keeps}
 use Rattle.desk_model.specs.declared.shape.Shape.{Shape}
-use Rattle.desk_model.specs.Desk.{opening_desk}
+use Rattle.desk_model.proofs.Opening.{shape-opening, windows-opening}
 use Rattle.desk_model.specs.State.{State, IsState, opening}
-use Rattle.desk_model.specs.Run.{Moment, Run, events_of, state_after}
-use Rattle.desk_model.specs.Laws.{KeepsLaws}
-use Rattle.desk_model.proofs.Runs.{Run-append, IsState-run, KeepsLaws-run}
+use Rattle.desk_model.specs.Run.{Moment, state_after}
+use Rattle.desk_model.proofs.Runs.{IsState-run, KeepsLaws-run}
 use Rattle.desk_model.proofs.Progress.{some_run}
 use Rattle.dope_run.specs.declared.setup.Setup.{Setup}
 use Rattle.dope_run.specs.declared.setup.Setup.TheVariants.{Fresh}
@@ -20,24 +17,31 @@ use Rattle.dope_run.specs.Cutting.{status_of}
 use Rattle.dope_run.specs.declared.status.Status.{Status}
 use Rattle.dope_run.specs.declared.status.Status.TheVariants.{Done, ReadFault, WriteFault, Usage, BadScript, NoMemory, TooMuch}
 use Rattle.dope_run.specs.declared.player.Player.{Player}
-use Rattle.dope_run.specs.Framing.{Item, IsItem, IsLine, IsPartial, AreWhole, IsUnended, bytes_of, wants_of, script_limit}
-use Rattle.dope_run.specs.Script.{read_script, BeginsOff, EndsOff, EndsUnread}
+use Rattle.dope_run.specs.Framing.{Item, IsLine, AreWhole, IsUnended, bytes_of, wants_of, script_limit}
+use Rattle.dope_run.specs.Script.{EndsUnread}
 use Rattle.dope_run.specs.Line.{line_order}
 use Rattle.dope_run.specs.Ready.{IsReady}
 use Rattle.dope_run.specs.Text.{text_of}
-use Rattle.dope_run.specs.Transcript.{Plays, Covers, Gains, Leaves, IsReached, Ended, AreCutShort, AreLinesOf, AreFollowedByOff, IsRefused}
-use Rattle.dope_run.specs.Playing.{IsPlayer, Fed, EndsSo, LineDone, LineUnread, IsFresh, Going, Finished, LineCut, bare_item}
+use Rattle.dope_run.specs.Transcript.{Plays, Covers, Gains, Leaves, Ended, AreCutShort, IsRefused}
+use Rattle.dope_run.specs.Playing.{IsPlayer, Fed, LineDone, LineUnread, IsFresh, Going, Finished, LineCut, bare_item}
 use Rattle.dope_run.proofs.Gaining.{text_of-append, AppendsFront-longer, Gains-after, IsReached-longer, Leaves-after}
 use Rattle.dope_run.proofs.Reading.{Plays-append}
-use Rattle.dope_run.proofs.Feedings.{IsLine-nil, fed_none, fed_after, bytes_of-append, bytes_of-bare}
+use Rattle.dope_run.proofs.Feedings.{IsLine-nil, fed_none, fed_after, bytes_of-append}
 use Rattle.std.proofs.Math.Seq.{take-append_seam}
 use Rattle.dope_run.proofs.Framings.{lines_of}
 
 -- what is known of a run, put together
 ended : (shape : Shape) (status : Status) (source_old source_new sink_old sink_new : Option (List ℕ)) (state : State) (taken : List ℕ) (items : List Item) (later : Setup) (moments : List Moment) → IsState (opening shape) → Consumes source_old source_new taken → Covers status taken source_new later items → Plays Fresh (opening shape) items moments later → Gains status sink_old sink_new (text_of moments) → Leaves status state (opening shape) moments → Ended shape status source_old source_new sink_old sink_new state
 ended shape status source_old source_new sink_old sink_new state taken items later moments valid consumes covers plays gains leaves = record {
-  taken = taken; items = items; later = later; moments = moments;
-  consumes = consumes; covers = covers; plays = plays; gains = gains; leaves = leaves;
+  taken = taken;
+  items = items;
+  later = later;
+  moments = moments;
+  consumes = consumes;
+  covers = covers;
+  plays = plays;
+  gains = gains;
+  leaves = leaves;
   laws = KeepsLaws-run (opening shape) moments valid plays.run;
 }
 
@@ -48,7 +52,7 @@ spelled_from shape status start player bytes before after fresh fed = ap (λ lin
 
 plays_from : (shape : Shape) (status : Status) (start player : Player) (bytes : List ℕ) (before after : Option (List ℕ)) → IsFresh shape start → (fed : Fed status start bytes player before after) → Plays Fresh (opening shape) fed.items fed.moments fed.later
 plays_from shape status start player bytes before after fresh fed =
-  subst (λ setup. Plays setup (opening shape) fed.items fed.moments fed.later) fresh.setup
+    subst (λ setup. Plays setup (opening shape) fed.items fed.moments fed.later) fresh.setup
     (subst (λ from. Plays start.setup from fed.items fed.moments fed.later) fresh.state fed.plays)
 
 leaves_from : (shape : Shape) (status : Status) (start player : Player) (bytes : List ℕ) (before after : Option (List ℕ)) → IsFresh shape start → (fed : Fed status start bytes player before after) → Leaves status player.server.state (opening shape) fed.moments
@@ -83,8 +87,8 @@ cut_short shape start player bytes before after fresh valid fed = record {
 -- the source failed
 pub ended_read_fault : (shape : Shape) (start player : Player) (count : ℕ) (s0 s1 s2 k0 k1 : Option (List ℕ)) → IsFresh shape start → IsPlayer player → Going start player count s0 s1 k0 k1 → Keeps s1 s2 → count ≤ script_limit → Ended shape ReadFault s0 s2 k0 k1 player.server.state
 ended_read_fault shape start player count s0 s1 s2 k0 k1 fresh valid going keeps few =
-  let fed = going.fed in
-  ended shape ReadFault s0 s2 k0 k1 player.server.state going.taken fed.items fed.later fed.moments fresh.valid
+    let fed = going.fed in
+    ended shape ReadFault s0 s2 k0 k1 player.server.state going.taken fed.items fed.later fed.moments fresh.valid
     (subst (Consumes s0 s2) (append-nil going.taken) (Consumes-append s0 s1 s2 going.taken [] going.consumes (Consumes-keeps s1 s2 keeps)))
     (cut_short shape start player going.taken k0 k1 fresh valid fed, omega (arith, going.counted))
     (plays_from shape Done start player going.taken k0 k1 fresh fed)
@@ -94,9 +98,9 @@ ended_read_fault shape start player count s0 s1 s2 k0 k1 fresh valid going keeps
 -- one byte more than a script may have was taken
 pub ended_too_much : (shape : Shape) (start player : Player) (bytes : List ℕ) (s0 s1 s2 k0 k1 : Option (List ℕ)) → IsFresh shape start → IsPlayer player → Going start player script_limit s0 s1 k0 k1 → Consumes s1 s2 bytes → length bytes ≡ 1 → Ended shape TooMuch s0 s2 k0 k1 player.server.state
 ended_too_much shape start player bytes s0 s1 s2 k0 k1 fresh valid going consumes one =
-  let fed = going.fed in
-  let front : take script_limit (going.taken ++ bytes) ≡ going.taken = subst (λ n. take n (going.taken ++ bytes) ≡ going.taken) going.counted (take-append_seam going.taken bytes) in
-  ended shape TooMuch s0 s2 k0 k1 player.server.state (going.taken ++ bytes) fed.items fed.later fed.moments fresh.valid
+    let fed = going.fed in
+    let front : take script_limit (going.taken ++ bytes) ≡ going.taken = subst (λ n. take n (going.taken ++ bytes) ≡ going.taken) going.counted (take-append_seam going.taken bytes) in
+    ended shape TooMuch s0 s2 k0 k1 player.server.state (going.taken ++ bytes) fed.items fed.later fed.moments fresh.valid
     (Consumes-append s0 s1 s2 going.taken bytes going.consumes consumes)
     (subst (λ xs. AreCutShort xs fed.items) (sym front) (cut_short shape start player going.taken k0 k1 fresh valid fed), omega (arith, length-append going.taken bytes, going.counted))
     (plays_from shape Done start player going.taken k0 k1 fresh fed)
@@ -106,14 +110,15 @@ ended_too_much shape start player bytes s0 s1 s2 k0 k1 fresh valid going consume
 -- a line is off the grammar
 pub ended_off : (shape : Shape) (line : ℕ) (start between player : Player) (count : ℕ) (bytes : List ℕ) (s0 s1 s2 k0 k1 k2 : Option (List ℕ)) → IsFresh shape start → Going start between count s0 s1 k0 k1 → Consumes s1 s2 bytes → Fed (BadScript line) between bytes player k1 k2 → count + length bytes ≤ script_limit → Ended shape (BadScript line) s0 s2 k0 k2 player.server.state
 ended_off shape line start between player count bytes s0 s1 s2 k0 k1 k2 fresh going consumes off few =
-  let status : Status = BadScript line in
-  let fed = fed_after status start between player going.taken bytes k0 k1 k2 going.fed off in
-  let all = going.taken ++ bytes in
-  ended shape status s0 s2 k0 k2 player.server.state all fed.items fed.later fed.moments fresh.valid
-    (Consumes-append s0 s1 s2 going.taken bytes going.consumes consumes)
-    (record { rest = fed.rest; spelled = spelled_from shape status start player all k0 k2 fresh fed; off = inl fed.ends.0 },
-     omega (arith, fed.ends.1, lines_from shape status start player all k0 k2 fresh fed),
-     omega (arith, length-append going.taken bytes, going.counted))
+    let status : Status = BadScript line in
+    let fed = fed_after status start between player going.taken bytes k0 k1 k2 going.fed off in
+    let all = going.taken ++ bytes in
+    ended shape status s0 s2 k0 k2 player.server.state all fed.items fed.later fed.moments fresh.valid
+    (Consumes-append s0 s1 s2 going.taken bytes going.consumes consumes) (
+      record { rest = fed.rest; spelled = spelled_from shape status start player all k0 k2 fresh fed; off = inl fed.ends.0 },
+      omega (arith, fed.ends.1, lines_from shape status start player all k0 k2 fresh fed),
+      omega (arith, length-append going.taken bytes, going.counted),
+    )
     (plays_from shape status start player all k0 k2 fresh fed)
     fed.gains
     (leaves_from shape status start player all k0 k2 fresh fed)
@@ -121,23 +126,25 @@ ended_off shape line start between player count bytes s0 s1 s2 k0 k1 k2 fresh go
 -- the sink failed: the lines behind would have been played as well
 pub ended_unwritten : (shape : Shape) (start between player : Player) (count : ℕ) (bytes : List ℕ) (s0 s1 s2 k0 k1 k2 : Option (List ℕ)) → IsFresh shape start → Going start between count s0 s1 k0 k1 → Consumes s1 s2 bytes → Fed WriteFault between bytes player k1 k2 → count + length bytes ≤ script_limit → Ended shape WriteFault s0 s2 k0 k2 player.server.state
 ended_unwritten shape start between player count bytes s0 s1 s2 k0 k1 k2 fresh going consumes cut few =
-  let fed = fed_after WriteFault start between player going.taken bytes k0 k1 k2 going.fed cut in
-  let all = going.taken ++ bytes in
-  let played = plays_from shape WriteFault start player all k0 k2 fresh fed in
-  let behind = lines_of fed.later fed.rest in
-  let more = some_run (state_after (opening shape) fed.moments) behind.events (IsState-run (opening shape) fed.moments fresh.valid played.run) in
-  let further : Plays fed.later (state_after (opening shape) fed.moments) behind.items more.0 behind.later =
-        record { whole = behind.whole; script = behind.script ∙ ap (λ es. Some (behind.later, es)) (sym more.1); run = more.2 } in
-  ended shape WriteFault s0 s2 k0 k2 player.server.state all (fed.items ++ behind.items) behind.later (fed.moments ++ more.0) fresh.valid
-    (Consumes-append s0 s1 s2 going.taken bytes going.consumes consumes)
-    (inr (record {
-       rest = behind.rest;
-       spelled = spelled_from shape WriteFault start player all k0 k2 fresh fed
-         ∙ ap (λ xs. bytes_of fed.items ++ xs) behind.spelled
-         ∙ sym (append_assoc (bytes_of fed.items) (bytes_of behind.items) behind.rest)
-         ∙ ap (λ xs. xs ++ behind.rest) (sym (bytes_of-append fed.items behind.items));
-       ends = behind.ends;
-     }), omega (arith, length-append going.taken bytes, going.counted))
+    let fed = fed_after WriteFault start between player going.taken bytes k0 k1 k2 going.fed cut in
+    let all = going.taken ++ bytes in
+    let played = plays_from shape WriteFault start player all k0 k2 fresh fed in
+    let behind = lines_of fed.later fed.rest in
+    let more = some_run (state_after (opening shape) fed.moments) behind.events (IsState-run (opening shape) fed.moments fresh.valid played.run) in
+    let further : Plays fed.later (state_after (opening shape) fed.moments) behind.items more.0 behind.later =
+    record { whole = behind.whole; script = behind.script ∙ ap (λ es. Some (behind.later, es)) (sym more.1); run = more.2 } in
+    ended shape WriteFault s0 s2 k0 k2 player.server.state all (fed.items ++ behind.items) behind.later (fed.moments ++ more.0) fresh.valid
+    (Consumes-append s0 s1 s2 going.taken bytes going.consumes consumes) (
+      inr (record {
+        rest = behind.rest;
+        spelled = spelled_from shape WriteFault start player all k0 k2 fresh fed
+            ∙ ap (λ xs. bytes_of fed.items ++ xs) behind.spelled
+            ∙ sym (append_assoc (bytes_of fed.items) (bytes_of behind.items) behind.rest)
+            ∙ ap (λ xs. xs ++ behind.rest) (sym (bytes_of-append fed.items behind.items));
+        ends = behind.ends;
+      }),
+      omega (arith, length-append going.taken bytes, going.counted),
+    )
     (Plays-append Fresh (opening shape) fed.items behind.items fed.moments more.0 fed.later behind.later played further)
     (subst (AppendsFront k0 k2) (sym (text_of-append fed.moments more.0)) (AppendsFront-longer k0 k2 _ _ fed.gains))
     (IsReached-longer player.server.state (opening shape) fed.moments more.0 (leaves_from shape WriteFault start player all k0 k2 fresh fed))
@@ -146,13 +153,13 @@ ended_unwritten shape start between player count bytes s0 s1 s2 k0 k1 k2 fresh g
 
 at_end : (s0 s1 s2 : Option (List ℕ)) (taken bytes : List ℕ) → Consumes s0 s1 taken → Consumes s1 s2 bytes → bytes ≡ [] → Consumes s0 s2 taken
 at_end s0 s1 s2 taken bytes first second none =
-  subst (Consumes s0 s2) (ap (λ xs. taken ++ xs) none ∙ append-nil taken) (Consumes-append s0 s1 s2 taken bytes first second)
+    subst (Consumes s0 s2) (ap (λ xs. taken ++ xs) none ∙ append-nil taken) (Consumes-append s0 s1 s2 taken bytes first second)
 
 -- and no line is open
 pub ended_done : (shape : Shape) (start player : Player) (count : ℕ) (bytes : List ℕ) (s0 s1 s2 k0 k1 : Option (List ℕ)) → IsFresh shape start → Going start player count s0 s1 k0 k1 → Consumes s1 s2 bytes → bytes ≡ [] → IsAtEnd s2 → player.line.items ≡ [] → count ≤ script_limit → Ended shape Done s0 s2 k0 k1 player.server.state
 ended_done shape start player count bytes s0 s1 s2 k0 k1 fresh going consumes none end no_line few =
-  let fed = going.fed in
-  ended shape Done s0 s2 k0 k1 player.server.state going.taken fed.items fed.later fed.moments fresh.valid
+    let fed = going.fed in
+    ended shape Done s0 s2 k0 k1 player.server.state going.taken fed.items fed.later fed.moments fresh.valid
     (at_end s0 s1 s2 going.taken bytes going.consumes consumes none)
     (inl (spelled_from shape Done start player going.taken k0 k1 fresh fed ∙ ap (λ xs. bytes_of fed.items ++ xs) (fed.ends.1 ∙ no_line) ∙ append-nil (bytes_of fed.items)), end, omega (arith, going.counted))
     (plays_from shape Done start player going.taken k0 k1 fresh fed)
@@ -166,22 +173,22 @@ no_payload line = refl
 -- the last line was played, or its writing broke off
 ended_last : (shape : Shape) (status : Status) (start player last : Player) (count : ℕ) (bytes : List ℕ) (s0 s1 s2 k0 k1 k2 : Option (List ℕ)) → ((taken : List ℕ) (items : List Item) (later : Setup) → AreWhole taken items → length taken ≤ script_limit → Covers status taken s2 later items) → IsFresh shape start → Going start player count s0 s1 k0 k1 → Consumes s1 s2 bytes → bytes ≡ [] → count ≤ script_limit → player.line.items ≢ [] → LineDone status player last k1 k2 → Ended shape status s0 s2 k0 k2 last.server.state
 ended_last shape status start player last count bytes s0 s1 s2 k0 k1 k2 covers fresh going consumes none few some done =
-  let fed = going.fed in
-  let front = plays_from shape Done start player going.taken k0 k1 fresh fed in
-  let state : player.server.state ≡ state_after (opening shape) fed.moments = leaves_from shape Done start player going.taken k0 k1 fresh fed in
-  let item = bare_item player.line.items in
-  let behind : Plays fed.later (state_after (opening shape) fed.moments) (item ∷ []) done.moments last.setup =
-        subst (λ s. Plays s (state_after (opening shape) fed.moments) (item ∷ []) done.moments last.setup) (sym fed.ends.0)
-          (subst (λ s. Plays player.setup s (item ∷ []) done.moments last.setup) state done.plays) in
-  let whole : IsUnended going.taken (fed.items ++ item ∷ []) = record {
-        front = fed.items;
-        last = player.line.items;
-        listed = refl;
-        some = some;
-        no_payload = no_payload player.line.items;
-        spelled = spelled_from shape Done start player going.taken k0 k1 fresh fed ∙ ap (λ xs. bytes_of fed.items ++ xs) fed.ends.1;
-      } in
-  ended shape status s0 s2 k0 k2 last.server.state going.taken (fed.items ++ item ∷ []) last.setup (fed.moments ++ done.moments) fresh.valid
+    let fed = going.fed in
+    let front = plays_from shape Done start player going.taken k0 k1 fresh fed in
+    let state : player.server.state ≡ state_after (opening shape) fed.moments = leaves_from shape Done start player going.taken k0 k1 fresh fed in
+    let item = bare_item player.line.items in
+    let behind : Plays fed.later (state_after (opening shape) fed.moments) (item ∷ []) done.moments last.setup =
+    subst (λ s. Plays s (state_after (opening shape) fed.moments) (item ∷ []) done.moments last.setup) (sym fed.ends.0)
+    (subst (λ s. Plays player.setup s (item ∷ []) done.moments last.setup) state done.plays) in
+    let whole : IsUnended going.taken (fed.items ++ item ∷ []) = record {
+      front = fed.items;
+      last = player.line.items;
+      listed = refl;
+      some = some;
+      no_payload = no_payload player.line.items;
+      spelled = spelled_from shape Done start player going.taken k0 k1 fresh fed ∙ ap (λ xs. bytes_of fed.items ++ xs) fed.ends.1;
+    } in
+    ended shape status s0 s2 k0 k2 last.server.state going.taken (fed.items ++ item ∷ []) last.setup (fed.moments ++ done.moments) fresh.valid
     (at_end s0 s1 s2 going.taken bytes going.consumes consumes none)
     (covers going.taken (fed.items ++ item ∷ []) last.setup (inr whole) (omega (arith, going.counted)))
     (Plays-append Fresh (opening shape) fed.items (item ∷ []) fed.moments done.moments fed.later last.setup front behind)
@@ -191,34 +198,37 @@ ended_last shape status start player last count bytes s0 s1 s2 k0 k1 k2 covers f
 -- the last line is off the grammar
 ended_off_last : (shape : Shape) (line : ℕ) (start player last : Player) (count : ℕ) (bytes : List ℕ) (s0 s1 s2 k0 k1 k2 : Option (List ℕ)) → IsFresh shape start → IsPlayer player → Going start player count s0 s1 k0 k1 → Consumes s1 s2 bytes → bytes ≡ [] → IsAtEnd s2 → count ≤ script_limit → player.line.items ≢ [] → LineUnread line player last k1 k2 → Ended shape (BadScript line) s0 s2 k0 k2 last.server.state
 ended_off_last shape line start player last count bytes s0 s1 s2 k0 k1 k2 fresh valid going consumes none end few some unread =
-  let fed = going.fed in
-  let off : EndsUnread fed.later player.line.items = record {
-        is_line = valid.line;
-        some = some;
-        unread = subst (λ setup. line_order setup player.line.items ≡ None) (sym fed.ends.0) unread.unread;
-      } in
-  ended shape (BadScript line) s0 s2 k0 k2 last.server.state going.taken fed.items fed.later fed.moments fresh.valid
-    (at_end s0 s1 s2 going.taken bytes going.consumes consumes none)
-    (record {
-       rest = player.line.items;
-       spelled = spelled_from shape Done start player going.taken k0 k1 fresh fed ∙ ap (λ xs. bytes_of fed.items ++ xs) fed.ends.1;
-       off = inr (inl off, end);
-     }, omega (arith, unread.number, unread.counts, lines_from shape Done start player going.taken k0 k1 fresh fed), omega (arith, going.counted))
+    let fed = going.fed in
+    let off : EndsUnread fed.later player.line.items = record {
+      is_line = valid.line;
+      some = some;
+      unread = subst (λ setup. line_order setup player.line.items ≡ None) (sym fed.ends.0) unread.unread;
+    } in
+    ended shape (BadScript line) s0 s2 k0 k2 last.server.state going.taken fed.items fed.later fed.moments fresh.valid
+    (at_end s0 s1 s2 going.taken bytes going.consumes consumes none) (
+      record {
+        rest = player.line.items;
+        spelled = spelled_from shape Done start player going.taken k0 k1 fresh fed ∙ ap (λ xs. bytes_of fed.items ++ xs) fed.ends.1;
+        off = inr (inl off, end);
+      },
+      omega (arith, unread.number, unread.counts, lines_from shape Done start player going.taken k0 k1 fresh fed),
+      omega (arith, going.counted),
+    )
     (plays_from shape Done start player going.taken k0 k1 fresh fed)
     (subst (λ sink. Appends k0 sink (text_of fed.moments)) (sym unread.same_sink) fed.gains)
     (unread.same_state ∙ leaves_from shape Done start player going.taken k0 k1 fresh fed)
 
 pub ended_finish : (shape : Shape) (status : Status) (start player last : Player) (count : ℕ) (bytes : List ℕ) (s0 s1 s2 k0 k1 k2 : Option (List ℕ)) → IsFresh shape start → IsPlayer player → Going start player count s0 s1 k0 k1 → Consumes s1 s2 bytes → bytes ≡ [] → IsAtEnd s2 → count ≤ script_limit → Finished status player last k1 k2 → Ended shape status s0 s2 k0 k2 last.server.state
 ended_finish shape Done start player last count bytes s0 s1 s2 k0 k1 k2 fresh valid going consumes none end few (inl same) =
-  subst (λ sink. Ended shape Done s0 s2 k0 sink last.server.state) (sym same.2)
+    subst (λ sink. Ended shape Done s0 s2 k0 sink last.server.state) (sym same.2)
     (subst (λ (p : Player). Ended shape Done s0 s2 k0 k1 p.server.state) (sym same.1)
-      (ended_done shape start player count bytes s0 s1 s2 k0 k1 fresh going consumes none end same.0 few))
+    (ended_done shape start player count bytes s0 s1 s2 k0 k1 fresh going consumes none end same.0 few))
 ended_finish shape Done start player last count bytes s0 s1 s2 k0 k1 k2 fresh valid going consumes none end few (inr done) =
-  ended_last shape Done start player last count bytes s0 s1 s2 k0 k1 k2 (λ taken items later whole short. (whole, end, short)) fresh going consumes none few done.0 done.1
+    ended_last shape Done start player last count bytes s0 s1 s2 k0 k1 k2 (λ taken items later whole short. (whole, end, short)) fresh going consumes none few done.0 done.1
 ended_finish shape (BadScript line) start player last count bytes s0 s1 s2 k0 k1 k2 fresh valid going consumes none end few off =
-  ended_off_last shape line start player last count bytes s0 s1 s2 k0 k1 k2 fresh valid going consumes none end few off.0 off.1
+    ended_off_last shape line start player last count bytes s0 s1 s2 k0 k1 k2 fresh valid going consumes none end few off.0 off.1
 ended_finish shape WriteFault start player last count bytes s0 s1 s2 k0 k1 k2 fresh valid going consumes none end few cut =
-  ended_last shape WriteFault start player last count bytes s0 s1 s2 k0 k1 k2 (λ taken items later whole short. (inl whole, short)) fresh going consumes none few cut.0 cut.1
+    ended_last shape WriteFault start player last count bytes s0 s1 s2 k0 k1 k2 (λ taken items later whole short. (inl whole, short)) fresh going consumes none few cut.0 cut.1
 ended_finish shape ReadFault start player last count bytes s0 s1 s2 k0 k1 k2 fresh valid going consumes none end few no_end = absurd no_end
 ended_finish shape Usage start player last count bytes s0 s1 s2 k0 k1 k2 fresh valid going consumes none end few no_end = absurd no_end
 ended_finish shape NoMemory start player last count bytes s0 s1 s2 k0 k1 k2 fresh valid going consumes none end few no_end = absurd no_end
@@ -235,14 +245,6 @@ ended_cut shape (Unread line) = ended_off shape line
 ended_cut shape Unwritten = ended_unwritten shape
 
 -- ---- the opening
-
-pub shape-opening : (shape : Shape) → (opening shape).desk.shape ≡ shape
-unfolding opening opening_desk
-shape-opening shape = refl
-
-windows-opening : (shape : Shape) → (opening shape).desk.windows ≡ []
-unfolding opening opening_desk
-windows-opening shape = refl
 
 -- a player on a server that was just opened
 pub player_opened : (shape : Shape) (player : Player) → player.server.state ≡ opening shape → IsState player.server.state → player.setup ≡ Fresh → player.line.items ≡ [] → IsPlayer player

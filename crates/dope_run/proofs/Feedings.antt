@@ -1,7 +1,6 @@
 -- How a player goes through bytes, one after another.
 use Rattle.std.proofs.lemmas.Bool.Decides.{nat_tests}
-use Rattle.std.proofs.Common.{Result, Ok, Err, MatchResult, ◌≡◌, ◌≢◌, ◌⊎◌, ◌==◌, ℕ, ◌+◌, ◌≤◌, ◌<◌, false, ◌||◌, List, [], ◌∷◌, ◌++◌, length, take, drop, get_or, Option, Some, None, refl, sym, ap, subst, ◌∙◌, inl, inr, arith, lit≤, append-nil, append_assoc, length-append}
-use Rattle.std.specs.List.{All, list_any}
+use Rattle.std.proofs.Common.{Result, Ok, Err, MatchResult, ◌≡◌, ◌≢◌, ℕ, ◌+◌, ◌≤◌, ◌<◌, false, List, [], ◌∷◌, ◌++◌, length, take, drop, get_or, Option, Some, refl, sym, ap, subst, ◌∙◌, inl, inr, arith, lit≤, append-nil, append_assoc, length-append}
 use Rattle.std.specs.Io.KnownBytes.{Appends}
 use Rattle.std.proofs.lemmas.List.Elements.{All-nil, All-cons}
 use Rattle.std.proofs.lemmas.List.Folds.{list_any-append}
@@ -9,19 +8,18 @@ use Rattle.std.proofs.lemmas.Grind.{flat_map-append}
 use Rattle.std.proofs.lemmas.List.{take_all, take_more, take-append-le, take-append-drop}
 use Rattle.outside_io.proofs.Told.{Appends-none}
 use Rattle.desk_model.specs.State.{State}
-use Rattle.desk_model.specs.Run.{Moment, Run, events_of, state_after}
+use Rattle.desk_model.specs.Run.{state_after}
 use Rattle.dope_run.specs.declared.order.Order.{Order}
 use Rattle.dope_run.specs.declared.setup.Setup.{Setup}
 use Rattle.dope_run.specs.declared.cut.Cut.{Cut}
 use Rattle.dope_run.specs.declared.cut.Cut.TheVariants.{Unread, Unwritten}
 use Rattle.dope_run.specs.declared.status.Status.{Status}
-use Rattle.dope_run.specs.declared.status.Status.TheVariants.{Done, ReadFault, WriteFault, Usage, BadScript, NoMemory, TooMuch}
+use Rattle.dope_run.specs.declared.status.Status.TheVariants.{Done, WriteFault, BadScript}
 use Rattle.dope_run.specs.declared.player.Player.{Player}
 use Rattle.dope_run.specs.Line.{line_order}
 use Rattle.dope_run.specs.Framing.{Item, IsItem, IsLine, wants_of, bytes_of, bytes_of_item, has_feed, line_limit}
 use Rattle.dope_run.specs.Script.{events_of_order, BeginsOff, BeginsUnread, BeginsTooLong}
-use Rattle.dope_run.specs.Text.{text_of}
-use Rattle.dope_run.specs.Transcript.{Plays, Gains, Leaves}
+use Rattle.dope_run.specs.Transcript.{Plays, Gains}
 use Rattle.dope_run.specs.Obeying.{Obeyed}
 use Rattle.dope_run.specs.Playing.{LineDone, LineUnread, LineCut, Fed, EndsSo, bare_item}
 use Rattle.dope_run.specs.Cutting.{status_of}
@@ -39,7 +37,7 @@ line_done status old new before after order is read obeyed counts cleared = reco
   plays = record {
     whole = All-cons IsItem (bare_item old.line.items) [] (IsItem-bare old.line.items is) (All-nil IsItem);
     script = read_script-cons old.setup (bare_item old.line.items) [] order new.setup new.setup [] read (read_script-nil new.setup)
-      ∙ ap (λ es. Some (new.setup, es)) (append-nil (events_of_order order) ∙ sym obeyed.answers);
+        ∙ ap (λ es. Some (new.setup, es)) (append-nil (events_of_order order) ∙ sym obeyed.answers);
     run = obeyed.run;
   };
   gains = obeyed.gains;
@@ -113,8 +111,8 @@ fed_off line old bytes new before after off same_state same_sink same_lines numb
 
 fed_unread : (line : ℕ) (old new : Player) (before after : Option (List ℕ)) → IsLine old.line.items → LineUnread line old new before after → Fed (BadScript line) old (10 ∷ []) new before after
 fed_unread line old new before after is unread =
-  let whole : BeginsUnread old.setup (old.line.items ++ 10 ∷ []) = record { line = old.line.items; later = []; is_line = is; spelled = refl; unread = unread.unread } in
-  fed_off line old (10 ∷ []) new before after (inl whole) unread.same_state unread.same_sink unread.counts unread.number
+    let whole : BeginsUnread old.setup (old.line.items ++ 10 ∷ []) = record { line = old.line.items; later = []; is_line = is; spelled = refl; unread = unread.unread } in
+    fed_off line old (10 ∷ []) new before after (inl whole) unread.same_state unread.same_sink unread.counts unread.number
 
 fed_cut : (cut : Cut) (old new : Player) (before after : Option (List ℕ)) → IsLine old.line.items → LineCut cut old new before after → Fed (status_of cut) old (10 ∷ []) new before after
 fed_cut (Unread line) old new before after is done = fed_unread line old new before after is done
@@ -149,41 +147,41 @@ IsLine-push line byte is other room = record { no_feed = has_feed-push line byte
 -- a byte too many for a line
 pub fed_too_long : (old : Player) (byte : ℕ) (sink : Option (List ℕ)) → IsLine old.line.items → byte ≢ 10 → length old.line.items ≡ 520 → Fed (BadScript (old.lines + 1)) old (byte ∷ []) old sink sink
 fed_too_long old byte sink is other full =
-  let whole : take (line_limit + 1) (old.line.items ++ byte ∷ []) ≡ old.line.items ++ byte ∷ [] = take_all (line_limit + 1) (old.line.items ++ byte ∷ []) (omega (arith, length-append old.line.items (byte ∷ []))) in
-  let long : BeginsTooLong (old.line.items ++ byte ∷ []) = record { long = omega (arith, length-append old.line.items (byte ∷ [])); no_feed = ap has_feed whole ∙ has_feed-push old.line.items byte is.no_feed other } in
-  fed_off (old.lines + 1) old (byte ∷ []) old sink sink (inr long) refl refl refl refl
+    let whole : take (line_limit + 1) (old.line.items ++ byte ∷ []) ≡ old.line.items ++ byte ∷ [] = take_all (line_limit + 1) (old.line.items ++ byte ∷ []) (omega (arith, length-append old.line.items (byte ∷ []))) in
+    let long : BeginsTooLong (old.line.items ++ byte ∷ []) = record { long = omega (arith, length-append old.line.items (byte ∷ [])); no_feed = ap has_feed whole ∙ has_feed-push old.line.items byte is.no_feed other } in
+    fed_off (old.lines + 1) old (byte ∷ []) old sink sink (inr long) refl refl refl refl
 
 -- ---- one piece after another
 
 -- some bytes, and then others
 pub fed_after : (status : Status) (a b c : Player) (first second : List ℕ) (before middle after : Option (List ℕ)) → Fed Done a first b before middle → Fed status b second c middle after → Fed status a (first ++ second) c before after
 fed_after status a b c first second before middle after p q =
-  let same_rest : p.rest ≡ b.line.items = p.ends.1 in
-  let same_setup : p.later ≡ b.setup = p.ends.0 in
-  let state : b.server.state ≡ state_after a.server.state p.moments = p.leaves in
-  let plays : Plays p.later (state_after a.server.state p.moments) q.items q.moments q.later =
-        subst (λ s. Plays s (state_after a.server.state p.moments) q.items q.moments q.later) (sym same_setup) (subst (λ s. Plays b.setup s q.items q.moments q.later) state q.plays) in
-  record {
-    items = p.items ++ q.items;
-    moments = p.moments ++ q.moments;
-    later = q.later;
-    rest = q.rest;
-    spelled = sym (append_assoc a.line.items first second)
-      ∙ ap (λ xs. xs ++ second) p.spelled
-      ∙ append_assoc (bytes_of p.items) p.rest second
-      ∙ ap (λ xs. bytes_of p.items ++ (xs ++ second)) same_rest
-      ∙ ap (λ xs. bytes_of p.items ++ xs) q.spelled
-      ∙ sym (append_assoc (bytes_of p.items) (bytes_of q.items) q.rest)
-      ∙ ap (λ xs. xs ++ q.rest) (sym (bytes_of-append p.items q.items));
-    plays = Plays-append a.setup a.server.state p.items q.items p.moments q.moments p.later q.later p.plays plays;
-    ends = q.ends;
-    gains = subst (Gains status before after) (sym (text_of-append p.moments q.moments)) (Gains-after status before middle after _ _ p.gains q.gains);
-    leaves = Leaves-after status c.server.state b.server.state a.server.state p.moments q.moments p.leaves q.leaves;
-    counts = omega (arith, length-append p.items q.items, p.counts, q.counts);
-  }
+    let same_rest : p.rest ≡ b.line.items = p.ends.1 in
+    let same_setup : p.later ≡ b.setup = p.ends.0 in
+    let state : b.server.state ≡ state_after a.server.state p.moments = p.leaves in
+    let plays : Plays p.later (state_after a.server.state p.moments) q.items q.moments q.later =
+    subst (λ s. Plays s (state_after a.server.state p.moments) q.items q.moments q.later) (sym same_setup) (subst (λ s. Plays b.setup s q.items q.moments q.later) state q.plays) in
+    record {
+      items = p.items ++ q.items;
+      moments = p.moments ++ q.moments;
+      later = q.later;
+      rest = q.rest;
+      spelled = sym (append_assoc a.line.items first second)
+          ∙ ap (λ xs. xs ++ second) p.spelled
+          ∙ append_assoc (bytes_of p.items) p.rest second
+          ∙ ap (λ xs. bytes_of p.items ++ (xs ++ second)) same_rest
+          ∙ ap (λ xs. bytes_of p.items ++ xs) q.spelled
+          ∙ sym (append_assoc (bytes_of p.items) (bytes_of q.items) q.rest)
+          ∙ ap (λ xs. xs ++ q.rest) (sym (bytes_of-append p.items q.items));
+      plays = Plays-append a.setup a.server.state p.items q.items p.moments q.moments p.later q.later p.plays plays;
+      ends = q.ends;
+      gains = subst (Gains status before after) (sym (text_of-append p.moments q.moments)) (Gains-after status before middle after _ _ p.gains q.gains);
+      leaves = Leaves-after status c.server.state b.server.state a.server.state p.moments q.moments p.leaves q.leaves;
+      counts = omega (arith, length-append p.items q.items, p.counts, q.counts);
+    }
 
 -- what is off the grammar stays off, whatever comes behind it
-off_more : (setup : Setup) (bytes more : List ℕ) → BeginsOff setup bytes → BeginsOff setup (bytes ++ more)
+pub off_more : (setup : Setup) (bytes more : List ℕ) → BeginsOff setup bytes → BeginsOff setup (bytes ++ more)
 off_more setup bytes more (inl unread) = inl (record {
   line = unread.line;
   later = unread.later ++ more;
@@ -192,11 +190,11 @@ off_more setup bytes more (inl unread) = inl (record {
   unread = unread.unread;
 })
 off_more setup bytes more (inr long) =
-  let enough : line_limit + 1 ≤ length bytes = long.long in
-  inr (record {
-    long = omega (arith, length-append bytes more);
-    no_feed = ap has_feed (take-append-le (line_limit + 1) bytes more enough) ∙ long.no_feed;
-  })
+    let enough : line_limit + 1 ≤ length bytes = long.long in
+    inr (record {
+      long = omega (arith, length-append bytes more);
+      no_feed = ap has_feed (take-append-le (line_limit + 1) bytes more enough) ∙ long.no_feed;
+    })
 
 Ends-more : (cut : Cut) (new : Player) (later : Setup) (rest more : List ℕ) → EndsSo (status_of cut) new later rest → EndsSo (status_of cut) new later (rest ++ more)
 Ends-more (Unread line) new later rest more ends = (off_more later rest more ends.0, ends.1)
@@ -239,12 +237,12 @@ fed_same status a b bytes others before after same fed = subst (λ xs. Fed statu
 -- one byte more of a piece
 pub fed_next : (status : Status) (a b c : Player) (bytes : List ℕ) (i : ℕ) (before middle after : Option (List ℕ)) → i < length bytes → Fed Done a (take i bytes) b before middle → Fed status b (get_or bytes i 0 ∷ []) c middle after → Fed status a (take (i + 1) bytes) c before after
 fed_next status a b c bytes i before middle after inside front next =
-  fed_same status a c _ _ before after (sym (take_more bytes i 0 inside)) (fed_after status a b c (take i bytes) (get_or bytes i 0 ∷ []) before middle after front next)
+    fed_same status a c _ _ before after (sym (take_more bytes i 0 inside)) (fed_after status a b c (take i bytes) (get_or bytes i 0 ∷ []) before middle after front next)
 
 -- where a piece is cut off at its i-th byte
 pub fed_cut_in : (cut : Cut) (a b c : Player) (bytes : List ℕ) (i : ℕ) (before middle after : Option (List ℕ)) → i < length bytes → Fed Done a (take i bytes) b before middle → Fed (status_of cut) b (get_or bytes i 0 ∷ []) c middle after → Fed (status_of cut) a bytes c before after
 fed_cut_in cut a b c bytes i before middle after inside front next =
-  fed_same (status_of cut) a c _ _ before after (take-append-drop (i + 1) bytes)
+    fed_same (status_of cut) a c _ _ before after (take-append-drop (i + 1) bytes)
     (fed_more cut a c (take (i + 1) bytes) (drop (i + 1) bytes) before after (fed_next (status_of cut) a b c bytes i before middle after inside front next))
 
 pub bytes_of-cons : (line : List ℕ) (items : List Item) → bytes_of (bare_item line ∷ items) ≡ line ++ 10 ∷ bytes_of items

@@ -1,6 +1,6 @@
 -- Any bytes are whole lines up to the first that is off the grammar, and what is behind them.
-use Rattle.std.proofs.Common.{◌≡◌, ◌⊎◌, ◌==◌, ℕ, zero, suc, ◌+◌, ◌≤◌, ◌<◌, Bool, true, false, ◌||◌, List, [], ◌∷◌, ◌++◌, length, take, Option, Some, None, refl, sym, ap, subst, ◌∙◌, inl, inr, arith, leb, append_assoc, length-append}
-use Rattle.std.specs.List.{All, list_any}
+use Rattle.std.proofs.Common.{◌≡◌, ◌⊎◌, ◌==◌, ℕ, zero, suc, ◌+◌, ◌≤◌, Bool, true, false, ◌||◌, List, [], ◌∷◌, ◌++◌, length, take, Option, Some, None, refl, sym, ap, ◌∙◌, inl, inr, arith, leb, append_assoc, length-append}
+use Rattle.std.specs.List.{All}
 use Rattle.std.proofs.lemmas.Bool.Decides.{nat_tests}
 use Rattle.std.proofs.lemmas.List.{take-append-le, take-append-drop}
 use Rattle.std.proofs.lemmas.List.Elements.{All-nil, All-cons}
@@ -10,7 +10,7 @@ use Rattle.dope_run.specs.declared.order.Order.{Order}
 use Rattle.dope_run.specs.declared.setup.Setup.{Setup}
 use Rattle.dope_run.specs.Line.{line_order}
 use Rattle.dope_run.specs.Framing.{Item, IsItem, IsLine, IsPartial, bytes_of, has_feed, line_limit}
-use Rattle.dope_run.specs.Script.{read_script, events_of_order, BeginsOff, BeginsUnread, BeginsTooLong}
+use Rattle.dope_run.specs.Script.{read_script, events_of_order, BeginsOff}
 use Rattle.dope_run.specs.Playing.{bare_item}
 use Rattle.dope_run.proofs.Reading.{read_script-nil, read_script-cons}
 use Rattle.dope_run.proofs.Feedings.{IsItem-bare, bytes_of-nil, bytes_of-cons}
@@ -35,8 +35,8 @@ record FirstLine (bytes : List ℕ) : Type 0 where
 first_line_by : (byte : ℕ) (bytes : List ℕ) (is_feed : Bool) → (has_feed bytes ≡ true → FirstLine bytes) → (byte == 10) ≡ is_feed → (is_feed || has_feed bytes) ≡ true → FirstLine (byte ∷ bytes)
 first_line_by byte bytes true behind is has = record { line = []; more = bytes; spelled = (let same : byte ≡ 10 = grind (arith, nat_tests) in ap (λ b. b ∷ bytes) same); clear = refl }
 first_line_by byte bytes false behind is has =
-  let rest = behind has in
-  record { line = byte ∷ rest.line; more = rest.more; spelled = ap (λ xs. byte ∷ xs) rest.spelled; clear = ap (λ b. b || has_feed rest.line) is ∙ rest.clear }
+    let rest = behind has in
+    record { line = byte ∷ rest.line; more = rest.more; spelled = ap (λ xs. byte ∷ xs) rest.spelled; clear = ap (λ b. b || has_feed rest.line) is ∙ rest.clear }
 
 first_line : (bytes : List ℕ) → has_feed bytes ≡ true → FirstLine bytes
 first_line [] has = cc
@@ -45,15 +45,21 @@ first_line (byte ∷ bytes) has = first_line_by byte bytes (byte == 10) (first_l
 -- no part of bytes without a line feed has one
 has_feed-take : (n : ℕ) (bytes : List ℕ) → has_feed bytes ≡ false → has_feed (take n bytes) ≡ false
 has_feed-take n bytes clear =
-  let parts = ap has_feed (take-append-drop n bytes) ∙ clear in
-  let joined = sym (list_any-append (λ byte. byte == 10) (take n bytes) _) ∙ parts in
-  grind arith
+    let parts = ap has_feed (take-append-drop n bytes) ∙ clear in
+    let joined = sym (list_any-append (λ byte. byte == 10) (take n bytes) _) ∙ parts in
+    grind arith
 
 -- nothing is read
 none_of : (setup : Setup) (bytes : List ℕ) → IsPartial bytes ⊎ BeginsOff setup bytes → LinesOf setup bytes
 none_of setup bytes ends = record {
-  items = []; later = setup; events = []; rest = bytes;
-  whole = All-nil IsItem; script = read_script-nil setup; spelled = sym (ap (λ xs. xs ++ bytes) bytes_of-nil); ends = ends;
+  items = [];
+  later = setup;
+  events = [];
+  rest = bytes;
+  whole = All-nil IsItem;
+  script = read_script-nil setup;
+  spelled = sym (ap (λ xs. xs ++ bytes) bytes_of-nil);
+  ends = ends;
 }
 
 too_long : (setup : Setup) (bytes : List ℕ) → line_limit + 1 ≤ length bytes → has_feed (take (line_limit + 1) bytes) ≡ false → LinesOf setup bytes
@@ -83,24 +89,24 @@ Fewer steps = (setup : Setup) (bytes : List ℕ) → length bytes ≤ steps → 
 
 lines_by_order : (steps : ℕ) → Fewer steps → (setup : Setup) (bytes line more : List ℕ) (read : Option (Order × Setup)) → line_order setup line ≡ read → IsLine line → bytes ≡ line ++ 10 ∷ more → length more ≤ steps → LinesOf setup bytes
 lines_by_order steps behind setup bytes line more None is is_line spelled fewer =
-  none_of setup bytes (inr (inl (record { line = line; later = more; is_line = is_line; spelled = spelled; unread = is })))
+    none_of setup bytes (inr (inl (record { line = line; later = more; is_line = is_line; spelled = spelled; unread = is })))
 lines_by_order steps behind setup bytes line more (Some read) is is_line spelled fewer =
-  line_and setup bytes line more read.0 read.1 is_line spelled is (behind read.1 more fewer)
+    line_and setup bytes line more read.0 read.1 is_line spelled is (behind read.1 more fewer)
 
 lines_by_size : (steps : ℕ) → Fewer steps → (setup : Setup) (bytes line more : List ℕ) (short : Bool) → leb (length line) line_limit ≡ short → bytes ≡ line ++ 10 ∷ more → has_feed line ≡ false → length more ≤ steps → LinesOf setup bytes
 lines_by_size steps behind setup bytes line more true is spelled clear fewer =
-  lines_by_order steps behind setup bytes line more (line_order setup line) refl (record { no_feed = clear; short = (let short : length line ≤ line_limit = grind (arith, nat_tests) in short) }) spelled fewer
+    lines_by_order steps behind setup bytes line more (line_order setup line) refl (record { no_feed = clear; short = (let short : length line ≤ line_limit = grind (arith, nat_tests) in short) }) spelled fewer
 lines_by_size steps behind setup bytes line more false is spelled clear fewer =
-  let long : line_limit + 1 ≤ length line = grind (arith, nat_tests) in
-  too_long setup bytes (omega (arith, ap length spelled, length-append line (10 ∷ more)))
+    let long : line_limit + 1 ≤ length line = grind (arith, nat_tests) in
+    too_long setup bytes (omega (arith, ap length spelled, length-append line (10 ∷ more)))
     (ap (λ xs. has_feed (take (line_limit + 1) xs)) spelled ∙ ap has_feed (take-append-le (line_limit + 1) line (10 ∷ more) long) ∙ has_feed-take (line_limit + 1) line clear)
 
 lines_by_feed : (steps : ℕ) → Fewer steps → (setup : Setup) (bytes : List ℕ) (has : Bool) → has_feed bytes ≡ has → length bytes ≤ suc steps → LinesOf setup bytes
 lines_by_feed steps behind setup bytes false is small = unended setup bytes (leb (length bytes) line_limit) refl is
 lines_by_feed steps behind setup bytes true is small =
-  let first = first_line bytes is in
-  let fewer : length first.more ≤ steps = omega (arith, ap length first.spelled, length-append first.line (10 ∷ first.more)) in
-  lines_by_size steps behind setup bytes first.line first.more (leb (length first.line) line_limit) refl first.spelled first.clear fewer
+    let first = first_line bytes is in
+    let fewer : length first.more ≤ steps = omega (arith, ap length first.spelled, length-append first.line (10 ∷ first.more)) in
+    lines_by_size steps behind setup bytes first.line first.more (leb (length first.line) line_limit) refl first.spelled first.clear fewer
 
 -- all of it, by as many steps as there are bytes
 lines_within : (steps : ℕ) (setup : Setup) (bytes : List ℕ) → length bytes ≤ steps → LinesOf setup bytes

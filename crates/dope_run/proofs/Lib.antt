@@ -5,3 +5,5 @@ pub mod Readiness
 pub mod Feedings
 pub mod Framings
 pub mod Endings
+pub mod Readings
+pub mod Refusals

@@ -1,21 +1,20 @@
 -- Events carried out one after another.
-use Rattle.std.proofs.Common.{◌≡◌, ℕ, ◌≤◌, suc, zero, Result, Ok, Err, OnOk, OnErr, MatchResult, List, [], ◌∷◌, ◌++◌, length, take, Option, refl, sym, ap, subst, ◌∙◌, arith, lit≤, append-nil}
+use Rattle.std.proofs.Common.{◌≡◌, ℕ, Result, Ok, Err, OnOk, OnErr, MatchResult, List, [], ◌∷◌, ◌++◌, Option, refl, sym, ap, subst, ◌∙◌, lit≤, append-nil}
 use Rattle.std.proofs.lemmas.List.{map-append}
 use Rattle.std.specs.Io.KnownBytes.{Appends}
 use Rattle.outside_io.specs.Sink.{AppendsFront}
 use Rattle.desk_model.specs.State.{State, IsState}
 use Rattle.desk_model.specs.Events.{Event, Answer}
 use Rattle.desk_model.specs.Step.{Step}
-use Rattle.desk_model.specs.Run.{Moment, Run, events_of, state_after}
+use Rattle.desk_model.specs.Run.{Run, events_of, state_after}
 use Rattle.desk_model.proofs.Runs.{Run-append, Run-one, IsState-run}
 use Rattle.desk_model.proofs.Progress.{some_run}
 use Rattle.dope_run.specs.declared.status.Status.{Status}
 use Rattle.dope_run.specs.declared.status.Status.TheVariants.{Done, WriteFault}
-use Rattle.dope_run.specs.Text.{text_of, answer_line}
-use Rattle.dope_run.specs.Transcript.{Gains, Leaves, IsReached}
+use Rattle.dope_run.specs.Text.{answer_line}
+use Rattle.dope_run.specs.Transcript.{Gains}
 use Rattle.dope_run.specs.Obeying.{Obeyed}
 use Rattle.dope_run.proofs.Gaining.{text_of-append, AppendsFront-longer, Gains-after, IsReached-longer, Leaves-after}
-
 
 -- one event, whose line was written
 pub obeyed_one : (event : Event) (answer : Answer) (old new : State) (before after : Option (List ℕ)) → Step old event answer new → Appends before after (answer_line answer) → Obeyed Done (event ∷ []) old new before after
@@ -50,14 +49,14 @@ obeyed_after status first second old between new before middle after a b = recor
 -- events that the machine would have answered if the writing had not broken off
 pub obeyed_more : (events more : List Event) (old new : State) (before after : Option (List ℕ)) → IsState old → Obeyed WriteFault events old new before after → Obeyed WriteFault (events ++ more) old new before after
 obeyed_more events more old new before after valid a =
-  let rest = some_run (state_after old a.moments) more (IsState-run old a.moments valid a.run) in
-  record {
-    moments = a.moments ++ rest.0;
-    answers = map-append _ a.moments rest.0 ∙ ap (λ es. es ++ events_of rest.0) a.answers ∙ ap (λ es. events ++ es) rest.1;
-    run = Run-append old a.moments rest.0 a.run rest.2;
-    gains = subst (AppendsFront before after) (sym (text_of-append a.moments rest.0)) (AppendsFront-longer before after _ _ a.gains);
-    leaves = IsReached-longer new old a.moments rest.0 a.leaves;
-  }
+    let rest = some_run (state_after old a.moments) more (IsState-run old a.moments valid a.run) in
+    record {
+      moments = a.moments ++ rest.0;
+      answers = map-append _ a.moments rest.0 ∙ ap (λ es. es ++ events_of rest.0) a.answers ∙ ap (λ es. events ++ es) rest.1;
+      run = Run-append old a.moments rest.0 a.run rest.2;
+      gains = subst (AppendsFront before after) (sym (text_of-append a.moments rest.0)) (AppendsFront-longer before after _ _ a.gains);
+      leaves = IsReached-longer new old a.moments rest.0 a.leaves;
+    }
 
 -- one event, by how the writing of its line went
 pub obeyed_by_writing : {T E : Type 0} (wrote : Result T E) (event : Event) (answer : Answer) (old new : State) (before after : Option (List ℕ)) (line : List ℕ) → Step old event answer new → line ≡ answer_line answer → OnOk wrote (Appends before after line) → OnErr wrote (AppendsFront before after line) → MatchResult wrote (λ _. Obeyed Done (event ∷ []) old new before after) (λ _. Obeyed WriteFault (event ∷ []) old new before after)

@@ -1,13 +1,9 @@
 -- Lines that open no window leave the open windows as they were, so the server stays ready for the script's client.
-use Rattle.std.proofs.Common.{◌≡◌, ℕ, zero, suc, List, [], ◌∷◌, replicate, Option, refl, sym, ap, subst, ◌∙◌}
-use Rattle.desk_model.specs.declared.window.Window.{Window}
-use Rattle.desk_model.specs.Desk.{Desk}
-use Rattle.desk_model.specs.Beat.{beat}
+use Rattle.std.proofs.Common.{◌≡◌, ◌≢◌, ℕ, zero, suc, List, [], ◌∷◌, replicate, Option, refl, sym, ap, subst, ◌∙◌}
+use Rattle.desk_model.proofs.Steps.{windows-step}
 use Rattle.desk_model.specs.State.{State}
-use Rattle.desk_model.specs.Events.{Event, Answer}
-use Rattle.desk_model.specs.Events.Event.{Ready, Show, Tick, CountDirty, LookAt}
-use Rattle.desk_model.specs.Events.Answer.{Done, Drawn, Counted, Seen}
-use Rattle.desk_model.specs.Step.{Step}
+use Rattle.desk_model.specs.Events.{Event}
+use Rattle.desk_model.specs.Events.Event.{Show, Tick}
 use Rattle.desk_model.specs.Run.{Moment, Run, events_of, state_after}
 use Rattle.dope_run.specs.declared.order.Order.{Order}
 use Rattle.dope_run.specs.declared.order.Order.TheVariants.{Ticks, Dirty, Pixel, Prepare, Open}
@@ -25,23 +21,13 @@ abbrev AreQuiet : List Event → Type 0
 AreQuiet [] = Unit {0}
 AreQuiet (event ∷ events) = IsQuiet event × AreQuiet events
 
-windows-beat : (d : Desk) → (beat d).windows ≡ d.windows
-unfolding beat
-windows-beat d = refl
-
-
-windows-step : (old : State) (event : Event) (answer : Answer) (new : State) → IsQuiet event → Step old event answer new → new.desk.windows ≡ old.desk.windows
-windows-step old Ready Done new quiet step = ap (λ s. s.desk.windows) step
-windows-step old Tick (Drawn drew) new quiet step = ap (λ d. d.windows) step.desk ∙ windows-beat old.desk
-windows-step old CountDirty (Counted n) new quiet step = ap (λ s. s.desk.windows) step.0
-windows-step old (LookAt x y) (Seen b) new quiet step = ap (λ s. s.desk.windows) step.0
-windows-step old (Show w h) answer new quiet step = absurd quiet
-windows-step old _ _ new quiet step = absurd step
+other_than_show : (event : Event) → IsQuiet event → (w h : ℕ) → event ≢ Show w h
+other_than_show event quiet w h is = subst IsQuiet is quiet
 
 windows-run : (from : State) (moments : List Moment) → AreQuiet (events_of moments) → Run from moments → (state_after from moments).desk.windows ≡ from.desk.windows
 windows-run from [] quiet run = refl
 windows-run from (moment ∷ moments) quiet run =
-  windows-run moment.after moments quiet.1 run.1 ∙ windows-step from moment.event moment.answer moment.after quiet.0 run.0
+    windows-run moment.after moments quiet.1 run.1 ∙ windows-step from moment.event moment.answer moment.after run.0 (other_than_show moment.event quiet.0)
 
 quiet_ticks : (n : ℕ) → AreQuiet (replicate n Tick)
 quiet_ticks zero = tt
@@ -56,8 +42,8 @@ quiet_order (Open w h) plain = absurd plain
 
 still_ready : (setup : Setup) (order : Order) (next : Setup) (old new : State) (before after : Option (List ℕ)) → IsPlain order → Suits setup (order, next) → IsReady setup old.desk.windows → Obeyed statuses.Done (events_of_order order) old new before after → IsReady next new.desk.windows
 still_ready setup order next old new before after plain suits ready obeyed =
-  let same : new.desk.windows ≡ old.desk.windows = ap (λ s. s.desk.windows) obeyed.leaves ∙ windows-run old obeyed.moments (subst AreQuiet (sym obeyed.answers) (quiet_order order plain)) obeyed.run in
-  subst (IsReady next) (sym same) (suits.next old.desk.windows ready)
+    let same : new.desk.windows ≡ old.desk.windows = ap (λ s. s.desk.windows) obeyed.leaves ∙ windows-run old obeyed.moments (subst AreQuiet (sym obeyed.answers) (quiet_order order plain)) obeyed.run in
+    subst (IsReady next) (sym same) (suits.next old.desk.windows ready)
 
 -- behind a line the server is ready for the client's next
 pub ready_after : (setup : Setup) (order : Order) (next : Setup) (old new : State) (before after : Option (List ℕ)) → Suits setup (order, next) → IsReady setup old.desk.windows → Obeyed statuses.Done (events_of_order order) old new before after → IsReady next new.desk.windows

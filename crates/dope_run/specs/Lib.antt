@@ -11,3 +11,4 @@ pub mod Obeying
 pub mod Ready
 pub mod Playing
 pub mod Cutting
+pub mod ScriptLaws

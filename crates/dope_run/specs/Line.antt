@@ -1,5 +1,5 @@
 -- What each line of a script asks for.
-use Rattle.std.specs.Prelude.{ℕ, ◌+◌, ◌==◌, ◌&&◌, ◌||◌, ◌-◌, nat_le, Bool, false, if◌then◌else◌, List, [], ◌∷◌, ◌++◌, length, take, drop, Option, Some, None, option_map, unwrap_or, bytes_eq, codes, decimal}
+use Rattle.std.specs.Prelude.{ℕ, ◌+◌, ◌==◌, ◌&&◌, ◌||◌, ◌-◌, nat_le, Bool, false, if◌then◌else◌, List, [], ◌∷◌, length, take, drop, Option, Some, None, option_map, unwrap_or, bytes_eq, codes, decimal}
 use Rattle.arrayvec.specs.ArrayVec.{ArrayVec}
 use Rattle.std.specs.Option.{option_map_or}
 use Rattle.std.specs.List.{list_all, position}
@@ -50,8 +50,8 @@ pixel_order line = do
 -- These, `tick` and `dirty` may stand anywhere.
 unfoldable pub plain_order : List ℕ → Option Order
 plain_order line =
-  if bytes_eq line (codes "tick") then Some (Ticks 1)
-  else (if bytes_eq line (codes "dirty") then Some Dirty else or_else (tick_order line) (pixel_order line))
+    if bytes_eq line (codes "tick") then Some (Ticks 1)
+    else (if bytes_eq line (codes "dirty") then Some Dirty else or_else (tick_order line) (pixel_order line))
 
 -- a letter, then up to 15 letters, digits or `_`
 abbrev pub is_letter : ℕ → Bool

@@ -16,4 +16,4 @@ value_of digits = fold (λ value digit. 10 * value + (digit - 48)) 0 digits
 -- the number that the bytes stand for, where they are digits and it is from least to most
 unfoldable pub number_in : ℕ → ℕ → List ℕ → Option ℕ
 number_in least most bytes =
-  if is_number bytes && nat_le least (value_of bytes) && nat_le (value_of bytes) most then Some (value_of bytes) else None
+    if is_number bytes && nat_le least (value_of bytes) && nat_le (value_of bytes) most then Some (value_of bytes) else None

@@ -3,12 +3,12 @@
 use Rattle.std.specs.Prelude.{◌≡◌, ◌≢◌, ◌⊎◌, ℕ, ◌+◌, List, [], ◌∷◌, ◌++◌, length, Option, None}
 use Rattle.std.specs.Io.KnownBytes.{Consumes}
 use Rattle.desk_model.specs.declared.shape.Shape.{Shape}
-use Rattle.desk_model.specs.State.{State, IsState, opening}
+use Rattle.desk_model.specs.State.{IsState, opening}
 use Rattle.desk_model.specs.Run.{Moment}
 use Rattle.dope_run.specs.declared.setup.Setup.{Setup}
 use Rattle.dope_run.specs.declared.setup.Setup.TheVariants.{Fresh}
 use Rattle.dope_run.specs.declared.status.Status.{Status}
-use Rattle.dope_run.specs.declared.status.Status.TheVariants.{Done, ReadFault, WriteFault, Usage, BadScript, NoMemory, TooMuch}
+use Rattle.dope_run.specs.declared.status.Status.TheVariants.{Done, WriteFault, BadScript}
 use Rattle.dope_run.specs.declared.cut.Cut.{Cut}
 use Rattle.dope_run.specs.declared.cut.Cut.TheVariants.{Unread, Unwritten}
 use Rattle.dope_run.specs.declared.player.Player.{Player}
@@ -89,7 +89,7 @@ pub record Going (start player : Player) (count : ℕ) (source_old source_new si
 -- The end of the script was met: a last line without a line feed counts as a line.
 abbrev pub Finished : Status → Player → Player → Option (List ℕ) → Option (List ℕ) → Type 0
 Finished Done old new before after =
-  ((old.line.items ≡ []) × (new ≡ old) × (after ≡ before)) ⊎ ((old.line.items ≢ []) × LineDone Done old new before after)
+    ((old.line.items ≡ []) × (new ≡ old) × (after ≡ before)) ⊎ ((old.line.items ≢ []) × LineDone Done old new before after)
 Finished (BadScript line) old new before after = (old.line.items ≢ []) × LineUnread line old new before after
 Finished WriteFault old new before after = (old.line.items ≢ []) × LineDone WriteFault old new before after
 Finished _ old new before after = ⊥

@@ -2,9 +2,9 @@
 use Rattle.std.specs.Prelude.{◌≡◌, ℕ, ◌≤◌, List, []}
 use Rattle.desk_model.specs.declared.window.Window.{Window}
 use Rattle.dope_run.specs.declared.order.Order.{Order}
-use Rattle.dope_run.specs.declared.order.Order.TheVariants.{Ticks, Dirty, Pixel, Prepare, Open}
+use Rattle.dope_run.specs.declared.order.Order.TheVariants.{Open}
 use Rattle.dope_run.specs.declared.setup.Setup.{Setup}
-use Rattle.dope_run.specs.declared.setup.Setup.TheVariants.{Fresh, Connected, Named, Sized, Opened}
+use Rattle.dope_run.specs.declared.setup.Setup.TheVariants.{Sized, Opened}
 
 -- a side that a window may have
 pub record IsSide (side : ℕ) : Type 0 where

@@ -7,7 +7,7 @@ use Rattle.dope_run.specs.declared.order.Order.TheVariants.{Ticks, Dirty, Pixel,
 use Rattle.dope_run.specs.declared.setup.Setup.{Setup}
 use Rattle.dope_run.specs.Steps.{◌>>=◌}
 use Rattle.dope_run.specs.Line.{line_order}
-use Rattle.dope_run.specs.Framing.{Item, IsLine, IsPartial, IsShortOfPayload, line_limit, has_feed, wants_of}
+use Rattle.dope_run.specs.Framing.{Item, IsLine, IsShortOfPayload, line_limit, has_feed}
 
 -- the events of what a line asks for
 abbrev pub events_of_order : Order → List Event

@@ -1,5 +1,5 @@
 -- What is written for each answer of the machine: one line, with its line feed.
-use Rattle.std.specs.Prelude.{ℕ, List, [], ◌∷◌, ◌++◌, Option, Some, None, codes, decimal}
+use Rattle.std.specs.Prelude.{ℕ, List, ◌++◌, Option, Some, None, codes, decimal}
 use Rattle.std.specs.List.{flat_map}
 use Rattle.desk_model.specs.declared.drew.Drew.{Drew}
 use Rattle.desk_model.specs.Events.{Answer}

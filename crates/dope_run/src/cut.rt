@@ -1,6 +1,7 @@
 //! Where the playing of a script is cut off.
 ghost use Rattle.std.specs.Prelude.{◌≡◌};
 ghost use Rattle.dope_run.specs.Cutting.{status_of};
+
 use crate::status::Status;
 
 /// Where the playing of a script is cut off before its end: at a line off the grammar, whose number is counted

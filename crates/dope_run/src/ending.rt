@@ -1,8 +1,9 @@
 //! The report of each status.
 ghost use Rattle.std.specs.Prelude.{◌≡◌, ◌≤◌, ◌++◌, [], length, codes, decimal};
 ghost use Rattle.dope_run.specs.Report.{exit_of, message_of};
+
+use crate::outcome::Report;
 use crate::status::Status;
-use crate::told::Report;
 use arrayvec::ArrayString;
 use itoa::Buffer;
 

@@ -1,24 +1,25 @@
-//! The run of a script.
+//! The run of a script: from the words of a command line and the bytes of a script to a transcript and a status.
+//! `run` carries the headline; specs/Transcript.antt has its definitions, and docs/MACHINE.md reads them in prose.
 #![tactic(auto)]
 
 mod cut;
 mod ending;
+pub mod laws;
 mod line;
 mod number;
 mod obeying;
-pub mod order;
-
+mod order;
+mod outcome;
 mod player;
 mod playing;
 mod running;
-pub mod setup;
+mod setup;
 mod status;
 mod text;
-mod told;
 mod words;
 
 pub use ending::report;
+pub use outcome::Report;
 pub use running::run;
 pub use server_core::Server;
 pub use status::Status;
-pub use told::Report;

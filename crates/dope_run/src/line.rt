@@ -6,6 +6,7 @@ ghost use Rattle.std.specs.Option.{option_copied};
 ghost use Rattle.dope_run.specs.Line.{after, before, space_in, first_space, first_word, further_words, is_name, printed_side, is_letter, tick_order, pixel_order, plain_order, connect_order, new_order, call_on, set_sides, is_open, named_order, client_order, line_order};
 ghost use Rattle.dope_run.specs.Ready.{IsPlain, IsSide, Suits};
 ghost use Rattle.dope_run.specs.declared.setup.Setup.TheVariants.{Fresh, Connected, Named};
+
 use crate::number::number_in;
 use crate::order::Order;
 use crate::setup::Setup;

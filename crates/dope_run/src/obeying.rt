@@ -9,6 +9,7 @@ ghost use Rattle.dope_run.specs.declared.status.Status.TheVariants.{Done, WriteF
 ghost use Rattle.dope_run.specs.Obeying.{Obeyed};
 ghost use Rattle.dope_run.specs.Script.{events_of_order};
 ghost use Rattle.dope_run.specs.Ready.{CanObey};
+
 use crate::order::Order;
 use crate::text::{Line, dirty_line, done_line, drew_line, pixel_line};
 use outside_io::{Failed, Sink, write_all};

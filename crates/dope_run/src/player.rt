@@ -4,6 +4,7 @@ ghost use Rattle.outside_io.specs.Count.{Rose};
 ghost use Rattle.dope_run.specs.declared.status.Status.TheVariants.{Done};
 ghost use Rattle.dope_run.specs.Cutting.{status_of};
 ghost use Rattle.dope_run.specs.Playing.{IsPlayer, LineDone, LineCut, Fed};
+
 use crate::cut::Cut;
 use crate::line::line_order;
 use crate::obeying::obey;

@@ -4,6 +4,7 @@ ghost use Rattle.std.specs.Io.KnownBytes.{Consumes, IsAtEnd, Keeps};
 ghost use Rattle.outside_io.specs.Count.{Rose};
 ghost use Rattle.dope_run.specs.Playing.{IsPlayer, IsFresh, Finished};
 ghost use Rattle.dope_run.specs.Transcript.{Ended};
+
 use crate::player::Player;
 use crate::status::Status;
 use outside_io::{Failed, Sink, Source};
@@ -47,7 +48,12 @@ fn finish<K: Sink>(player: &mut Player, sink: &mut K) -> Status
 
 /// Plays the script of the source from its beginning, and answers how it ended. A read asks for at most as
 /// many bytes as a piece has, and never for one past the script's limit before all lines up to there are done.
-pub fn play<S: Source, K: Sink>(player: &mut Player, buffer: &mut [u8], source: &mut S, sink: &mut K) -> Status
+pub fn play<S: Source, K: Sink>(
+    player: &mut Player,
+    buffer: &mut [u8],
+    source: &mut S,
+    sink: &mut K,
+) -> Status
     requires piece { length buffer.old ≡ PIECE }
     requires player { IsPlayer player.old }
     requires fresh { IsFresh player.old.server.state.desk.shape player.old }

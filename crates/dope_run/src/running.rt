@@ -5,6 +5,7 @@ ghost use Rattle.desk_model.specs.Desk.{IsShape};
 ghost use Rattle.dope_run.specs.Words.{play_shape};
 ghost use Rattle.dope_run.specs.Playing.{IsPlayer, IsFresh};
 ghost use Rattle.dope_run.specs.Transcript.{Ended, IsRefused, IsPlayed};
+
 use crate::player::Player;
 use crate::playing::{PIECE, play};
 use crate::setup::Setup;
@@ -41,13 +42,19 @@ fn open_player(alloc: Global, shape: Shape) -> Result<Player, NoMemory>
 /// - After every other status the source has given, the sink has gained and the server is left as a run of
 ///   the machine over the script's lines says, which keeps the laws; docs/MACHINE.md, "The run of a script".
 /// - `ReadFault` and `WriteFault` come only where that object's count of faults rose in this call.
-pub fn run<S: Source, K: Sink>(alloc: Global, words: &[String], source: &mut S, sink: &mut K, kept: &mut Option<Server>) -> Status
+pub fn run<S: Source, K: Sink>(
+    alloc: Global,
+    words: &[String],
+    source: &mut S,
+    sink: &mut K,
+    kept: &mut Option<Server>,
+) -> Status
     requires none_kept { IsNone kept.old }
     ensures usage { (result ≡ Status.Usage) ↔ (play_shape (map string_bytes words.now) ≡ None) }
     ensures untouched { IsRefused result → (source.new ≡ source.old) × (sink.new ≡ sink.old) × (kept.new ≡ None) }
     ensures played { IsPlayed result → IfSome (play_shape (map string_bytes words.now)) (λ shape.
         IsSomeAnd kept.new (λ server. Ended shape result (S.left source.old) (S.left source.new)
-            (K.held sink.old) (K.held sink.new) server.state)) }
+        (K.held sink.old) (K.held sink.new) server.state)) }
     ensures read_later { S.faults source.old ≤ S.faults source.new }
     ensures read_cause { result ≡ Status.ReadFault → Rose (S.faults source.old) (S.faults source.new) }
     ensures write_later { K.faults sink.old ≤ K.faults sink.new }

@@ -8,7 +8,13 @@ use arrayvec::ArrayVec;
 pub enum Setup {
     Fresh,
     Connected,
-    Named { name: ArrayVec<u8, 16> },
-    Sized { name: ArrayVec<u8, 16>, w: u32, h: u32 },
+    Named {
+        name: ArrayVec<u8, 16>,
+    },
+    Sized {
+        name: ArrayVec<u8, 16>,
+        w: u32,
+        h: u32,
+    },
     Opened,
 }

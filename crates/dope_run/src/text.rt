@@ -2,6 +2,7 @@
 ghost use Rattle.std.specs.Prelude.{◌≡◌};
 ghost use Rattle.desk_model.specs.Events.Answer.{Done, Drawn, Counted, Seen};
 ghost use Rattle.dope_run.specs.Text.{answer_line};
+
 use arrayvec::ArrayString;
 use desk_model::Drew;
 use itoa::Buffer;

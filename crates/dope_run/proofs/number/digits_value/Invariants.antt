@@ -7,5 +7,5 @@ abbrev pub invariant-loop-byte : goal.invariant-loop-byte
 invariant-loop-byte l = record {
   value : l.value ≡ value_of (take l.byte-index l.bytes);
   digits : list_all is_digit (take l.byte-index l.bytes) ≡ true;
-  small : l.value < 10 ^ l.byte-index
+  small : l.value < 10 ^ l.byte-index;
 }

@@ -9,5 +9,5 @@ abbrev pub invariant-loop-i : goal.invariant-loop-i
 invariant-loop-i g l = record {
   told : Obeyed Done (replicate l.i Tick) l.initial.server.state l.server.state (g.K.Sink.held l.initial.sink) (g.K.Sink.held l.sink);
   valid : IsState l.server.state;
-  later : g.K.Sink.faults l.initial.sink ≤ g.K.Sink.faults l.sink
+  later : g.K.Sink.faults l.initial.sink ≤ g.K.Sink.faults l.sink;
 }

@@ -9,8 +9,8 @@ use Rattle.dope_run.proofs.player.Player.end_line.Goals as goal
 
 pub returns-in-Ok-clause-told : goal.returns-in-Ok-clause-told
 returns-in-Ok-clause-told g c =
-  let read : ◌≡◌ {A = Option (Order × Setup)} (line_order c.args.self.now.setup c.args.self.now.line.items) (Some (c.in-Some.order, c.in-Some.next)) = cc (c.in-Some.ensures.order, c.replace-setup.ensures.value, c.as_slice.ensures.value) in
-  line_done Done _ _ _ _ c.in-Some.order c.requires.player.line read c.in-Ok.ensures.told refl c.clear.ensures
+    let read : ◌≡◌ {A = Option (Order × Setup)} (line_order c.args.self.now.setup c.args.self.now.line.items) (Some (c.in-Some.order, c.in-Some.next)) = cc (c.in-Some.ensures.order, c.replace-setup.ensures.value, c.as_slice.ensures.value) in
+    line_done Done _ _ _ _ c.in-Some.order c.requires.player.line read c.in-Ok.ensures.told refl c.clear.ensures
 
 pub returns-in-Ok-clause-still_player : goal.returns-in-Ok-clause-still_player
 returns-in-Ok-clause-still_player g c = record {
@@ -21,5 +21,5 @@ returns-in-Ok-clause-still_player g c = record {
 
 pub returns-in-Err-clause-told : goal.returns-in-Err-clause-told
 returns-in-Err-clause-told g c =
-  let read : ◌≡◌ {A = Option (Order × Setup)} (line_order c.args.self.now.setup c.args.self.now.line.items) (Some (c.in-Some.order, c.in-Some.next)) = cc (c.in-Some.ensures.order, c.replace-setup.ensures.value, c.as_slice.ensures.value) in
-  line_done WriteFault _ _ _ _ c.in-Some.order c.requires.player.line read c.in-Err.ensures.told refl c.clear.ensures
+    let read : ◌≡◌ {A = Option (Order × Setup)} (line_order c.args.self.now.setup c.args.self.now.line.items) (Some (c.in-Some.order, c.in-Some.next)) = cc (c.in-Some.ensures.order, c.replace-setup.ensures.value, c.as_slice.ensures.value) in
+    line_done WriteFault _ _ _ _ c.in-Some.order c.requires.player.line read c.in-Err.ensures.told refl c.clear.ensures

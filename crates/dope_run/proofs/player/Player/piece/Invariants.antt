@@ -8,5 +8,5 @@ invariant-loop-byte g l = record {
   told : Fed Done l.initial.self (take l.byte-index l.bytes) l.self (g.K.Sink.held l.initial.sink) (g.K.Sink.held l.sink);
   player : IsPlayer l.self;
   lines : l.self.lines ≤ l.initial.self.lines + l.byte-index;
-  later : g.K.Sink.faults l.initial.sink ≤ g.K.Sink.faults l.sink
+  later : g.K.Sink.faults l.initial.sink ≤ g.K.Sink.faults l.sink;
 }

@@ -1,0 +1,23 @@
+//! Laws of scripts, over the definitions alone. Each is a function without parameters whose contract is the
+//! law. docs/MACHINE.md, "Scripts", reads them in prose.
+ghost use Rattle.dope_run.specs.ScriptLaws.{BytesHaveAReading, ReadingsAreOne, PartsAreNotOff, ScriptsAreNotRefused};
+
+/// Any bytes are whole lines that are read, and then no whole line or one off the grammar.
+pub fn bytes_have_a_reading()
+    ensures { BytesHaveAReading }
+{}
+
+/// There is one such reading of any bytes: one list of whole lines, one first line off the grammar.
+pub fn readings_are_one()
+    ensures { ReadingsAreOne }
+{}
+
+/// What is no whole line is not off the grammar, so a reading ends in one way.
+pub fn parts_are_not_off()
+    ensures { PartsAreNotOff }
+{}
+
+/// A script inside the grammar and within the limit isn't refused: without a fault its run is done.
+pub fn scripts_are_not_refused()
+    ensures { ScriptsAreNotRefused }
+{}
