@@ -1,6 +1,7 @@
 -- Lists of rectangles: what one more part does to the pixels covered, the areas and the disjointness.
-use Rattle.std.proofs.Common.{◌≡◌, ℕ, ◌+◌, ◌<◌, ◌≤◌, ℤ, Bool, true, false, not, eqb, ◌&&◌, ◌||◌, List, [], ◌∷◌, ◌++◌, length, refl, ap, ◌∙◌, arith, length-append}
-use Rattle.std.proofs.lemmas.Bool.{cond_both, eqb-true, eqb-false}
+use Rattle.std.proofs.Common.{◌≡◌, ℕ, zero, suc, take, get_or, ◌+◌, ◌<◌, ◌≤◌, ℤ, Bool, true, false, not, eqb, ◌&&◌, ◌||◌, List, [], ◌∷◌, ◌++◌, length, refl, sym, ap, ◌∙◌, arith, length-append}
+use Rattle.std.proofs.lemmas.List.{take_more}
+use Rattle.std.proofs.lemmas.Bool.{or_left, or_right, false≢true, cond_both, eqb-true, eqb-false}
 use Rattle.geom_core.specs.declared.rectangle.Rect.{Rect}
 use Rattle.geom_core.specs.Rect.{in_rect, area_of, IsInRange}
 use Rattle.geom_core.specs.Pieces.{covers, total_area, AreDisjoint, HavePixels, AreInRange}
@@ -170,3 +171,43 @@ IsFront-whole a n near all = record {
   drawn_area = omega (arith, total_area-with_part [] a);
   rest_area = omega arith;
 }
+
+-- a loop over the rectangles: one more of the first ones
+pub covers-take_more : (rs : List Rect) (i : ℕ) (d : Rect) (x y : ℤ) → i < length rs → covers (take (i + 1) rs) x y ≡ (covers (take i rs) x y || in_rect (get_or rs i d) x y)
+covers-take_more rs i d x y h =
+    ap (λ (ss : List Rect). covers ss x y) (take_more rs i d h)
+    ∙ covers-append (take i rs) (get_or rs i d ∷ []) x y
+    ∙ ap (λ t. covers (take i rs) x y || t) (or_none (in_rect (get_or rs i d) x y))
+
+pub total_area-take_more : (rs : List Rect) (i : ℕ) (d : Rect) → i < length rs → total_area (take (i + 1) rs) ≡ total_area (take i rs) + area_of (get_or rs i d)
+total_area-take_more rs i d h = omega (arith, ap total_area (take_more rs i d h), total_area-append (take i rs) (get_or rs i d ∷ []))
+
+-- each of the rectangles has its pixels among those covered
+pub covers-at : (rs : List Rect) (i : ℕ) (d : Rect) (x y : ℤ) → i < length rs → in_rect (get_or rs i d) x y ≡ true → covers rs x y ≡ true
+covers-at [] i d x y h e = absurd (omega arith)
+covers-at (r ∷ rs) zero d x y h e = or_left (in_rect r x y) (covers rs x y) e
+covers-at (r ∷ rs) (suc i) d x y h e = or_right (in_rect r x y) (covers rs x y) (covers-at rs i d x y (omega arith) e)
+
+next_apart : (r rest first next : Bool) → (r && rest) ≡ false → (next ≡ true → rest ≡ true) → (first && next) ≡ false → ((r || first) && next) ≡ false
+next_apart true true first next e h k = absurd (false≢true (sym e))
+next_apart true false first true e h k = absurd (false≢true (h refl))
+next_apart true false first false e h k = refl
+next_apart false rest first next e h k = k
+
+-- the first of disjoint rectangles have no pixel of the next
+pub AreDisjoint-at : (rs : List Rect) (i : ℕ) (d : Rect) (x y : ℤ) → AreDisjoint rs → i < length rs → (covers (take i rs) x y && in_rect (get_or rs i d) x y) ≡ false
+AreDisjoint-at [] i d x y disjoint h = absurd (omega arith)
+AreDisjoint-at (r ∷ rs) zero d x y disjoint h = refl
+AreDisjoint-at (r ∷ rs) (suc i) d x y disjoint h =
+    next_apart (in_rect r x y) (covers rs x y) (covers (take i rs) x y) (in_rect (get_or rs i d) x y) (disjoint.0 x y) (covers-at rs i d x y (omega arith)) (AreDisjoint-at rs i d x y disjoint.1 (omega arith))
+
+-- each rectangle has a pixel, and is within the limit
+pub HavePixels-at : (rs : List Rect) (i : ℕ) (d : Rect) → HavePixels rs → i < length rs → 0 < area_of (get_or rs i d)
+HavePixels-at [] i d have h = absurd (omega arith)
+HavePixels-at (r ∷ rs) zero d have h = have.0
+HavePixels-at (r ∷ rs) (suc i) d have h = HavePixels-at rs i d have.1 (omega arith)
+
+pub AreInRange-at : (rs : List Rect) (i : ℕ) (d : Rect) → AreInRange rs → i < length rs → IsInRange (get_or rs i d)
+AreInRange-at [] i d near h = absurd (omega arith)
+AreInRange-at (r ∷ rs) zero d near h = near.0
+AreInRange-at (r ∷ rs) (suc i) d near h = AreInRange-at rs i d near.1 (omega arith)
