@@ -1,0 +1,5 @@
+pub mod Bytes
+pub mod Padded
+pub mod Attributes
+pub mod Events
+pub mod Effective
