@@ -9,3 +9,5 @@ pub mod Step
 pub mod Chosen
 pub mod Run
 pub mod Laws
+pub mod Rows
+pub mod Widgets
