@@ -10,4 +10,6 @@ pub mod Chosen
 pub mod Run
 pub mod Laws
 pub mod Rows
+pub mod Nodes
 pub mod Widgets
+pub mod Forest

@@ -65,6 +65,14 @@ impl Store {
         row_under(&self.keys, &self.rows, id)
     }
 
+    /// The row with a live number.
+    pub(crate) fn row(&self, id: u32) -> &Row
+        requires { IsSome (row_at self.now id) }
+        ensures { row_at self.now id ≡ Some result.now }
+    {
+        self.get(id).unwrap()
+    }
+
     /// Puts a row last. An error leaves the rows as they were.
     pub(crate) fn push(&mut self, id: u32, row: Row) -> Result<(), AllocError>
         requires { row_at self.old id ≡ None }

@@ -1,0 +1,10 @@
+use Rattle.std.proofs.Common.{refl}
+use Rattle.tree_core.specs.Changes.{changed_by}
+use Rattle.tree_core.proofs.ForestLemmas.{IsTree-with_row}
+use Rattle.tree_core.proofs.tree.Tree.set_column_rule.Goals as goal
+
+pub invariant_of-self : goal.invariant_of-self
+invariant_of-self c = rw c.change.ensures (IsTree-with_row _ _ c.self.inside.store c.args.id.key _ (λ row. refl) c.self.invariant)
+
+pub returns-clause-valid : goal.returns-clause-valid
+returns-clause-valid c = rw c.change.ensures ((IsTree-with_row _ _ c.self.inside.store c.args.id.key _ (λ row. refl) c.self.invariant).forest)
