@@ -4,6 +4,7 @@ use Rattle.std.specs.List.{list_all}
 use Rattle.kind_core.specs.declared.kinds.Kind.{Kind}
 use Rattle.desk_model.specs.Nodes.{Node, id_named, node_at, count_of, any_kind, counts_with, is_number_of}
 use Rattle.desk_model.specs.Widgets.{Widgets, nodes, is_joined}
+use Rattle.desk_model.specs.Links.{ties, all_lead}
 
 -- No two nodes have one number.
 abbrev pub HaveOwnNumbers : List (ℕ × Node) → Type 0
@@ -29,6 +30,7 @@ pub record IsForest (clients : List ℕ) (entries : List (ℕ × Node)) : Type 0
   pub most : (client : ℕ) → count_of client any_kind entries ≤ 128
   pub most_alike : (client : ℕ) (kind : Kind) → count_of client (counts_with kind) entries ≤ 8
 
--- The same of all widgets.
-abbrev pub IsWidgets : Widgets → Type 0
-IsWidgets widgets = IsForest widgets.clients (nodes widgets.entries)
+-- Of all widgets the same holds, and each link leads to a Variable of the same client.
+pub record IsWidgets (widgets : Widgets) : Type 0 where
+  pub forest : IsForest widgets.clients (nodes widgets.entries)
+  pub linked : all_lead (nodes widgets.entries) (ties widgets.entries) ≡ true

@@ -12,4 +12,5 @@ pub mod Laws
 pub mod Rows
 pub mod Nodes
 pub mod Widgets
+pub mod Links
 pub mod Forest

@@ -1,22 +1,18 @@
--- The node of a row is what ties the row to others: its client, name and kind, where it is attached, and
--- what it is linked to.
+-- The node of a row is what names it: its client, name and kind. No call changes the node of a row.
 use Rattle.std.specs.Prelude.{ℕ, ◌+◌, ◌-◌, ◌*◌, Bool, true, false, ◌&&◌, nat_eq, nat_lt, nat_le, List, [], ◌∷◌, Option, Some, None, if◌then◌else◌}
 use Rattle.std.specs.List.{count_by}
 use Rattle.std.specs.Str.{bytes_eq}
 use Rattle.kind_core.specs.declared.kinds.Kind.{Kind}
 use Rattle.kind_core.specs.declared.kinds.Kind.TheVariants.{Window, VScreen}
-use Rattle.kind_core.specs.declared.shapes.Cell.{Cell}
 use Rattle.desk_model.specs.Rows.{Row}
 
 pub record Node : Type 0 where
   pub client : ℕ
   pub name : List ℕ
   pub kind : Kind
-  pub spot : Option (List ℕ × Cell)
-  pub link : Option (List ℕ)
 
 abbrev pub node_of : Row → Node
-node_of row = record { client = row.client; name = row.name; kind = row.kind; spot = row.spot; link = row.link }
+node_of row = record { client = row.client; name = row.name; kind = row.kind }
 
 -- whether the node has this client and name
 abbrev pub is_named : ℕ → List ℕ → Node → Bool
@@ -26,6 +22,11 @@ is_named client name node = nat_eq client node.client && bytes_eq name node.name
 abbrev pub id_named : List (ℕ × Node) → ℕ → List ℕ → Option ℕ
 id_named [] client name = None
 id_named (entry ∷ entries) client name = if is_named client name entry.1 then Some entry.0 else id_named entries client name
+
+-- the kind of the node with this client and name
+abbrev pub kind_named : List (ℕ × Node) → ℕ → List ℕ → Option Kind
+kind_named [] client name = None
+kind_named (entry ∷ entries) client name = if is_named client name entry.1 then Some entry.1.kind else kind_named entries client name
 
 -- the node with this number
 abbrev pub node_at : List (ℕ × Node) → ℕ → Option Node

@@ -4,6 +4,7 @@
 use Rattle.std.specs.Prelude.{ℕ, ◌≡◌, Bool, nat_eq, List, [], ◌∷◌, ◌++◌, map, Option, Some, None, IsSome, if◌then◌else◌}
 use Rattle.std.specs.List.{list_any}
 use Rattle.std.specs.Option.{option_map}
+use Rattle.kind_core.specs.declared.kinds.Kind.{Kind}
 use Rattle.kind_core.specs.declared.kinds.Kind.TheVariants.{Grid}
 use Rattle.desk_model.specs.Rows.{Row}
 use Rattle.desk_model.specs.Nodes.{Node, node_of}
@@ -37,9 +38,16 @@ row_at (entry ∷ entries) id = if nat_eq id entry.0 then Some entry.1 else row_
 abbrev pub IsLive : Widgets → ℕ → Type 0
 IsLive widgets id = IsSome (row_at widgets.entries id)
 
+-- the kind and the client of the numbered row
+abbrev pub row_kind : List (ℕ × Row) → ℕ → Option Kind
+row_kind entries id = option_map (λ row. row.kind) (row_at entries id)
+
+abbrev pub row_client : List (ℕ × Row) → ℕ → Option ℕ
+row_client entries id = option_map (λ row. row.client) (row_at entries id)
+
 -- the number names a Grid
 abbrev pub IsGrid : Widgets → ℕ → Type 0
-IsGrid widgets id = option_map (λ row. row.kind) (row_at widgets.entries id) ≡ Some Grid
+IsGrid widgets id = row_kind widgets.entries id ≡ Some Grid
 
 -- the entries with the numbered row changed
 abbrev pub with_row : ℕ → (Row → Row) → List (ℕ × Row) → List (ℕ × Row)

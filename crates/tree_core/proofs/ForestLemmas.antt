@@ -5,6 +5,7 @@ use Rattle.std.proofs.lemmas.Bool.Decides.{nat_tests}
 use Rattle.std.proofs.lemmas.List.{take_more, take_all}
 use Rattle.std.proofs.lemmas.List.Sums.{sum_by_push, sum_by-cons}
 use Rattle.std.proofs.lemmas.List.Folds.{list_all-append, list_any-append}
+use Rattle.std.proofs.lemmas.Slice.Eq.{bytes_eq-Decides}
 use Rattle.std.proofs.lemmas.Option.{get_or_from_slice_get}
 use Rattle.std.specs.Cmp.{IsEquivalence, nat_eq_equiv}
 use Rattle.std.specs.Cmp.Lexicographic.{nat_list_eq_equiv}
@@ -13,10 +14,11 @@ use Rattle.std.specs.Option.{option_map}
 use Rattle.std.specs.Map.{lookup}
 use Rattle.std.specs.Str.{bytes_eq}
 use Rattle.kind_core.specs.declared.kinds.Kind.{Kind}
-use Rattle.kind_core.specs.declared.kinds.Kind.TheVariants.{Window, VScreen}
-use Rattle.desk_model.specs.Rows.{Row}
-use Rattle.desk_model.specs.Nodes.{Node, node_of, is_named, id_named, node_at, count_of, any_kind, counts_with, first_number, is_number_of}
-use Rattle.desk_model.specs.Widgets.{row_at, with_row, nodes, is_joined}
+use Rattle.kind_core.specs.declared.kinds.Kind.TheVariants.{Window, Variable, VScreen}
+use Rattle.desk_model.specs.Rows.{Row, with_link}
+use Rattle.desk_model.specs.Links.{Tie, ties, is_variable, leads, all_lead, name_at}
+use Rattle.desk_model.specs.Nodes.{Node, node_of, is_named, id_named, kind_named, node_at, count_of, any_kind, counts_with, first_number, is_number_of}
+use Rattle.desk_model.specs.Widgets.{row_at, row_kind, row_client, with_row, nodes, is_joined}
 use Rattle.desk_model.specs.Forest.{HaveOwnNumbers, HaveOwnNames, is_client, IsForest}
 use Rattle.tree_core.specs.Indexed.{same_key, IsIndexed, IsTree}
 use Rattle.tree_core.specs.Refusals.{add_refusal}
@@ -328,15 +330,138 @@ pub maybe : {X : Type 0} (P : X → Type 0) (b : Bool) (x y : X) → P x → P y
 maybe P true x y h k = h
 maybe P false x y h k = k
 
-pub IsTree-with_row : (clients : List ℕ) (names : List ((ℕ × List ℕ) × ℕ)) (es : List (ℕ × Row)) (id : ℕ) (change : Row → Row) → ((row : Row) → node_of (change row) ≡ node_of row) → IsTree clients names es → IsTree clients names (with_row id change es)
+pub ties-with_row : (es : List (ℕ × Row)) (id : ℕ) (change : Row → Row) → ((row : Row) → (node_of (change row) ≡ node_of row) × ((change row).link ≡ row.link)) → ties (with_row id change es) ≡ ties es
+ties-with_row [] id change same = refl
+ties-with_row (e ∷ es) id change same = by (ties-with_row es id change same) (nat_eq id e.0)
+  where
+    by : ties (with_row id change es) ≡ ties es → (b : Bool) → ties (cond b (e.0, change e.1) e ∷ with_row id change es) ≡ ties (e ∷ es)
+    by rest true = rw ((same e.1).1, ap (λ (n : Node). n.client) (same e.1).0, rest) refl
+    by rest false = rw rest refl
+
+-- a change of a row that leaves its node and link keeps the facts
+pub IsTree-with_row : (clients : List ℕ) (names : List ((ℕ × List ℕ) × ℕ)) (es : List (ℕ × Row)) (id : ℕ) (change : Row → Row) → ((row : Row) → (node_of (change row) ≡ node_of row) × ((change row).link ≡ row.link)) → IsTree clients names es → IsTree clients names (with_row id change es)
 IsTree-with_row clients names es id change same kept =
-    let nodes_same = nodes-with_row es id change same in
+    let nodes_same = nodes-with_row es id change (λ row. (same row).0) in
     let P : List (ℕ × Node) → Type 0 = λ ns. IsIndexed names ns in
     let Q : List (ℕ × Node) → Type 0 = λ ns. IsForest clients ns in
-    record { indexed = subst P (sym nodes_same) kept.indexed; forest = subst Q (sym nodes_same) kept.forest }
+    record {
+      indexed = subst P (sym nodes_same) kept.indexed;
+      forest = subst Q (sym nodes_same) kept.forest;
+      linked = ap (λ (ns : List (ℕ × Node)). all_lead ns (ties (with_row id change es))) nodes_same ∙ ap (all_lead (nodes es)) (ties-with_row es id change same) ∙ kept.linked;
+    }
+
+-- a new row, which isn't linked, keeps the links
+kind_named-push : (es : List (ℕ × Node)) (e : ℕ × Node) (client : ℕ) (name : List ℕ) → is_variable (kind_named es client name) ≡ true → is_variable (kind_named (es ++ e ∷ []) client name) ≡ true
+kind_named-push [] e client name h = absurd (true≢false (sym h))
+kind_named-push (f ∷ fs) e client name h = by (kind_named-push fs e client name) (is_named client name f.1) h
+  where
+    by : (is_variable (kind_named fs client name) ≡ true → is_variable (kind_named (fs ++ e ∷ []) client name) ≡ true) → (b : Bool) → is_variable (cond b (Some f.1.kind) (kind_named fs client name)) ≡ true → is_variable (cond b (Some f.1.kind) (kind_named (fs ++ e ∷ []) client name)) ≡ true
+    by rest true h = h
+    by rest false h = rest h
+
+leads-push : (es : List (ℕ × Node)) (e : ℕ × Node) (client : ℕ) (link : Option (List ℕ)) → leads es client link ≡ true → leads (es ++ e ∷ []) client link ≡ true
+leads-push es e client None h = refl
+leads-push es e client (Some name) h = kind_named-push es e client name h
+
+all_lead-push : (es : List (ℕ × Node)) (e : ℕ × Node) (tied : List Tie) → all_lead es tied ≡ true → all_lead (es ++ e ∷ []) tied ≡ true
+all_lead-push es e [] h = refl
+all_lead-push es e (t ∷ ts) h =
+    let parts = and_parts (leads es t.client t.link) (all_lead es ts) h in
+    and_from _ _ (leads-push es e t.client t.link parts.0) (all_lead-push es e ts parts.1)
+
+pub ties-push : (es : List (ℕ × Row)) (id : ℕ) (row : Row) → ties (es ++ (id, row) ∷ []) ≡ ties es ++ record { client = row.client; link = row.link } ∷ []
+ties-push [] id row = refl
+ties-push (e ∷ es) id row = rw (ties-push es id row) refl
+
+pub linked-push : (es : List (ℕ × Row)) (id : ℕ) (row : Row) → row.link ≡ None → all_lead (nodes es) (ties es) ≡ true → all_lead (nodes (es ++ (id, row) ∷ [])) (ties (es ++ (id, row) ∷ [])) ≡ true
+linked-push es id row unlinked old =
+    let last : leads (nodes es ++ (id, node_of row) ∷ []) row.client row.link ≡ true = rw unlinked refl in
+    let tie : Tie = record { client = row.client; link = row.link } in
+    rw (nodes-push es id row, ties-push es id row)
+      (list_all-push (λ (t : Tie). leads (nodes es ++ (id, node_of row) ∷ []) t.client t.link) (ties es) tie (all_lead-push (nodes es) (id, node_of row) (ties es) old) last)
+
+-- a numbered row is the first of its name
+row_id_named : (es : List (ℕ × Row)) (id : ℕ) (row : Row) → row_at es id ≡ Some row → is_some (id_named (nodes es) row.client row.name) ≡ true
+row_id_named [] id row there = absurd (cc)
+row_id_named (e ∷ es) id row there = by (row_id_named es id row) (nat_eq id e.0) there
+  where
+    later : (b : Bool) → is_some (id_named (nodes es) row.client row.name) ≡ true → is_some (cond b (Some e.0) (id_named (nodes es) row.client row.name)) ≡ true
+    later true h = refl
+    later false h = h
+    by : (row_at es id ≡ Some row → is_some (id_named (nodes es) row.client row.name) ≡ true) → (b : Bool) → cond b (Some e.1) (row_at es id) ≡ Some row → is_some (id_named (nodes (e ∷ es)) row.client row.name) ≡ true
+    by rest true h =
+        let same : e.1 ≡ row = cc in
+        let own : is_named e.1.client e.1.name (node_of e.1) ≡ true = and_from _ _ (nat_eq_equiv.refl e.1.client) (nat_list_eq_equiv.refl e.1.name) in
+        rw (← same) (rw own refl)
+    by rest false h = later (is_named row.client row.name (node_of e.1)) (rest h)
+
+pub kind_named-row : (es : List (ℕ × Row)) (id : ℕ) (row : Row) → HaveOwnNames (nodes es) → row_at es id ≡ Some row → kind_named (nodes es) row.client row.name ≡ Some row.kind
+kind_named-row [] id row own there = absurd (cc)
+kind_named-row (e ∷ es) id row own there = by (kind_named-row es id row own.1) (nat_eq id e.0) there
+  where
+    other : row_at es id ≡ Some row → (b : Bool) → is_named row.client row.name (node_of e.1) ≡ b → kind_named (nodes es) row.client row.name ≡ Some row.kind → cond b (Some e.1.kind) (kind_named (nodes es) row.client row.name) ≡ Some row.kind
+    other h true q rest =
+        let parts = and_parts (nat_eq row.client e.1.client) (bytes_eq row.name e.1.name) q in
+        let client : row.client ≡ e.1.client = eqb-true row.client e.1.client parts.0 in
+        let name : row.name ≡ e.1.name = (bytes_eq-Decides row.name e.1.name).0 parts.1 in
+        let found : id_named (nodes es) row.client row.name ≡ None = rw (client, name) own.0 in
+        absurd (true≢false (sym (row_id_named es id row h) ∙ ap is_some found))
+    other h false q rest = rest
+    by : (row_at es id ≡ Some row → kind_named (nodes es) row.client row.name ≡ Some row.kind) → (b : Bool) → cond b (Some e.1) (row_at es id) ≡ Some row → kind_named (nodes (e ∷ es)) row.client row.name ≡ Some row.kind
+    by rest true h =
+        let same : e.1 ≡ row = cc in
+        let own : is_named e.1.client e.1.name (node_of e.1) ≡ true = and_from _ _ (nat_eq_equiv.refl e.1.client) (nat_list_eq_equiv.refl e.1.name) in
+        rw (← same) (rw own refl)
+    by rest false h = other h (is_named row.client row.name (node_of e.1)) refl (rest h)
+
+with_row_absent : (es : List (ℕ × Row)) (id : ℕ) (change : Row → Row) → node_at (nodes es) id ≡ None → with_row id change es ≡ es
+with_row_absent [] id change absent = refl
+with_row_absent (e ∷ es) id change absent = by (with_row_absent es id change) (nat_eq id e.0) absent
+  where
+    by : (node_at (nodes es) id ≡ None → with_row id change es ≡ es) → (b : Bool) → cond b (Some (node_of e.1)) (node_at (nodes es) id) ≡ None → cond b (e.0, change e.1) e ∷ with_row id change es ≡ e ∷ es
+    by rest true h = absurd (cc)
+    by rest false h = rw (rest h) refl
+
+-- a link that leads to a Variable keeps the links
+linked-with_link : (ns : List (ℕ × Node)) (es : List (ℕ × Row)) (id : ℕ) (row : Row) (link : Option (List ℕ)) → HaveOwnNumbers (nodes es) → row_at es id ≡ Some row → leads ns row.client link ≡ true → all_lead ns (ties es) ≡ true → all_lead ns (ties (with_row id (with_link link) es)) ≡ true
+linked-with_link ns [] id row link own there new old = refl
+linked-with_link ns (e ∷ es) id row link own there new old = by (linked-with_link ns es id row link own.1) (nat_eq id e.0) refl there
+  where
+    parts : (leads ns e.1.client e.1.link ≡ true) × (all_lead ns (ties es) ≡ true)
+    parts = and_parts (leads ns e.1.client e.1.link) (all_lead ns (ties es)) old
+    by : (row_at es id ≡ Some row → leads ns row.client link ≡ true → all_lead ns (ties es) ≡ true → all_lead ns (ties (with_row id (with_link link) es)) ≡ true) → (b : Bool) → nat_eq id e.0 ≡ b → cond b (Some e.1) (row_at es id) ≡ Some row → all_lead ns (ties (cond b (e.0, with_link link e.1) e ∷ with_row id (with_link link) es)) ≡ true
+    by rest true q h =
+        let same : e.1 ≡ row = cc in
+        let here : leads ns e.1.client link ≡ true = rw same new in
+        let absent : node_at (nodes es) id ≡ None = rw (eqb-true id e.0 q) own.0 in
+        rw (with_row_absent es id (with_link link) absent) (and_from _ _ here parts.1)
+    by rest false q h = and_from _ _ parts.0 (rest h new parts.1)
+
+pub IsTree-with_link : (clients : List ℕ) (names : List ((ℕ × List ℕ) × ℕ)) (es : List (ℕ × Row)) (id : ℕ) (row : Row) (link : Option (List ℕ)) → row_at es id ≡ Some row → leads (nodes es) row.client link ≡ true → IsTree clients names es → IsTree clients names (with_row id (with_link link) es)
+IsTree-with_link clients names es id row link there new kept =
+    let nodes_same = nodes-with_row es id (with_link link) (λ row. refl) in
+    let P : List (ℕ × Node) → Type 0 = λ ns. IsIndexed names ns in
+    let Q : List (ℕ × Node) → Type 0 = λ ns. IsForest clients ns in
+    record {
+      indexed = subst P (sym nodes_same) kept.indexed;
+      forest = subst Q (sym nodes_same) kept.forest;
+      linked = ap (λ (ns : List (ℕ × Node)). all_lead ns (ties (with_row id (with_link link) es))) nodes_same ∙ linked-with_link (nodes es) es id row link kept.forest.own_numbers there new kept.linked;
+    }
 
 pub count_more_true : (client : ℕ) (test : Kind → Bool) (es : List (ℕ × Row)) (i id : ℕ) (row : Row) → i < length es → slice_get es i ≡ Some (id, row) → (nat_eq client row.client && test row.kind) ≡ true → count_of client test (nodes (take (i + 1) es)) ≡ count_of client test (nodes (take i es)) + 1
 count_more_true client test es i id row within there counts = count_more client test es i id row within there ∙ rw counts refl
 
 pub count_more_false : (client : ℕ) (test : Kind → Bool) (es : List (ℕ × Row)) (i id : ℕ) (row : Row) → i < length es → slice_get es i ≡ Some (id, row) → (nat_eq client row.client && test row.kind) ≡ false → count_of client test (nodes (take (i + 1) es)) ≡ count_of client test (nodes (take i es)) + 0
 count_more_false client test es i id row within there counts = count_more client test es i id row within there ∙ rw counts refl
+
+-- the name of a Variable of the client leads to it
+pub variable-leads : (es : List (ℕ × Row)) (id client : ℕ) → HaveOwnNames (nodes es) → row_kind es id ≡ Some Variable → row_client es id ≡ Some client → leads (nodes es) client (name_at es id) ≡ true
+variable-leads es id client own kind owner = by (row_at es id) refl kind owner
+  where
+    by : (o : Option Row) → row_at es id ≡ o → option_map (λ (r : Row). r.kind) o ≡ Some Variable → option_map (λ (r : Row). r.client) o ≡ Some client → leads (nodes es) client (option_map (λ (r : Row). r.name) o) ≡ true
+    by None p kind owner = absurd (cc)
+    by (Some row) p kind owner =
+        let same : row.client ≡ client = cc in
+        let is : row.kind ≡ Variable = cc in
+        let found : kind_named (nodes es) client row.name ≡ Some Variable = rw (← same) (kind_named-row es id row own p ∙ ap Some is) in
+        rw found refl

@@ -7,7 +7,7 @@ use Rattle.desk_model.specs.Rows.{Row}
 use Rattle.desk_model.specs.Widgets.{row_at, with_row, without_row}
 use Rattle.tree_core.specs.Shown.{shown, shown_one, IsApart, IsShown}
 
-none_or_some : {X : Type 0} (o : Option X) → is_some o ≡ true → (x : X) × (o ≡ Some x)
+pub none_or_some : {X : Type 0} (o : Option X) → is_some o ≡ true → (x : X) × (o ≡ Some x)
 none_or_some None h = absurd (true≢false (sym h))
 none_or_some (Some x) h = (x, refl)
 

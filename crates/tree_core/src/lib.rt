@@ -4,6 +4,7 @@
 mod add;
 mod change;
 mod id;
+mod links;
 mod names;
 mod places;
 mod refusal;

@@ -1,9 +1,10 @@
 ghost use Rattle.std.specs.Prelude.{◌≡◌, ◌<◌, ◌≤◌, Some, None, true, false, IfSome, OnOk, OnErr, IfOk, IfErr};
-ghost use Rattle.std.specs.Option.{option_map};
+ghost use Rattle.std.specs.Option.{option_map, option_and_then};
 ghost use Rattle.kind_core.specs.Attributes.{domain_of, judged};
-ghost use Rattle.desk_model.specs.Rows.{new_row, attr_of, with_attr, column_rule_of, with_column_rule, row_rule_of, with_row_rule, binding_of, with_binding};
+ghost use Rattle.desk_model.specs.Rows.{new_row, attr_of, with_attr, column_rule_of, with_column_rule, row_rule_of, with_row_rule, binding_of, with_binding, with_link};
 ghost use Rattle.desk_model.specs.Nodes.{id_named};
-ghost use Rattle.desk_model.specs.Widgets.{no_widgets, is_joined, row_at, nodes, IsLive, IsGrid, edited, with_new, joined};
+ghost use Rattle.desk_model.specs.Widgets.{no_widgets, is_joined, row_at, nodes, IsLive, IsGrid, edited, with_new, joined, row_kind, row_client};
+ghost use Rattle.desk_model.specs.Links.{linked_id, name_at};
 ghost use Rattle.desk_model.specs.Forest.{IsWidgets};
 ghost use Rattle.tree_core.specs.Changes.{IsIndex};
 ghost use Rattle.tree_core.specs.Refusals.{add_refusal, AnswersRefusal};
@@ -13,6 +14,7 @@ use crate::change::Change;
 use crate::id::Id;
 use crate::names::{Names, number_of, put_new};
 use crate::refusal::{AddRefusal, NoMemory};
+use crate::links::{link_of, name_of};
 use crate::store::Store;
 use indexmap::IndexMap;
 use kind_core::{Attr, AttrRefusal, EventKind, Kind, Name, Value, check};
@@ -209,6 +211,31 @@ impl Tree {
                 rule: (size, weight),
             },
         );
+    }
+
+    /// The Variable that the widget is linked to, None exactly where it isn't linked.
+    pub fn link(&self, id: Id) -> Option<Id>
+        requires { IsLive self.now id.key }
+        ensures found { option_map (λ id. id.key) result ≡ linked_id self.now id.key }
+        ensures live { IfSome result (λ id. IsLive self.now id.key) }
+        ensures valid { IsWidgets self.now }
+    {
+        match link_of(&self.names, &self.store, id.key) {
+            Some(key) => Some(Id { key }),
+            None => None,
+        }
+    }
+
+    /// Links the widget to a Variable of the same client, or unlinks it.
+    pub fn set_link(&mut self, id: Id, variable: Option<Id>)
+        requires live { IsLive self.old id.key }
+        requires variable { IfSome variable (λ other. row_kind self.old.entries other.key ≡ Some Kind.Variable) }
+        requires owner { IfSome variable (λ other. row_client self.old.entries other.key ≡ row_client self.old.entries id.key) }
+        ensures link { self.new ≡ edited id.key (with_link (option_and_then (λ other. name_at self.old.entries other.key) variable)) self.old }
+        ensures valid { IsWidgets self.new }
+    {
+        let name = name_of(&self.store, variable);
+        self.store.change(id.key, Change::Link { variable: name });
     }
 
     /// The tag that the widget's event is bound to, None exactly where it isn't bound.

@@ -1,10 +1,11 @@
-use Rattle.std.proofs.Common.{◌≡◌, ◌∷◌, ◌++◌, [], ℕ, List, None, is_ok, true, sym, ap, ◌∙◌, subst}
+use Rattle.std.proofs.Common.{◌≡◌, ◌∷◌, ◌++◌, [], ℕ, List, None, is_ok, true, sym, ap, ◌∙◌, subst, refl}
 use Rattle.std.specs.Option.{option_map}
 use Rattle.desk_model.specs.Rows.{Row, new_row}
 use Rattle.desk_model.specs.Nodes.{Node, node_of, node_at}
 use Rattle.desk_model.specs.Widgets.{Widgets, nodes, is_joined}
+use Rattle.desk_model.specs.Links.{ties, all_lead}
 use Rattle.desk_model.specs.Forest.{IsForest}
-use Rattle.tree_core.proofs.ForestLemmas.{joined_in_range, no_refusal, node_at-nodes, nodes-push, IsForest-push, maybe}
+use Rattle.tree_core.proofs.ForestLemmas.{joined_in_range, no_refusal, node_at-nodes, nodes-push, IsForest-push, linked-push, maybe}
 use Rattle.tree_core.proofs.tree.Tree.add.Goals as goal
 
 pub free_number-id-requires-clause-low : goal.free_number-id-requires-clause-low
@@ -35,7 +36,9 @@ invariant_of-self c =
     let Q : List (ℕ × Node) → Type 0 = λ ns. IsForest c.self.inside.clients.items ns in
     let longer : P (old ++ (id, row) ∷ []) = subst Q (sym (nodes-push old id row)) (IsForest-push c.self.inside.clients.items es id (node_of row) c.self.invariant.forest free checks.0 c.free_number-id.ensures.own member checks.1 checks.2) in
     let forest : P c.put_new.new.store = subst P (sym c.put_new.ensures.rows) (maybe P (is_ok c.put_new.result) (old ++ (id, row) ∷ []) old longer c.self.invariant.forest) in
-    record { indexed = c.put_new.ensures.indexed; forest = forest }
+    let L : List (ℕ × Row) → Type 0 = λ rows. all_lead (nodes rows) (ties rows) ≡ true in
+    let linked : L c.put_new.new.store = subst L (sym c.put_new.ensures.rows) (maybe L (is_ok c.put_new.result) (old ++ (id, row) ∷ []) old (linked-push old id row refl c.self.invariant.linked) c.self.invariant.linked) in
+    record { indexed = c.put_new.ensures.indexed; forest = forest; linked = linked }
 
 pub returns-clause-valid : goal.returns-clause-valid
 unfolding new_row
@@ -51,4 +54,6 @@ returns-clause-valid c =
     let Q : List (ℕ × Node) → Type 0 = λ ns. IsForest c.self.inside.clients.items ns in
     let longer : P (old ++ (id, row) ∷ []) = subst Q (sym (nodes-push old id row)) (IsForest-push c.self.inside.clients.items es id (node_of row) c.self.invariant.forest free checks.0 c.free_number-id.ensures.own member checks.1 checks.2) in
     let forest : P c.put_new.new.store = subst P (sym c.put_new.ensures.rows) (maybe P (is_ok c.put_new.result) (old ++ (id, row) ∷ []) old longer c.self.invariant.forest) in
-    forest
+    let L : List (ℕ × Row) → Type 0 = λ rows. all_lead (nodes rows) (ties rows) ≡ true in
+    let linked : L c.put_new.new.store = subst L (sym c.put_new.ensures.rows) (maybe L (is_ok c.put_new.result) (old ++ (id, row) ∷ []) old (linked-push old id row refl c.self.invariant.linked) c.self.invariant.linked) in
+    record { forest = forest; linked = linked }
