@@ -38,6 +38,10 @@ row_at (entry ∷ entries) id = if nat_eq id entry.0 then Some entry.1 else row_
 abbrev pub IsLive : Widgets → ℕ → Type 0
 IsLive widgets id = IsSome (row_at widgets.entries id)
 
+-- each number that was live is live still
+abbrev pub KeepsLive : Widgets → Widgets → Type 0
+KeepsLive old new = (id : ℕ) → IsLive old id → IsLive new id
+
 -- the kind and the client of the numbered row
 abbrev pub row_kind : List (ℕ × Row) → ℕ → Option Kind
 row_kind entries id = option_map (λ row. row.kind) (row_at entries id)

@@ -90,9 +90,9 @@ pub IsIndexed-push : (names : List ((ℕ × List ℕ) × ℕ)) (es : List (ℕ �
 IsIndexed-push names es id node kept =
     record {
       finds = λ client name.
-        lookup-push (same_key (client, name)) names ((node.client, node.name), id)
-        ∙ ap (λ (found : Option ℕ). or_last found (is_named client name node) id) (kept.finds client name)
-        ∙ sym (id_named-push es (id, node) client name);
+          lookup-push (same_key (client, name)) names ((node.client, node.name), id)
+          ∙ ap (λ (found : Option ℕ). or_last found (is_named client name node) id) (kept.finds client name)
+          ∙ sym (id_named-push es (id, node) client name);
     }
 
 node_at-push : (es : List (ℕ × Node)) (e : ℕ × Node) (id : ℕ) → nat_eq id e.0 ≡ false → node_at es id ≡ None → node_at (es ++ e ∷ []) id ≡ None
@@ -194,6 +194,7 @@ IsForest-join clients client es kept low high =
   where
     one : (c : ℕ) → is_joined clients c ≡ true → is_joined (clients ++ client ∷ []) c ≡ true
     one c h = list_any-append (nat_eq c) clients (client ∷ []) ∙ rw h refl
+
     each : (es : List (ℕ × Node)) → list_all (λ (e : ℕ × Node). is_joined clients e.1.client) es ≡ true → list_all (λ (e : ℕ × Node). is_joined (clients ++ client ∷ []) e.1.client) es ≡ true
     each [] h = refl
     each (e ∷ es) h =
@@ -208,6 +209,7 @@ named-live (e ∷ es) client name id found = by (named-live es client name id) (
     later : (b : Bool) → is_some (node_at es id) ≡ true → is_some (cond b (Some e.1) (node_at es id)) ≡ true
     later true h = refl
     later false h = h
+
     by : (id_named es client name ≡ Some id → is_some (node_at es id) ≡ true) → (b : Bool) → cond b (Some e.0) (id_named es client name) ≡ Some id → is_some (node_at (e ∷ es) id) ≡ true
     by rest true h = let same : e.0 ≡ id = cc in rw (eq-eqb id e.0 (sym same)) refl
     by rest false h = later (nat_eq id e.0) (rest h)
@@ -284,8 +286,8 @@ own_only client (e ∷ es) low numbers =
     let here = and_parts (nat_le 1 e.1.client) (nat_le (first_number e.1.client) e.0 && nat_lt e.0 (first_number e.1.client + 128)) parts.0 in
     let own = and_parts (nat_le (first_number e.1.client) e.0) (nat_lt e.0 (first_number e.1.client + 128)) here.1 in
     let one = one_if (within (first_number client) 128 e.0) (nat_eq client e.1.client && true) (λ h. let p = and_parts (nat_le (first_number client) e.0) (nat_lt e.0 (first_number client + 128)) h in
-      let same : client ≡ e.1.client = omega (arith, low, leb-true 1 e.1.client here.0, leb-true (first_number client) e.0 p.0, ltb-true e.0 (first_number client + 128) p.1, leb-true (first_number e.1.client) e.0 own.0, ltb-true e.0 (first_number e.1.client + 128) own.1) in
-      and_from _ _ (eq-eqb client e.1.client same) refl) in
+    let same : client ≡ e.1.client = omega (arith, low, leb-true 1 e.1.client here.0, leb-true (first_number client) e.0 p.0, ltb-true e.0 (first_number client + 128) p.1, leb-true (first_number e.1.client) e.0 own.0, ltb-true e.0 (first_number e.1.client + 128) own.1) in
+    and_from _ _ (eq-eqb client e.1.client same) refl) in
     omega (arith, one, own_only client es low parts.1, sum_by-cons (λ (e : ℕ × Node). cond (nat_le (first_number client) e.0 && nat_lt e.0 (first_number client + 128)) 1 0) e es, sum_by-cons (λ (e : ℕ × Node). cond (nat_eq client e.1.client && any_kind e.1.kind) 1 0) e es)
 
 pub one_is_free : (client : ℕ) (es : List (ℕ × Node)) → 1 ≤ client → list_all (λ (e : ℕ × Node). is_number_of e.1.client e.0) es ≡ true → count_of client any_kind es < 128 → ((k : ℕ) → first_number client ≤ k → k < first_number client + 128 → is_some (node_at es k) ≡ true) → ⊥
@@ -301,6 +303,7 @@ joined_in_range (c ∷ cs) client there ranges = by (joined_in_range cs client) 
   where
     parts : (is_client c ≡ true) × (list_all is_client cs ≡ true)
     parts = and_parts (is_client c) (list_all is_client cs) ranges
+
     by : (is_joined cs client ≡ true → list_all is_client cs ≡ true → (1 ≤ client) × (client ≤ 16)) → (b : Bool) → nat_eq client c ≡ b → (b || is_joined cs client) ≡ true → (1 ≤ client) × (client ≤ 16)
     by rest true q h =
         let ends = and_parts (nat_le 1 c) (nat_le c 16) parts.0 in
@@ -378,7 +381,7 @@ linked-push es id row unlinked old =
     let last : leads (nodes es ++ (id, node_of row) ∷ []) row.client row.link ≡ true = rw unlinked refl in
     let tie : Tie = record { client = row.client; link = row.link } in
     rw (nodes-push es id row, ties-push es id row)
-      (list_all-push (λ (t : Tie). leads (nodes es ++ (id, node_of row) ∷ []) t.client t.link) (ties es) tie (all_lead-push (nodes es) (id, node_of row) (ties es) old) last)
+    (list_all-push (λ (t : Tie). leads (nodes es ++ (id, node_of row) ∷ []) t.client t.link) (ties es) tie (all_lead-push (nodes es) (id, node_of row) (ties es) old) last)
 
 -- a numbered row is the first of its name
 row_id_named : (es : List (ℕ × Row)) (id : ℕ) (row : Row) → row_at es id ≡ Some row → is_some (id_named (nodes es) row.client row.name) ≡ true
@@ -388,6 +391,7 @@ row_id_named (e ∷ es) id row there = by (row_id_named es id row) (nat_eq id e.
     later : (b : Bool) → is_some (id_named (nodes es) row.client row.name) ≡ true → is_some (cond b (Some e.0) (id_named (nodes es) row.client row.name)) ≡ true
     later true h = refl
     later false h = h
+
     by : (row_at es id ≡ Some row → is_some (id_named (nodes es) row.client row.name) ≡ true) → (b : Bool) → cond b (Some e.1) (row_at es id) ≡ Some row → is_some (id_named (nodes (e ∷ es)) row.client row.name) ≡ true
     by rest true h =
         let same : e.1 ≡ row = cc in
@@ -407,6 +411,7 @@ kind_named-row (e ∷ es) id row own there = by (kind_named-row es id row own.1)
         let found : id_named (nodes es) row.client row.name ≡ None = rw (client, name) own.0 in
         absurd (true≢false (sym (row_id_named es id row h) ∙ ap is_some found))
     other h false q rest = rest
+
     by : (row_at es id ≡ Some row → kind_named (nodes es) row.client row.name ≡ Some row.kind) → (b : Bool) → cond b (Some e.1) (row_at es id) ≡ Some row → kind_named (nodes (e ∷ es)) row.client row.name ≡ Some row.kind
     by rest true h =
         let same : e.1 ≡ row = cc in
@@ -429,6 +434,7 @@ linked-with_link ns (e ∷ es) id row link own there new old = by (linked-with_l
   where
     parts : (leads ns e.1.client e.1.link ≡ true) × (all_lead ns (ties es) ≡ true)
     parts = and_parts (leads ns e.1.client e.1.link) (all_lead ns (ties es)) old
+
     by : (row_at es id ≡ Some row → leads ns row.client link ≡ true → all_lead ns (ties es) ≡ true → all_lead ns (ties (with_row id (with_link link) es)) ≡ true) → (b : Bool) → nat_eq id e.0 ≡ b → cond b (Some e.1) (row_at es id) ≡ Some row → all_lead ns (ties (cond b (e.0, with_link link e.1) e ∷ with_row id (with_link link) es)) ≡ true
     by rest true q h =
         let same : e.1 ≡ row = cc in
@@ -465,3 +471,34 @@ variable-leads es id client own kind owner = by (row_at es id) refl kind owner
         let is : row.kind ≡ Variable = cc in
         let found : kind_named (nodes es) client row.name ≡ Some Variable = rw (← same) (kind_named-row es id row own p ∙ ap Some is) in
         rw found refl
+
+-- numbers stay live through a change and through a new row, whose own number is live too
+pub live-with_row : (es : List (ℕ × Row)) (id : ℕ) (change : Row → Row) (other : ℕ) → is_some (row_at es other) ≡ true → is_some (row_at (with_row id change es) other) ≡ true
+live-with_row [] id change other h = h
+live-with_row (e ∷ es) id change other h = by (live-with_row es id change other) (nat_eq id e.0) (nat_eq other e.0) refl h
+  where
+    by : (is_some (row_at es other) ≡ true → is_some (row_at (with_row id change es) other) ≡ true) → (b d : Bool) → nat_eq other e.0 ≡ d → is_some (cond d (Some e.1) (row_at es other)) ≡ true → is_some (row_at (cond b (e.0, change e.1) e ∷ with_row id change es) other) ≡ true
+    by rest true true q h = rw q refl
+    by rest true false q h = rw q (rest h)
+    by rest false true q h = rw q refl
+    by rest false false q h = rw q (rest h)
+
+pub live-push : (es : List (ℕ × Row)) (id : ℕ) (row : Row) (other : ℕ) → is_some (row_at es other) ≡ true → is_some (row_at (es ++ (id, row) ∷ []) other) ≡ true
+live-push [] id row other h = absurd (true≢false (sym h))
+live-push (e ∷ es) id row other h = by (live-push es id row other) (nat_eq other e.0) h
+  where
+    by : (is_some (row_at es other) ≡ true → is_some (row_at (es ++ (id, row) ∷ []) other) ≡ true) → (d : Bool) → is_some (cond d (Some e.1) (row_at es other)) ≡ true → is_some (cond d (Some e.1) (row_at (es ++ (id, row) ∷ []) other)) ≡ true
+    by rest true h = refl
+    by rest false h = rest h
+
+pub live-last : (es : List (ℕ × Row)) (id : ℕ) (row : Row) → is_some (row_at (es ++ (id, row) ∷ []) id) ≡ true
+live-last [] id row = rw (nat_eq_equiv.refl id) refl
+live-last (e ∷ es) id row = by (live-last es id row) (nat_eq id e.0)
+  where
+    by : is_some (row_at (es ++ (id, row) ∷ []) id) ≡ true → (d : Bool) → is_some (cond d (Some e.1) (row_at (es ++ (id, row) ∷ []) id)) ≡ true
+    by rest true = refl
+    by rest false = rest
+
+pub live-maybe_push : (b : Bool) (es : List (ℕ × Row)) (id : ℕ) (row : Row) (other : ℕ) → is_some (row_at es other) ≡ true → is_some (row_at (cond b (es ++ (id, row) ∷ []) es) other) ≡ true
+live-maybe_push true es id row other h = live-push es id row other h
+live-maybe_push false es id row other h = h

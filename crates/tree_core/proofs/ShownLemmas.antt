@@ -156,18 +156,18 @@ module _ (at at' : ℕ → Option Row) (key : ℕ) (others : (other : ℕ) → o
   shown-change (e ∷ es) id row change h found was is =
       elim (cases_Bool (nat_eq id e.0)) [
         | inl hit ↦
-          let same = first_found e es id hit found in
-          let apart : IsApart (id, key) es = rw (← same) h.1 in
-          let rest = shown_others es id h.2 apart in
-          let here : at e.1 ≡ Some row = rw same was in
-          let there : at' e.1 ≡ Some (change row) = rw same is in
-          (rw (there, here, hit, rest.0, with_row_absent es id change h.2 apart) refl, (rw there refl, h.1, rest.1))
+            let same = first_found e es id hit found in
+            let apart : IsApart (id, key) es = rw (← same) h.1 in
+            let rest = shown_others es id h.2 apart in
+            let here : at e.1 ≡ Some row = rw same was in
+            let there : at' e.1 ≡ Some (change row) = rw same is in
+            (rw (there, here, hit, rest.0, with_row_absent es id change h.2 apart) refl, (rw there refl, h.1, rest.1))
         | inr miss ↦
-          let later : lookup (nat_eq id) es ≡ Some key = rw miss at found in
-          let rest = shown-change es id row change h.2 later was is in
-          let p = none_or_some (at e.1) h.0 in
-          let same : at' e.1 ≡ at e.1 = others e.1 (eqb-false e.1 key (apart_key es e id h.1 later)) in
-          (rw (same, p.1, miss, rest.0) refl, (rw same h.0, h.1, rest.1))
+            let later : lookup (nat_eq id) es ≡ Some key = rw miss at found in
+            let rest = shown-change es id row change h.2 later was is in
+            let p = none_or_some (at e.1) h.0 in
+            let same : at' e.1 ≡ at e.1 = others e.1 (eqb-false e.1 key (apart_key es e id h.1 later)) in
+            (rw (same, p.1, miss, rest.0) refl, (rw same h.0, h.1, rest.1))
       ]
 
   -- an entry that is apart from a list is apart from a part of it
@@ -185,15 +185,15 @@ module _ (at at' : ℕ → Option Row) (key : ℕ) (others : (other : ℕ) → o
   shown-remove (e ∷ es) id h found =
       elim (cases_Bool (nat_eq id e.0)) [
         | inl hit ↦
-          let same = first_found e es id hit found in
-          let apart : IsApart (id, key) es = rw (← same) h.1 in
-          let rest = shown_others es id h.2 apart in
-          let p = none_or_some (at e.1) h.0 in
-          (rw (hit, p.1, hit, rest.0, without_row_absent es id h.2 apart) refl, rw hit rest.1)
+            let same = first_found e es id hit found in
+            let apart : IsApart (id, key) es = rw (← same) h.1 in
+            let rest = shown_others es id h.2 apart in
+            let p = none_or_some (at e.1) h.0 in
+            (rw (hit, p.1, hit, rest.0, without_row_absent es id h.2 apart) refl, rw hit rest.1)
         | inr miss ↦
-          let later : lookup (nat_eq id) es ≡ Some key = rw miss at found in
-          let rest = shown-remove es id h.2 later in
-          let p = none_or_some (at e.1) h.0 in
-          let same : at' e.1 ≡ at e.1 = others e.1 (eqb-false e.1 key (apart_key es e id h.1 later)) in
-          (rw (miss, same, p.1, miss, rest.0) refl, rw miss (rw same h.0, apart_part es e id h.1, rest.1))
+            let later : lookup (nat_eq id) es ≡ Some key = rw miss at found in
+            let rest = shown-remove es id h.2 later in
+            let p = none_or_some (at e.1) h.0 in
+            let same : at' e.1 ≡ at e.1 = others e.1 (eqb-false e.1 key (apart_key es e id h.1 later)) in
+            (rw (miss, same, p.1, miss, rest.0) refl, rw miss (rw same h.0, apart_part es e id h.1, rest.1))
       ]

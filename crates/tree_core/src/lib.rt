@@ -15,3 +15,6 @@ mod tree;
 pub use id::Id;
 pub use refusal::{AddRefusal, NoMemory};
 pub use tree::Tree;
+
+#[cfg(test)]
+mod tests;

@@ -3,7 +3,7 @@ ghost use Rattle.std.specs.Option.{option_map, option_and_then};
 ghost use Rattle.kind_core.specs.Attributes.{domain_of, judged};
 ghost use Rattle.desk_model.specs.Rows.{new_row, attr_of, with_attr, column_rule_of, with_column_rule, row_rule_of, with_row_rule, binding_of, with_binding, with_link};
 ghost use Rattle.desk_model.specs.Nodes.{id_named};
-ghost use Rattle.desk_model.specs.Widgets.{no_widgets, is_joined, row_at, nodes, IsLive, IsGrid, edited, with_new, joined, row_kind, row_client};
+ghost use Rattle.desk_model.specs.Widgets.{no_widgets, is_joined, row_at, nodes, IsLive, IsGrid, KeepsLive, edited, with_new, joined, row_kind, row_client};
 ghost use Rattle.desk_model.specs.Links.{linked_id, name_at};
 ghost use Rattle.desk_model.specs.Forest.{IsWidgets};
 ghost use Rattle.tree_core.specs.Changes.{IsIndex};
@@ -12,9 +12,9 @@ ghost use Rattle.tree_core.specs.Refusals.{add_refusal, AnswersRefusal};
 use crate::add::{add_refusal, free_number};
 use crate::change::Change;
 use crate::id::Id;
+use crate::links::{link_of, name_of};
 use crate::names::{Names, number_of, put_new};
 use crate::refusal::{AddRefusal, NoMemory};
-use crate::links::{link_of, name_of};
 use crate::store::Store;
 use indexmap::IndexMap;
 use kind_core::{Attr, AttrRefusal, EventKind, Kind, Name, Value, check};
@@ -61,6 +61,7 @@ impl Tree {
         requires new_client { is_joined self.old.clients client ≡ false }
         ensures ok { OnOk result (self.new ≡ joined client self.old) }
         ensures err { OnErr result (self.new ≡ self.old) }
+        ensures kept { KeepsLive self.old self.new }
         ensures valid { IsWidgets self.new }
     {
         match self.clients.push(client) {
@@ -75,11 +76,14 @@ impl Tree {
     pub fn add(&mut self, client: u32, name: Name, kind: Kind) -> Result<Id, AddRefusal>
         requires { is_joined self.old.clients client ≡ true }
         ensures ok { IfOk result (λ id. self.new ≡ with_new id.key (new_row client name kind) self.old) }
+        ensures clients { self.new.clients ≡ self.old.clients }
+        ensures live { IfOk result (λ id. IsLive self.new id.key) }
         ensures fresh { IfOk result (λ id. row_at self.old.entries id.key ≡ None) }
         ensures number { IfOk result (λ id. id.key < 2048) }
         ensures allowed { OnOk result (add_refusal (nodes self.old.entries) client name kind ≡ None) }
         ensures refused { IfErr result (AnswersRefusal (add_refusal (nodes self.old.entries) client name kind)) }
         ensures err { OnErr result (self.new ≡ self.old) }
+        ensures kept { KeepsLive self.old self.new }
         ensures valid { IsWidgets self.new }
     {
         match add_refusal(&self.names, &self.store, client, &name, kind) {
@@ -140,6 +144,7 @@ impl Tree {
         ensures answer { option_map (λ row. judged (domain_of row.kind attr) value.now) (row_at self.old.entries id.key) ≡ Some result }
         ensures ok { OnOk result (self.new ≡ edited id.key (with_attr attr value.now) self.old) }
         ensures err { OnErr result (self.new ≡ self.old) }
+        ensures kept { KeepsLive self.old self.new }
         ensures valid { IsWidgets self.new }
     {
         let kind = self.store.row(id.key).kind();
@@ -184,6 +189,7 @@ impl Tree {
         requires size { size ≤ 1024 }
         requires weight { weight ≤ 1000 }
         ensures rule { self.new ≡ edited id.key (with_column_rule index (size, weight)) self.old }
+        ensures kept { KeepsLive self.old self.new }
         ensures valid { IsWidgets self.new }
     {
         self.store.change(
@@ -202,6 +208,7 @@ impl Tree {
         requires size { size ≤ 1024 }
         requires weight { weight ≤ 1000 }
         ensures rule { self.new ≡ edited id.key (with_row_rule index (size, weight)) self.old }
+        ensures kept { KeepsLive self.old self.new }
         ensures valid { IsWidgets self.new }
     {
         self.store.change(
@@ -232,6 +239,7 @@ impl Tree {
         requires variable { IfSome variable (λ other. row_kind self.old.entries other.key ≡ Some Kind.Variable) }
         requires owner { IfSome variable (λ other. row_client self.old.entries other.key ≡ row_client self.old.entries id.key) }
         ensures link { self.new ≡ edited id.key (with_link (option_and_then (λ other. name_at self.old.entries other.key) variable)) self.old }
+        ensures kept { KeepsLive self.old self.new }
         ensures valid { IsWidgets self.new }
     {
         let name = name_of(&self.store, variable);
@@ -251,6 +259,7 @@ impl Tree {
     pub fn set_binding(&mut self, id: Id, event: EventKind, tag: Option<Name>)
         requires { IsLive self.old id.key }
         ensures tag { self.new ≡ edited id.key (with_binding event tag) self.old }
+        ensures kept { KeepsLive self.old self.new }
         ensures valid { IsWidgets self.new }
     {
         self.store.change(id.key, Change::Binding { event, tag });

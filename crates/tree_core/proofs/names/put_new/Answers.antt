@@ -19,11 +19,11 @@ returns-clause-indexed c =
     let key : ℕ × List ℕ = (c.args.client, c.args.name) in
     let absent : lookup (same_key key) c.reserve.new.self.entries ≡ None = ap (lookup (same_key key)) c.reserve.ensures.entries ∙ c.requires.indexed.finds c.args.client c.args.name ∙ c.requires.new_name in
     let listing : c.insert.new.self.entries ≡ c.args.names.now.entries ++ (key, c.args.id) ∷ [] =
-      on_ok c.insert.result _ (c.insert.ensures.succeeds c.in_ok-reserve.ensures.ok) c.insert.ensures.entries
-      ∙ insert_entry-new same_key c.reserve.new.self key c.args.id absent
-      ∙ ap (λ (es : List ((ℕ × List ℕ) × ℕ)). es ++ (key, c.args.id) ∷ []) c.reserve.ensures.entries in
+    on_ok c.insert.result _ (c.insert.ensures.succeeds c.in_ok-reserve.ensures.ok) c.insert.ensures.entries
+    ∙ insert_entry-new same_key c.reserve.new.self key c.args.id absent
+    ∙ ap (λ (es : List ((ℕ × List ℕ) × ℕ)). es ++ (key, c.args.id) ∷ []) c.reserve.ensures.entries in
     let rows : c.push.new.self ≡ c.args.store.now ++ (c.args.id, new_row c.args.client c.args.name c.args.kind) ∷ [] =
-      c.in_ok-push.ensures.ok ∙ ap (λ (row : Row). c.args.store.now ++ (c.args.id, row) ∷ []) c.new.ensures in
+    c.in_ok-push.ensures.ok ∙ ap (λ (row : Row). c.args.store.now ++ (c.args.id, row) ∷ []) c.new.ensures in
     let shown = ap nodes rows ∙ nodes-push c.args.store.now c.args.id (new_row c.args.client c.args.name c.args.kind) in
     let P : List ((ℕ × List ℕ) × ℕ) → Type 0 = λ names. IsIndexed names (nodes c.push.new.self) in
     let Q : List (ℕ × Node) → Type 0 = λ ns. IsIndexed (c.args.names.now.entries ++ (key, c.args.id) ∷ []) ns in

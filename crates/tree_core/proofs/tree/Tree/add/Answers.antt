@@ -1,12 +1,13 @@
-use Rattle.std.proofs.Common.{◌≡◌, ◌∷◌, ◌++◌, [], ℕ, List, None, is_ok, true, sym, ap, ◌∙◌, subst, refl}
+use Rattle.std.proofs.Common.{◌≡◌, ◌∷◌, ◌++◌, [], ℕ, List, None, is_ok, is_some, true, sym, ap, ◌∙◌, subst, refl}
 use Rattle.std.specs.Option.{option_map}
 use Rattle.desk_model.specs.Rows.{Row, new_row}
 use Rattle.desk_model.specs.Nodes.{Node, node_of, node_at}
-use Rattle.desk_model.specs.Widgets.{Widgets, nodes, is_joined}
+use Rattle.desk_model.specs.Widgets.{Widgets, nodes, is_joined, row_at}
 use Rattle.desk_model.specs.Links.{ties, all_lead}
 use Rattle.desk_model.specs.Forest.{IsForest}
-use Rattle.tree_core.proofs.ForestLemmas.{joined_in_range, no_refusal, node_at-nodes, nodes-push, IsForest-push, linked-push, maybe}
+use Rattle.tree_core.proofs.ForestLemmas.{joined_in_range, no_refusal, node_at-nodes, nodes-push, IsForest-push, linked-push, maybe, live-maybe_push, live-last}
 use Rattle.tree_core.proofs.tree.Tree.add.Goals as goal
+use Rattle.tree_core.proofs.tree.Tree.add.Goals.{in-Ok, in-Err}
 
 pub free_number-id-requires-clause-low : goal.free_number-id-requires-clause-low
 free_number-id-requires-clause-low c =
@@ -57,3 +58,17 @@ returns-clause-valid c =
     let L : List (ℕ × Row) → Type 0 = λ rows. all_lead (nodes rows) (ties rows) ≡ true in
     let linked : L c.put_new.new.store = subst L (sym c.put_new.ensures.rows) (maybe L (is_ok c.put_new.result) (old ++ (id, row) ∷ []) old (linked-push old id row refl c.self.invariant.linked) c.self.invariant.linked) in
     record { forest = forest; linked = linked }
+
+pub returns-clause-kept : goal.returns-clause-kept
+returns-clause-kept c = λ other live.
+    let L : Widgets → Type 0 = λ w. is_some (row_at w.entries other) ≡ true in
+    let old : is_some (row_at c.self.inside.store other) ≡ true = subst L (sym c.self.view_is) live in
+    rw c.put_new.ensures.rows (live-maybe_push (is_ok c.put_new.result) c.self.inside.store c.free_number-id.result (new_row c.args.client c.args.name c.args.kind) other old)
+
+pub returns-clause-live : goal.returns-clause-live
+returns-clause-live c =
+    let row = new_row c.args.client c.args.name c.args.kind in
+    elim c.match-put_new.branch [
+      | in-Ok w ↦ rw w.result-is (rw w.in-Ok.ensures.rows (live-last c.self.inside.store c.free_number-id.result row))
+      | in-Err w ↦ rw w.result-is tt
+    ]

@@ -1,4 +1,4 @@
-use Rattle.std.proofs.Common.{◌≡◌, ℕ, List, Bool, true, Option, Some, None, IsSome, IfSome, refl, sym, ap, ◌∙◌, subst}
+use Rattle.std.proofs.Common.{◌≡◌, ℕ, List, Bool, true, Option, Some, None, IsSome, IfSome, is_some, refl, sym, ap, ◌∙◌, subst}
 use Rattle.std.specs.Option.{option_map, option_and_then}
 use Rattle.kind_core.specs.declared.kinds.Kind.TheVariants.{Variable}
 use Rattle.desk_model.specs.Rows.{Row}
@@ -8,7 +8,7 @@ use Rattle.desk_model.specs.Forest.{HaveOwnNames}
 use Rattle.tree_core.specs.declared.id.Id.{Id}
 use Rattle.tree_core.proofs.ShownLemmas.{none_or_some}
 use Rattle.tree_core.specs.Indexed.{IsTree}
-use Rattle.tree_core.proofs.ForestLemmas.{IsTree-with_link, variable-leads}
+use Rattle.tree_core.proofs.ForestLemmas.{IsTree-with_link, live-with_row, variable-leads}
 use Rattle.tree_core.proofs.tree.Tree.set_link.Goals as goal
 
 leads_to : (es : List (ℕ × Row)) (id client : ℕ) → HaveOwnNames (nodes es) → row_client es id ≡ Some client → (o : Option Id) → IfSome o (λ (v : Id). row_kind es v.key ≡ Some Variable) → IfSome o (λ (v : Id). row_client es v.key ≡ row_client es id) → leads (nodes es) client (option_and_then (λ (v : Id). name_at es v.key) o) ≡ true
@@ -56,3 +56,9 @@ returns-clause-valid c =
     let new : leads (nodes es) (found.0).client c.name_of-name.result ≡ true = rw c.name_of-name.ensures (leads_to es c.args.id.key (found.0).client c.self.invariant.forest.own_names own c.args.variable kind owner) in
     let kept : IsTree c.self.inside.clients.items c.self.inside.names.entries c.change.new.self = rw c.change.ensures (IsTree-with_link _ _ es c.args.id.key found.0 c.name_of-name.result found.1 new c.self.invariant) in
     record { forest = kept.forest; linked = kept.linked }
+
+pub returns-clause-kept : goal.returns-clause-kept
+returns-clause-kept c = λ other live.
+    let L : Widgets → Type 0 = λ w. is_some (row_at w.entries other) ≡ true in
+    let old : is_some (row_at c.self.inside.store other) ≡ true = subst L (sym c.self.view_is) live in
+    rw c.change.ensures (live-with_row c.self.inside.store c.args.id.key _ other old)
