@@ -33,7 +33,7 @@ pub record ComesRight (from : State) (ticks : List Moment) : Type 0 where
 -- wherever in a run only ticks happen for a while
 abbrev pub ComesRightThroughout : State → List Moment → Type 0
 ComesRightThroughout from moments =
-  (before ticks later : List Moment) → moments ≡ (before ++ ticks) ++ later → IsUndisturbed ticks → ComesRight (state_after from before) ticks
+    (before ticks later : List Moment) → moments ≡ (before ++ ticks) ++ later → IsUndisturbed ticks → ComesRight (state_after from before) ticks
 
 -- The headline's laws of a run, together.
 pub record KeepsLaws (from : State) (moments : List Moment) : Type 0 where

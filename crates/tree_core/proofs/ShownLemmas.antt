@@ -1,11 +1,11 @@
 -- What the numbered rows are after a row is put under a new key, changed, or taken out.
-use Rattle.std.proofs.Common.{◌≡◌, ◌≢◌, ◌⊎◌, ℕ, zero, suc, ◌<◌, Bool, true, false, cond, nat_eq, List, [], ◌∷◌, ◌++◌, length, Option, Some, None, is_some, refl, sym, ap, ◌∙◌, inl, inr, arith, slice_get, Bor}
+use Rattle.std.proofs.Common.{◌≡◌, ◌≢◌, ℕ, zero, suc, true, false, cond, nat_eq, List, [], ◌∷◌, ◌++◌, length, Option, Some, None, is_some, refl, sym, ap, ◌∙◌, inl, inr, slice_get, Bor}
 use Rattle.std.proofs.lemmas.Bool.{true≢false, eqb-true, eq-eqb, ne_eqb, eqb-false, cases_Bool}
 use Rattle.std.specs.Option.{option_and_then, option_copied}
 use Rattle.std.specs.Map.{lookup, remove_entry}
 use Rattle.desk_model.specs.Rows.{Row}
 use Rattle.desk_model.specs.Widgets.{row_at, with_row, without_row}
-use Rattle.tree_core.specs.Shown.{shown, shown_one, IsApart, IsShown}
+use Rattle.tree_core.specs.Shown.{shown, IsApart, IsShown}
 
 pub none_or_some : {X : Type 0} (o : Option X) → is_some o ≡ true → (x : X) × (o ≡ Some x)
 none_or_some None h = absurd (true≢false (sym h))

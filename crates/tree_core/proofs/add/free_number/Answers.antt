@@ -1,6 +1,6 @@
 use Rattle.std.proofs.Common.{sym, ◌∙◌, arith}
 use Rattle.desk_model.specs.Widgets.{nodes}
-use Rattle.tree_core.proofs.ForestLemmas.{one_is_free, row_live, number-below}
+use Rattle.tree_core.proofs.ForestLemmas.{one_is_free, row_live}
 use Rattle.tree_core.proofs.add.free_number.Goals as goal
 
 pub unreachable-requires : goal.unreachable-requires

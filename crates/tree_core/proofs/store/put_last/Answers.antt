@@ -1,5 +1,4 @@
-use Rattle.std.proofs.Common.{◌≡◌, ℕ, List, [], ◌∷◌, ◌++◌, Option, Some, None, nat_eq, refl, sym, ap, ◌∙◌, subst}
-use Rattle.std.specs.Map.{lookup}
+use Rattle.std.proofs.Common.{◌≡◌, ℕ, [], ◌∷◌, ◌++◌, Option, nat_eq, sym, ap, ◌∙◌, subst}
 use Rattle.slab.specs.Slab.{get as slab_get}
 use Rattle.indexmap.proofs.CallerLemmas.{insert_entry-new}
 use Rattle.desk_model.specs.Rows.{Row}

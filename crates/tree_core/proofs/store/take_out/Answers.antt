@@ -1,5 +1,4 @@
-use Rattle.std.proofs.Common.{◌≡◌, Some, nat_eq, is_some, sym, ap, ◌∙◌}
-use Rattle.std.specs.Map.{lookup}
+use Rattle.std.proofs.Common.{is_some, sym, ap, ◌∙◌}
 use Rattle.slab.specs.Slab.{get as slab_get}
 use Rattle.tree_core.specs.Shown.{shown}
 use Rattle.tree_core.proofs.ShownLemmas.{listed, lookup-live, shown-remove}

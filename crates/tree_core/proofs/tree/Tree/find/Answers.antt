@@ -1,5 +1,4 @@
-use Rattle.std.proofs.Common.{◌≡◌, is_some, true, sym, ap, ◌∙◌}
-use Rattle.desk_model.specs.Widgets.{Widgets, IsLive}
+use Rattle.std.proofs.Common.{sym, ◌∙◌}
 use Rattle.tree_core.proofs.ForestLemmas.{named-live, row_live}
 use Rattle.tree_core.proofs.tree.Tree.find.Goals as goal
 

@@ -1,4 +1,4 @@
-use Rattle.std.proofs.Common.{ℕ, List, ◌∷◌, ◌++◌, [], is_ok, cond}
+use Rattle.std.proofs.Common.{ℕ, List, ◌∷◌, ◌++◌, [], is_ok}
 use Rattle.desk_model.specs.Widgets.{nodes}
 use Rattle.desk_model.specs.Forest.{IsForest}
 use Rattle.tree_core.proofs.ForestLemmas.{IsForest-join, maybe}
