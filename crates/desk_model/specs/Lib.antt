@@ -9,3 +9,8 @@ pub mod Step
 pub mod Chosen
 pub mod Run
 pub mod Laws
+pub mod Rows
+pub mod Nodes
+pub mod Widgets
+pub mod Links
+pub mod Forest

@@ -1,0 +1,20 @@
+use Rattle.std.proofs.Common.{◌≡◌, ℕ, List, true, Option, Some, None, is_some, sym, ◌∙◌}
+use Rattle.std.specs.Option.{option_and_then}
+use Rattle.desk_model.specs.Rows.{Row}
+use Rattle.desk_model.specs.Nodes.{id_named}
+use Rattle.desk_model.specs.Widgets.{nodes, row_at}
+use Rattle.tree_core.proofs.ForestLemmas.{named-live, row_live}
+use Rattle.tree_core.proofs.tree.Tree.link.Goals as goal
+
+linked-live : (es : List (ℕ × Row)) (o : Option Row) (key : ℕ) → option_and_then (λ (row : Row). option_and_then (id_named (nodes es) row.client) row.link) o ≡ Some key → is_some (row_at es key) ≡ true
+linked-live es None key h = absurd (cc)
+linked-live es (Some row) key h = by row.link h
+  where
+    by : (link : Option (List ℕ)) → option_and_then (id_named (nodes es) row.client) link ≡ Some key → is_some (row_at es key) ≡ true
+    by None h = absurd (cc)
+    by (Some name) h = row_live es key ∙ named-live (nodes es) row.client name key h
+
+pub returns-in-Some-clause-live : goal.returns-in-Some-clause-live
+returns-in-Some-clause-live c =
+    let live = linked-live c.self.inside.store (row_at c.self.inside.store c.args.id.key) c.in-Some.key (sym c.in-Some.ensures) in
+    rw (← c.self.view_is) live

@@ -1,0 +1,64 @@
+use Rattle.std.proofs.Common.{◌≡◌, ℕ, List, true, Option, Some, None, IsSome, IfSome, is_some, refl, sym, ap, ◌∙◌, subst}
+use Rattle.std.specs.Option.{option_map, option_and_then}
+use Rattle.kind_core.specs.declared.kinds.Kind.TheVariants.{Variable}
+use Rattle.desk_model.specs.Rows.{Row}
+use Rattle.desk_model.specs.Widgets.{Widgets, nodes, row_at, row_kind, row_client}
+use Rattle.desk_model.specs.Links.{leads, name_at}
+use Rattle.desk_model.specs.Forest.{HaveOwnNames}
+use Rattle.tree_core.specs.declared.id.Id.{Id}
+use Rattle.tree_core.proofs.ShownLemmas.{none_or_some}
+use Rattle.tree_core.specs.Indexed.{IsTree}
+use Rattle.tree_core.proofs.ForestLemmas.{IsTree-with_link, live-with_row, variable-leads}
+use Rattle.tree_core.proofs.tree.Tree.set_link.Goals as goal
+
+leads_to : (es : List (ℕ × Row)) (id client : ℕ) → HaveOwnNames (nodes es) → row_client es id ≡ Some client → (o : Option Id) → IfSome o (λ (v : Id). row_kind es v.key ≡ Some Variable) → IfSome o (λ (v : Id). row_client es v.key ≡ row_client es id) → leads (nodes es) client (option_and_then (λ (v : Id). name_at es v.key) o) ≡ true
+leads_to es id client own mine None kind owner = refl
+leads_to es id client own mine (Some v) kind owner = variable-leads es v.key client own kind (owner ∙ mine)
+
+live_by_kind : (es : List (ℕ × Row)) (o : Option Id) → IfSome o (λ (v : Id). row_kind es v.key ≡ Some Variable) → IfSome o (λ (v : Id). IsSome (row_at es v.key))
+live_by_kind es None h = tt
+live_by_kind es (Some v) h = by (row_at es v.key) h
+  where
+    by : (o : Option Row) → option_map (λ (r : Row). r.kind) o ≡ Some Variable → IsSome o
+    by None h = absurd (cc)
+    by (Some row) h = refl
+
+pub name_of-name-requires : goal.name_of-name-requires
+name_of-name-requires c =
+    let K : Widgets → Type 0 = λ w. IfSome c.args.variable (λ (v : Id). row_kind w.entries v.key ≡ Some Variable) in
+    live_by_kind c.self.inside.store c.args.variable (subst K (sym c.self.view_is) c.requires.variable)
+
+pub invariant_of-self : goal.invariant_of-self
+invariant_of-self c =
+    let es = c.self.inside.store in
+    let P : Widgets → Type 0 = λ w. IsSome (row_at w.entries c.args.id.key) in
+    let K : Widgets → Type 0 = λ w. IfSome c.args.variable (λ (v : Id). row_kind w.entries v.key ≡ Some Variable) in
+    let O : Widgets → Type 0 = λ w. IfSome c.args.variable (λ (v : Id). row_client w.entries v.key ≡ row_client w.entries c.args.id.key) in
+    let live : IsSome (row_at es c.args.id.key) = subst P (sym c.self.view_is) c.requires.live in
+    let kind : IfSome c.args.variable (λ (v : Id). row_kind es v.key ≡ Some Variable) = subst K (sym c.self.view_is) c.requires.variable in
+    let owner : IfSome c.args.variable (λ (v : Id). row_client es v.key ≡ row_client es c.args.id.key) = subst O (sym c.self.view_is) c.requires.owner in
+    let found = none_or_some (row_at es c.args.id.key) live in
+    let own : row_client es c.args.id.key ≡ Some (found.0).client = ap (option_map (λ (r : Row). r.client)) found.1 in
+    let new : leads (nodes es) (found.0).client c.name_of-name.result ≡ true = rw c.name_of-name.ensures (leads_to es c.args.id.key (found.0).client c.self.invariant.forest.own_names own c.args.variable kind owner) in
+    rw c.change.ensures (IsTree-with_link _ _ es c.args.id.key found.0 c.name_of-name.result found.1 new c.self.invariant)
+
+pub returns-clause-valid : goal.returns-clause-valid
+returns-clause-valid c =
+    let es = c.self.inside.store in
+    let P : Widgets → Type 0 = λ w. IsSome (row_at w.entries c.args.id.key) in
+    let K : Widgets → Type 0 = λ w. IfSome c.args.variable (λ (v : Id). row_kind w.entries v.key ≡ Some Variable) in
+    let O : Widgets → Type 0 = λ w. IfSome c.args.variable (λ (v : Id). row_client w.entries v.key ≡ row_client w.entries c.args.id.key) in
+    let live : IsSome (row_at es c.args.id.key) = subst P (sym c.self.view_is) c.requires.live in
+    let kind : IfSome c.args.variable (λ (v : Id). row_kind es v.key ≡ Some Variable) = subst K (sym c.self.view_is) c.requires.variable in
+    let owner : IfSome c.args.variable (λ (v : Id). row_client es v.key ≡ row_client es c.args.id.key) = subst O (sym c.self.view_is) c.requires.owner in
+    let found = none_or_some (row_at es c.args.id.key) live in
+    let own : row_client es c.args.id.key ≡ Some (found.0).client = ap (option_map (λ (r : Row). r.client)) found.1 in
+    let new : leads (nodes es) (found.0).client c.name_of-name.result ≡ true = rw c.name_of-name.ensures (leads_to es c.args.id.key (found.0).client c.self.invariant.forest.own_names own c.args.variable kind owner) in
+    let kept : IsTree c.self.inside.clients.items c.self.inside.names.entries c.change.new.self = rw c.change.ensures (IsTree-with_link _ _ es c.args.id.key found.0 c.name_of-name.result found.1 new c.self.invariant) in
+    record { forest = kept.forest; linked = kept.linked }
+
+pub returns-clause-kept : goal.returns-clause-kept
+returns-clause-kept c = λ other live.
+    let L : Widgets → Type 0 = λ w. is_some (row_at w.entries other) ≡ true in
+    let old : is_some (row_at c.self.inside.store other) ≡ true = subst L (sym c.self.view_is) live in
+    rw c.change.ensures (live-with_row c.self.inside.store c.args.id.key _ other old)

@@ -1,0 +1,20 @@
+//! The tree of widgets: rows under names, over a slab, with the numbers by which callers name them.
+#![tactic(auto)]
+
+mod add;
+mod change;
+mod id;
+mod links;
+mod names;
+mod places;
+mod refusal;
+mod row;
+mod store;
+mod tree;
+
+pub use id::Id;
+pub use refusal::{AddRefusal, NoMemory};
+pub use tree::Tree;
+
+#[cfg(test)]
+mod tests;

@@ -1,0 +1,267 @@
+ghost use Rattle.std.specs.Prelude.{◌≡◌, ◌<◌, ◌≤◌, Some, None, true, false, IfSome, OnOk, OnErr, IfOk, IfErr};
+ghost use Rattle.std.specs.Option.{option_map, option_and_then};
+ghost use Rattle.kind_core.specs.Attributes.{domain_of, judged};
+ghost use Rattle.desk_model.specs.Rows.{new_row, attr_of, with_attr, column_rule_of, with_column_rule, row_rule_of, with_row_rule, binding_of, with_binding, with_link};
+ghost use Rattle.desk_model.specs.Nodes.{id_named};
+ghost use Rattle.desk_model.specs.Widgets.{no_widgets, is_joined, row_at, nodes, IsLive, IsGrid, KeepsLive, edited, with_new, joined, row_kind, row_client};
+ghost use Rattle.desk_model.specs.Links.{linked_id, name_at};
+ghost use Rattle.desk_model.specs.Forest.{IsWidgets};
+ghost use Rattle.tree_core.specs.Changes.{IsIndex};
+ghost use Rattle.tree_core.specs.Refusals.{add_refusal, AnswersRefusal};
+
+use crate::add::{add_refusal, free_number};
+use crate::change::Change;
+use crate::id::Id;
+use crate::links::{link_of, name_of};
+use crate::names::{Names, number_of, put_new};
+use crate::refusal::{AddRefusal, NoMemory};
+use crate::store::Store;
+use indexmap::IndexMap;
+use kind_core::{Attr, AttrRefusal, EventKind, Kind, Name, Value, check};
+use std::alloc::Global;
+use std::marker::Model;
+
+/// The widgets of all clients: rows in the order of making, under the names that the clients gave them.
+/// Contracts see the record `Widgets` of desk_model. See docs/MACHINE.md, "Widgets".
+#[derive(Drop)]
+pub struct Tree {
+    clients: Vec<u32>,
+    names: Names,
+    store: Store,
+}
+
+impl Model for Tree {
+    ghost use Rattle.desk_model.specs.Widgets.{Widgets};
+    ghost use Rattle.tree_core.specs.Indexed.{IsTree};
+
+    ghost Value = { Widgets };
+
+    ghost view = { λ t. record { clients = t.clients.items; entries = t.store } };
+
+    ghost invariant = { λ t. IsTree t.clients.items t.names.entries t.store };
+}
+
+impl Tree {
+    /// A tree with no clients and no widgets.
+    pub fn new(alloc: Global) -> Tree
+        ensures empty { result ≡ no_widgets }
+        ensures valid { IsWidgets result }
+    {
+        Tree {
+            clients: Vec::new(alloc),
+            names: IndexMap::new(alloc),
+            store: Store::new(alloc),
+        }
+    }
+
+    /// Joins a client, 1 to 16, that isn't joined, as the last one. NoMemory leaves the tree as it was.
+    pub fn join_client(&mut self, client: u32) -> Result<(), NoMemory>
+        requires low { 1 ≤ client }
+        requires high { client ≤ 16 }
+        requires new_client { is_joined self.old.clients client ≡ false }
+        ensures ok { OnOk result (self.new ≡ joined client self.old) }
+        ensures err { OnErr result (self.new ≡ self.old) }
+        ensures kept { KeepsLive self.old self.new }
+        ensures valid { IsWidgets self.new }
+    {
+        match self.clients.push(client) {
+            Ok(()) => Ok(()),
+            Err(_) => Err(NoMemory),
+        }
+    }
+
+    /// Adds a widget of a joined client, last, with a number that wasn't live. Refuses NameTaken exactly
+    /// where the client has a widget of that name, then Full with 128 exactly where it has 128, then Full
+    /// with 8 exactly for a ninth Window or a ninth VScreen. A refusal leaves the tree as it was.
+    pub fn add(&mut self, client: u32, name: Name, kind: Kind) -> Result<Id, AddRefusal>
+        requires { is_joined self.old.clients client ≡ true }
+        ensures ok { IfOk result (λ id. self.new ≡ with_new id.key (new_row client name kind) self.old) }
+        ensures clients { self.new.clients ≡ self.old.clients }
+        ensures live { IfOk result (λ id. IsLive self.new id.key) }
+        ensures fresh { IfOk result (λ id. row_at self.old.entries id.key ≡ None) }
+        ensures number { IfOk result (λ id. id.key < 2048) }
+        ensures allowed { OnOk result (add_refusal (nodes self.old.entries) client name kind ≡ None) }
+        ensures refused { IfErr result (AnswersRefusal (add_refusal (nodes self.old.entries) client name kind)) }
+        ensures err { OnErr result (self.new ≡ self.old) }
+        ensures kept { KeepsLive self.old self.new }
+        ensures valid { IsWidgets self.new }
+    {
+        match add_refusal(&self.names, &self.store, client, &name, kind) {
+            Some(refusal) => return Err(refusal),
+            None => {}
+        }
+        let id = free_number(&self.store, client);
+        match put_new(&mut self.names, &mut self.store, id, client, name, kind) {
+            Ok(()) => Ok(Id { key: id }),
+            Err(_) => Err(AddRefusal::NoMemory),
+        }
+    }
+
+    /// The number of the client's widget of that name, None exactly where there is none.
+    pub fn find(&self, client: u32, name: &Name) -> Option<Id>
+        ensures found { option_map (λ id. id.key) result ≡ id_named (nodes self.now.entries) client name.now }
+        ensures live { IfSome result (λ id. IsLive self.now id.key) }
+        ensures valid { IsWidgets self.now }
+    {
+        match number_of(&self.names, &self.store, client, name) {
+            Some(key) => Some(Id { key }),
+            None => None,
+        }
+    }
+
+    /// The kind of the widget.
+    pub fn kind(&self, id: Id) -> Kind
+        requires { IsLive self.now id.key }
+        ensures kind { option_map (λ row. row.kind) (row_at self.now.entries id.key) ≡ Some result }
+        ensures valid { IsWidgets self.now }
+    {
+        self.store.row(id.key).kind()
+    }
+
+    /// The client whose widget it is.
+    pub fn owner(&self, id: Id) -> u32
+        requires { IsLive self.now id.key }
+        ensures owner { option_map (λ row. row.client) (row_at self.now.entries id.key) ≡ Some result }
+        ensures valid { IsWidgets self.now }
+    {
+        self.store.row(id.key).client()
+    }
+
+    /// The value of the widget's attribute, None exactly where its kind hasn't the attribute.
+    pub fn attr(&self, id: Id, attr: Attr) -> Option<Value>
+        requires { IsLive self.now id.key }
+        ensures value { option_map (λ row. attr_of row attr) (row_at self.now.entries id.key) ≡ Some result }
+        ensures valid { IsWidgets self.now }
+    {
+        self.store.row(id.key).attr(attr)
+    }
+
+    /// Gives the widget's attribute a value. Refuses NotOfKind exactly where the kind has no such attribute
+    /// or it has the other type, and OutOfRange exactly where a number is outside its range. A refusal
+    /// leaves the tree as it was.
+    pub fn set_attr(&mut self, id: Id, attr: Attr, value: &Value) -> Result<(), AttrRefusal>
+        requires { IsLive self.old id.key }
+        ensures answer { option_map (λ row. judged (domain_of row.kind attr) value.now) (row_at self.old.entries id.key) ≡ Some result }
+        ensures ok { OnOk result (self.new ≡ edited id.key (with_attr attr value.now) self.old) }
+        ensures err { OnErr result (self.new ≡ self.old) }
+        ensures kept { KeepsLive self.old self.new }
+        ensures valid { IsWidgets self.new }
+    {
+        let kind = self.store.row(id.key).kind();
+        match check(kind, attr, value) {
+            Ok(()) => {}
+            Err(refusal) => return Err(refusal),
+        }
+        self.store.change(
+            id.key,
+            Change::Attribute {
+                attr,
+                value: *value,
+            },
+        );
+        Ok(())
+    }
+
+    /// The size in pixels and the weight of a Grid's column, 1 to 16.
+    pub fn column_rule(&self, id: Id, index: u32) -> (u32, u32)
+        requires grid { IsGrid self.now id.key }
+        requires index { IsIndex index }
+        ensures rule { option_map (λ row. column_rule_of row index) (row_at self.now.entries id.key) ≡ Some result }
+        ensures valid { IsWidgets self.now }
+    {
+        self.store.row(id.key).column_rule(index)
+    }
+
+    /// The size in pixels and the weight of a Grid's row, 1 to 16.
+    pub fn row_rule(&self, id: Id, index: u32) -> (u32, u32)
+        requires grid { IsGrid self.now id.key }
+        requires index { IsIndex index }
+        ensures rule { option_map (λ row. row_rule_of row index) (row_at self.now.entries id.key) ≡ Some result }
+        ensures valid { IsWidgets self.now }
+    {
+        self.store.row(id.key).row_rule(index)
+    }
+
+    /// Gives a Grid's column, 1 to 16, a size of at most 1,024 pixels and a weight of at most 1,000.
+    pub fn set_column_rule(&mut self, id: Id, index: u32, size: u32, weight: u32)
+        requires grid { IsGrid self.old id.key }
+        requires index { IsIndex index }
+        requires size { size ≤ 1024 }
+        requires weight { weight ≤ 1000 }
+        ensures rule { self.new ≡ edited id.key (with_column_rule index (size, weight)) self.old }
+        ensures kept { KeepsLive self.old self.new }
+        ensures valid { IsWidgets self.new }
+    {
+        self.store.change(
+            id.key,
+            Change::ColumnRule {
+                index,
+                rule: (size, weight),
+            },
+        );
+    }
+
+    /// Gives a Grid's row, 1 to 16, a size of at most 1,024 pixels and a weight of at most 1,000.
+    pub fn set_row_rule(&mut self, id: Id, index: u32, size: u32, weight: u32)
+        requires grid { IsGrid self.old id.key }
+        requires index { IsIndex index }
+        requires size { size ≤ 1024 }
+        requires weight { weight ≤ 1000 }
+        ensures rule { self.new ≡ edited id.key (with_row_rule index (size, weight)) self.old }
+        ensures kept { KeepsLive self.old self.new }
+        ensures valid { IsWidgets self.new }
+    {
+        self.store.change(
+            id.key,
+            Change::RowRule {
+                index,
+                rule: (size, weight),
+            },
+        );
+    }
+
+    /// The Variable that the widget is linked to, None exactly where it isn't linked.
+    pub fn link(&self, id: Id) -> Option<Id>
+        requires { IsLive self.now id.key }
+        ensures found { option_map (λ id. id.key) result ≡ linked_id self.now id.key }
+        ensures live { IfSome result (λ id. IsLive self.now id.key) }
+        ensures valid { IsWidgets self.now }
+    {
+        match link_of(&self.names, &self.store, id.key) {
+            Some(key) => Some(Id { key }),
+            None => None,
+        }
+    }
+
+    /// Links the widget to a Variable of the same client, or unlinks it.
+    pub fn set_link(&mut self, id: Id, variable: Option<Id>)
+        requires live { IsLive self.old id.key }
+        requires variable { IfSome variable (λ other. row_kind self.old.entries other.key ≡ Some Kind.Variable) }
+        requires owner { IfSome variable (λ other. row_client self.old.entries other.key ≡ row_client self.old.entries id.key) }
+        ensures link { self.new ≡ edited id.key (with_link (option_and_then (λ other. name_at self.old.entries other.key) variable)) self.old }
+        ensures kept { KeepsLive self.old self.new }
+        ensures valid { IsWidgets self.new }
+    {
+        let name = name_of(&self.store, variable);
+        self.store.change(id.key, Change::Link { variable: name });
+    }
+
+    /// The tag that the widget's event is bound to, None exactly where it isn't bound.
+    pub fn binding(&self, id: Id, event: EventKind) -> Option<Name>
+        requires { IsLive self.now id.key }
+        ensures tag { option_map (λ row. binding_of row event) (row_at self.now.entries id.key) ≡ Some result }
+        ensures valid { IsWidgets self.now }
+    {
+        self.store.row(id.key).binding(event)
+    }
+
+    /// Binds the widget's event to a tag, or unbinds it.
+    pub fn set_binding(&mut self, id: Id, event: EventKind, tag: Option<Name>)
+        requires { IsLive self.old id.key }
+        ensures tag { self.new ≡ edited id.key (with_binding event tag) self.old }
+        ensures kept { KeepsLive self.old self.new }
+        ensures valid { IsWidgets self.new }
+    {
+        self.store.change(id.key, Change::Binding { event, tag });
+    }
+}
