@@ -10,9 +10,7 @@ mod picking;
 mod reading;
 
 pub use cmd_print::{print, print_reply};
-pub use cmd_words::{
-    Command, ConfigOption, Drew, Input, Options, PlaceOption, Refusal, Reply,
-};
+pub use cmd_words::{Command, ConfigOption, Drew, Input, Options, PlaceOption, Refusal, Reply};
 pub use frames::is_frame_line;
 pub use parsing::{BadLine, parse};
 
