@@ -3,7 +3,8 @@ use Rattle.std.proofs.Common.{◌≡◌, ℕ, zero, suc, ◌≤◌, Bool, true, 
 use Rattle.std.specs.List.{list_all}
 use Rattle.std.proofs.lemmas.Bool.{and_parts, and_from, le-leb, false≢true}
 use Rattle.kind_core.specs.Bytes.{is_printable, is_text}
-use Rattle.cmd_text.specs.Reading.{◌>>=◌, begins_with, read, is_special, escaped_at, escaped_char_at, char_at, chars_at}
+use Rattle.cmd_text.specs.Reading.{◌>>=◌, begins_with, read}
+use Rattle.cmd_text.specs.ReadingOptions.{is_special, escaped_at, escaped_char_at, char_at, chars_at}
 
 -- a quote ends the text
 pub chars_end : (k : ℕ) (front xs : List ℕ) → begins_with (λ b. b == 34) xs ≡ true → chars_at k front xs ≡ Ok (front, drop 1 xs)

@@ -2,10 +2,11 @@
 use Rattle.std.proofs.Common.{◌≡◌, ℕ, Bool, true, List, [], codes, Result, Ok, Err, ◌↔◌, refl, sym, ◌∙◌, is_ok}
 use Rattle.std.proofs.lemmas.Bool.{false≢true}
 use Rattle.kind_core.specs.Bytes.{is_name_byte}
-use Rattle.cmd_text.specs.Language.{Language, ◌▹◌, ◌▸◌, word}
-use Rattle.cmd_text.specs.Productions.{is_space, sp, name}
+use Rattle.cmd_words.specs.Language.{Language, ◌▹◌, ◌▸◌, word}
+use Rattle.cmd_words.specs.Productions.{is_space, sp, name}
 use Rattle.cmd_text.specs.FrameLine.{anything, frame_front, IsFrameLine}
-use Rattle.cmd_text.specs.Reading.{◌>>=◌, expect_at, skip_at, name_at, frame_front_at}
+use Rattle.cmd_text.specs.Reading.{◌>>=◌, expect_at, skip_at, name_at}
+use Rattle.cmd_text.specs.ReadingLines.{frame_front_at}
 use Rattle.cmd_text.proofs.Settling.{Settles, Reads}
 use Rattle.cmd_text.proofs.Parts.{lit_reads, lit_apart, sp_reads, sp_apart, name_reads, name_apart}
 

@@ -1,6 +1,6 @@
 -- Languages that are the same, however their parts are joined.
 use Rattle.std.proofs.Common.{ℕ, List, [], ◌++◌, refl, sym, ap, subst, ◌∙◌, inl, inr, append_assoc}
-use Rattle.cmd_text.specs.Language.{Language, ◌▹◌, ◌▸◌, ◌⊕◌, stands_for}
+use Rattle.cmd_words.specs.Language.{Language, ◌▹◌, ◌▸◌, ◌⊕◌, stands_for}
 use Rattle.cmd_text.proofs.Settling.{Same}
 
 module _ {C : Type 0} where

@@ -10,6 +10,5 @@ pub mod Runs
 pub mod Characters
 pub mod OptionSteps
 pub mod Places
-pub mod NameBytes
 pub mod PrintedLines
 pub mod FrameFronts

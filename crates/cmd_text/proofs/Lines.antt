@@ -8,17 +8,21 @@ use Rattle.kind_core.specs.declared.kinds.Kind.{Kind}
 use Rattle.kind_core.specs.declared.kinds.Attr.{Attr}
 use Rattle.kind_core.specs.declared.kinds.EventKind.{EventKind}
 use Rattle.kind_core.specs.declared.values.Value as value_type
-use Rattle.cmd_text.specs.declared.commands.PlaceOption.{PlaceOption}
-use Rattle.cmd_text.specs.declared.commands.ConfigOption.{ConfigOption}
-use Rattle.cmd_text.specs.declared.commands.Command.{Command}
-use Rattle.cmd_text.specs.declared.commands.Command.TheVariants.{New, Set, Get, Place, Lift, ColumnConfig, RowConfig, Link, Unlink, Bind, Unbind, OpenWindow, CloseWindow, TopWindow, Mode, Admit, Leave, SendFrame, DropWidget, Poll}
-use Rattle.cmd_text.specs.declared.methods.Method.{Method}
-use Rattle.cmd_text.specs.declared.methods.Method.TheVariants as method
-use Rattle.cmd_text.specs.Words.{kind_word, attr_word, event_word, place_word, config_word}
-use Rattle.cmd_text.specs.Language.{Language, ◌▹◌, ◌▸◌, ◌⊕◌, any, only, stands_for, word}
-use Rattle.cmd_text.specs.Productions.{is_space, sp, sp1, name, number, count, kind, attr, event, place_option, config_option, value, sopt, popt, copt, options}
-use Rattle.cmd_text.specs.Grammar.{opens, closes, empty, comma, call, body, command_line}
-use Rattle.cmd_text.specs.Reading.{◌>>=◌, method_word, all_methods, all_kinds, all_attrs, all_events, all_place_options, all_config_options, expect_at, skip_at, skip_some_at, begins_with, name_at, number_at, value_at, kind_at, attr_at, event_at, place_option_at, config_option_at, method_at, sopt_at, popt_at, copt_at, options_at, open_at, comma_at, nothing_at, end_at, finish_at, close_at, place_rest_at, arguments_at, called_at, made_at, body_at, line_at}
+use Rattle.cmd_words.specs.declared.commands.PlaceOption.{PlaceOption}
+use Rattle.cmd_words.specs.declared.commands.ConfigOption.{ConfigOption}
+use Rattle.cmd_words.specs.declared.commands.Command.{Command}
+use Rattle.cmd_words.specs.declared.commands.Command.TheVariants.{New, Set, Get, Place, Lift, ColumnConfig, RowConfig, Link, Unlink, Bind, Unbind, OpenWindow, CloseWindow, TopWindow, Mode, Admit, Leave, SendFrame, DropWidget, Poll}
+use Rattle.cmd_words.specs.declared.methods.Method.{Method}
+use Rattle.cmd_words.specs.declared.methods.Method.TheVariants as method
+use Rattle.cmd_words.specs.Words.{kind_word, attr_word, event_word, place_word, config_word}
+use Rattle.cmd_words.specs.Language.{Language, ◌▹◌, ◌▸◌, ◌⊕◌, any, only, stands_for, word}
+use Rattle.cmd_words.specs.Productions.{is_space, sp, sp1, name, number, count, kind, attr, event, place_option, config_option, value, sopt, popt, copt, options}
+use Rattle.cmd_words.specs.Grammar.{opens, closes, empty, comma, call, body, command_line}
+use Rattle.cmd_text.specs.Reading.{◌>>=◌, expect_at, skip_at, skip_some_at, begins_with, name_at, number_at}
+use Rattle.cmd_text.specs.ReadingWords.{all_methods, all_kinds, all_attrs, all_events, all_place_options, all_config_options, kind_at, attr_at, event_at, place_option_at, config_option_at, method_at}
+use Rattle.cmd_text.specs.ReadingOptions.{value_at, sopt_at, popt_at, copt_at, options_at}
+use Rattle.cmd_text.specs.ReadingLines.{open_at, comma_at, nothing_at, end_at, finish_at, close_at, place_rest_at, arguments_at, called_at, made_at, body_at, line_at}
+use Rattle.cmd_words.specs.Words.{method_word}
 use Rattle.cmd_text.proofs.Settling.{Settles, Reads, Within, Same, Apart, stop, reads_same}
 use Rattle.cmd_text.proofs.Joins.{same_sym, same_then, same_with, then_or}
 use Rattle.cmd_text.proofs.Parts.{Lit, lit_reads, lit_apart, lit_begins, or_reads, or_apart, sp_reads, sp_apart, sp1_reads, name_reads, name_apart, count_reads, count_apart, number_reads, number_apart}

@@ -2,9 +2,10 @@
 use Rattle.std.proofs.Common.{◌≡◌, ℕ, zero, suc, Bool, true, false, cond, ◌&&◌, ◌==◌, List, [], ◌∷◌, ◌++◌, Result, Ok, Err, refl, sym, subst, inl, inr}
 use Rattle.std.proofs.lemmas.Bool.{eqb-true}
 use Rattle.kind_core.specs.Bytes.{is_digit}
-use Rattle.cmd_text.specs.Language.{Language, ◌▹◌, ◌▸◌, ◌⊕◌, stands_for, word}
-use Rattle.cmd_text.specs.Productions.{is_space, sp, sp1, up_to, options}
-use Rattle.cmd_text.specs.Reading.{◌>>=◌, expect_at, skip_at, skip_some_at, begins_with, map_at, option_at, more_at, options_at}
+use Rattle.cmd_words.specs.Language.{Language, ◌▹◌, ◌▸◌, ◌⊕◌, stands_for, word}
+use Rattle.cmd_words.specs.Productions.{is_space, sp, sp1, up_to, options}
+use Rattle.cmd_text.specs.Reading.{◌>>=◌, expect_at, skip_at, skip_some_at, begins_with, map_at}
+use Rattle.cmd_text.specs.ReadingOptions.{option_at, more_at, options_at}
 use Rattle.cmd_text.proofs.Settling.{Settles, Reads, Same, Derives, Never, Apart, step, same_at, same_nil, reads_same}
 use Rattle.cmd_text.proofs.Joins.{same_trans, with_then, with_with, with_stands, same_then, same_with, then_or}
 use Rattle.cmd_text.proofs.Parts.{Lit, lit_nil, lit_derives, lit_reads, lit_apart, lit_begins, BeginsBy, or_reads, or_apart, sp_reads, sp_apart, sp_settles, sp_derives, sp1_reads, sp1_same, sp1_apart, map_bind}

@@ -1,6 +1,7 @@
 -- One step of the loop over the options of a command.
 use Rattle.std.proofs.Common.{◌≡◌, ℕ, zero, suc, ◌+◌, ◌-◌, ◌≤◌, length, length-append, true, false, cond, List, [], ◌∷◌, ◌++◌, Result, Ok, Err, refl, sym, ap, ◌∙◌, arith}
-use Rattle.cmd_text.specs.Reading.{◌>>=◌, read, skip_at, option_comes, pushed_at, more_at}
+use Rattle.cmd_text.specs.Reading.{◌>>=◌, read, skip_at}
+use Rattle.cmd_text.specs.ReadingOptions.{option_comes, pushed_at, more_at}
 
 module _ {A : Type 0} where
   abbrev ended : List A → List ℕ → Result (List A × List ℕ) ℕ

@@ -3,8 +3,8 @@ use Rattle.std.proofs.Common.{◌≡◌, ℕ, zero, suc, ◌≤◌, Bool, true, 
 use Rattle.std.specs.List.{list_all}
 use Rattle.std.proofs.lemmas.Bool.{eqb-true, eqb-false, and_parts, and_from, false≢true, both_ways, le-leb, leb-true, lt-ltb}
 use Rattle.kind_core.specs.Bytes.{is_digit, is_letter, is_name_byte}
-use Rattle.cmd_text.specs.Language.{Language, ◌▹◌, ◌▸◌, ◌⊕◌, stands_for, word}
-use Rattle.cmd_text.specs.Productions.{is_space, sp, sp1, name, number_of, count, number}
+use Rattle.cmd_words.specs.Language.{Language, ◌▹◌, ◌▸◌, ◌⊕◌, stands_for, word}
+use Rattle.cmd_words.specs.Productions.{is_space, sp, sp1, name, number_of, count, number}
 use Rattle.cmd_text.specs.Reading.{◌>>=◌, expect_at, skip_at, skip_some_at, run_len, begins_with, first_and_run, cut_run, map_at, minus, name_at, count_at, number_at}
 use Rattle.cmd_text.proofs.Settling.{Live, Settles, Reads, Within, Same, Derives, Never, Apart, heads, tails, step, stop, ends, same_at, same_nil, settles_same, reads_same}
 use Rattle.cmd_text.proofs.Joins.{same_trans, with_or, with_then, with_with, with_stands, same_or, same_then, same_with}

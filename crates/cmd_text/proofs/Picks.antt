@@ -2,9 +2,10 @@
 use Rattle.std.proofs.Common.{◌≡◌, ℕ, ◌≤◌, min, Bool, true, false, cond, not, ◌||◌, ◌==◌, List, [], ◌∷◌, ◌++◌, length, get_or, Result, Ok, Err, ◌⊎◌, refl, sym, ap, subst, ◌∙◌, inl, inr, arith, append_assoc, length-append}
 use Rattle.std.specs.List.{list_all}
 use Rattle.std.proofs.lemmas.Bool.{eqb-true, eqb-false, and_parts, or_cases, not-true, false≢true, both_ways, cases_lt}
-use Rattle.cmd_text.specs.Language.{Language, ◌▸◌}
-use Rattle.cmd_text.specs.Productions.{is_space}
-use Rattle.cmd_text.specs.Reading.{◌>>=◌, expect_at, begins_with, or_nearer, pick_at}
+use Rattle.cmd_words.specs.Language.{Language, ◌▸◌}
+use Rattle.cmd_words.specs.Productions.{is_space}
+use Rattle.cmd_text.specs.Reading.{◌>>=◌, expect_at, begins_with}
+use Rattle.cmd_text.specs.ReadingWords.{or_nearer, pick_at}
 use Rattle.cmd_text.proofs.Settling.{Live, Stuck, Settles, Reads, Within, Apart, heads, tails, left_le, step, settles_same}
 use Rattle.cmd_text.proofs.Parts.{Lit, lit_nil, lit_derives, lit_settles}
 

@@ -1,9 +1,9 @@
 -- What the reading of a line says of the grammar.
 use Rattle.std.proofs.Common.{◌≡◌, ℕ, ◌-◌, ◌≤◌, List, ◌++◌, length, take, drop, Result, Ok, Err, sym, ap, subst, ◌∙◌, arith, length-append, length-drop, take-append-drop}
 use Rattle.std.proofs.Math.Seq.{take-append_seam}
-use Rattle.cmd_text.specs.declared.commands.Command.{Command}
-use Rattle.cmd_text.specs.Grammar.{command_line, Begins, IsPlace}
-use Rattle.cmd_text.specs.Reading.{line_at}
+use Rattle.cmd_words.specs.declared.commands.Command.{Command}
+use Rattle.cmd_words.specs.Grammar.{command_line, Begins, IsPlace}
+use Rattle.cmd_text.specs.ReadingLines.{line_at}
 use Rattle.cmd_text.proofs.Settling.{Stuck, Settles, left_le}
 use Rattle.cmd_text.proofs.Lines.{line_reads}
 

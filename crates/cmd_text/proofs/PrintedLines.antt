@@ -8,18 +8,18 @@ use Rattle.kind_core.specs.Bytes.{is_digit, is_name}
 use Rattle.kind_core.specs.declared.kinds.Kind.{Kind}
 use Rattle.kind_core.specs.declared.kinds.Attr.{Attr}
 use Rattle.kind_core.specs.declared.values.Value as value_type
-use Rattle.cmd_text.specs.declared.commands.PlaceOption.{PlaceOption}
-use Rattle.cmd_text.specs.declared.commands.ConfigOption.{ConfigOption}
-use Rattle.cmd_text.specs.declared.commands.Command.{Command}
-use Rattle.cmd_text.specs.declared.commands.Command.TheVariants.{New, Set, Get, Place, Lift, ColumnConfig, RowConfig, Link, Unlink, Bind, Unbind, OpenWindow, CloseWindow, TopWindow, Mode, Admit, Leave, SendFrame, DropWidget, Poll}
-use Rattle.cmd_text.specs.declared.methods.Method.{Method}
-use Rattle.cmd_text.specs.declared.methods.Method.TheVariants as method
-use Rattle.cmd_text.specs.Words.{kind_word, attr_word, event_word, place_word, config_word}
-use Rattle.cmd_text.specs.Language.{Language, ◌▹◌, ◌▸◌, any, stands_for, word}
-use Rattle.cmd_text.specs.Productions.{sp, sp1, name, are_digits, number_of, number, count, value, kind, attr, event, place_option, config_option, sopt, popt, copt, up_to, options}
-use Rattle.cmd_text.specs.Grammar.{opens, closes, empty, comma, call, body, command_line}
-use Rattle.cmd_text.specs.Printed.{quoted, printed_value, printed_set, printed_place, printed_config, printed_options, printed}
-use Rattle.cmd_text.specs.Reading.{method_word}
+use Rattle.cmd_words.specs.declared.commands.PlaceOption.{PlaceOption}
+use Rattle.cmd_words.specs.declared.commands.ConfigOption.{ConfigOption}
+use Rattle.cmd_words.specs.declared.commands.Command.{Command}
+use Rattle.cmd_words.specs.declared.commands.Command.TheVariants.{New, Set, Get, Place, Lift, ColumnConfig, RowConfig, Link, Unlink, Bind, Unbind, OpenWindow, CloseWindow, TopWindow, Mode, Admit, Leave, SendFrame, DropWidget, Poll}
+use Rattle.cmd_words.specs.declared.methods.Method.{Method}
+use Rattle.cmd_words.specs.declared.methods.Method.TheVariants as method
+use Rattle.cmd_words.specs.Words.{kind_word, attr_word, event_word, place_word, config_word}
+use Rattle.cmd_words.specs.Language.{Language, ◌▹◌, ◌▸◌, any, stands_for, word}
+use Rattle.cmd_words.specs.Productions.{sp, sp1, name, are_digits, number_of, number, count, value, kind, attr, event, place_option, config_option, sopt, popt, copt, up_to, options}
+use Rattle.cmd_words.specs.Grammar.{opens, closes, empty, comma, call, body, command_line}
+use Rattle.cmd_print.specs.Printed.{quoted, printed_value, printed_set, printed_place, printed_config, printed_options, printed}
+use Rattle.cmd_words.specs.Words.{method_word}
 use Rattle.cmd_text.proofs.Lines.{ending, finishing, arguments, place_after, call_lit, lit_call}
 use Rattle.cmd_text.proofs.OptionLists.{option_of}
 

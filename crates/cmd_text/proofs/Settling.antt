@@ -1,7 +1,7 @@
 -- What it means that a reading settles a language on some bytes: it finds the one thing that they stand for, or
 -- stops after the longest front that some word of the language has. And how readings of parts make one of the whole.
 use Rattle.std.proofs.Common.{◌≡◌, ℕ, ◌≤◌, Bool, true, List, [], ◌∷◌, ◌++◌, length, Result, Ok, Err, refl, sym, ap, subst, arith, length-append}
-use Rattle.cmd_text.specs.Language.{Language}
+use Rattle.cmd_words.specs.Language.{Language}
 
 -- the language has a word
 abbrev pub Live : {C : Type 0} → Language C → Type 0

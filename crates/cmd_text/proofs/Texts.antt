@@ -5,9 +5,10 @@ use Rattle.std.proofs.lemmas.Bool.{eqb-true, eqb-false, and_parts, and_from, bot
 use Rattle.kind_core.specs.Bytes.{is_digit, is_printable}
 use Rattle.kind_core.specs.declared.values.Value as value_type
 use Rattle.kind_core.specs.declared.values.Value.TheVariants.{Number, Words}
-use Rattle.cmd_text.specs.Language.{Language, ◌▸◌, ◌⊕◌, stands_for}
-use Rattle.cmd_text.specs.Productions.{is_space, character, text, number, value}
-use Rattle.cmd_text.specs.Reading.{◌>>=◌, expect_at, begins_with, read, map_at, is_special, escaped_at, chars_at, text_at, number_at, value_at}
+use Rattle.cmd_words.specs.Language.{Language, ◌▸◌, ◌⊕◌, stands_for}
+use Rattle.cmd_words.specs.Productions.{is_space, character, text, number, value}
+use Rattle.cmd_text.specs.Reading.{◌>>=◌, expect_at, begins_with, read, map_at, number_at}
+use Rattle.cmd_text.specs.ReadingOptions.{is_special, escaped_at, chars_at, text_at, value_at}
 use Rattle.cmd_text.proofs.Settling.{Live, Settles, Reads, Same, Derives, Never, Apart, heads, tails, step, stop, ends, reads_same}
 use Rattle.cmd_text.proofs.Joins.{same_trans, with_or, with_with, with_stands, same_or, same_with}
 use Rattle.cmd_text.proofs.Parts.{Lit, lit_reads, lit_apart, lit_begins, or_reads, or_apart, BeginsBy, map_bind, number_reads, number_apart, number_not_quote}

@@ -1,22 +1,24 @@
 -- Each table of words has each value, and none of its words begins another.
 use Rattle.std.proofs.Common.{◌≡◌, ℕ, true, not, ◌||◌, ◌==◌, get_or, refl, inl, inr}
 use Rattle.std.specs.List.{list_all}
-use Rattle.cmd_text.specs.Words.{kind_word, attr_word, event_word, place_word, config_word}
-use Rattle.cmd_text.specs.Productions.{is_space}
-use Rattle.cmd_text.specs.Reading.{method_word, all_methods, all_kinds, all_attrs, all_events, all_place_options, all_config_options, begins_with}
+use Rattle.cmd_words.specs.Words.{kind_word, attr_word, event_word, place_word, config_word}
+use Rattle.cmd_words.specs.Productions.{is_space}
+use Rattle.cmd_text.specs.Reading.{begins_with}
+use Rattle.cmd_text.specs.ReadingWords.{all_methods, all_kinds, all_attrs, all_events, all_place_options, all_config_options}
+use Rattle.cmd_words.specs.Words.{method_word}
 use Rattle.cmd_text.proofs.Picks.{Among, clash, AreWords, words_from}
-use Rattle.cmd_text.specs.declared.methods.Method as method_type
-use Rattle.cmd_text.specs.declared.methods.Method.TheVariants as method
+use Rattle.cmd_words.specs.declared.methods.Method as method_type
+use Rattle.cmd_words.specs.declared.methods.Method.TheVariants as method
 use Rattle.kind_core.specs.declared.kinds.Kind as kind_type
 use Rattle.kind_core.specs.declared.kinds.Kind.TheVariants as kind
 use Rattle.kind_core.specs.declared.kinds.Attr as attr_type
 use Rattle.kind_core.specs.declared.kinds.Attr.TheVariants as attr
 use Rattle.kind_core.specs.declared.kinds.EventKind as event_type
 use Rattle.kind_core.specs.declared.kinds.EventKind.TheVariants as event
-use Rattle.cmd_text.specs.declared.commands.PlaceOption as place_type
-use Rattle.cmd_text.specs.declared.commands.PlaceOption.TheVariants as place
-use Rattle.cmd_text.specs.declared.commands.ConfigOption as config_type
-use Rattle.cmd_text.specs.declared.commands.ConfigOption.TheVariants as config
+use Rattle.cmd_words.specs.declared.commands.PlaceOption as place_type
+use Rattle.cmd_words.specs.declared.commands.PlaceOption.TheVariants as place
+use Rattle.cmd_words.specs.declared.commands.ConfigOption as config_type
+use Rattle.cmd_words.specs.declared.commands.ConfigOption.TheVariants as config
 
 abbrev method_tag : method_type.Method → ℕ
 method_tag method.Set = 0

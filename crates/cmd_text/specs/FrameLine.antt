@@ -1,7 +1,7 @@
 -- Which lines send a frame, so that its bytes follow them.
 use Rattle.std.specs.Prelude.{ℕ, List}
-use Rattle.cmd_text.specs.Language.{Language, ◌▹◌, ◌▸◌, word}
-use Rattle.cmd_text.specs.Productions.{sp, name}
+use Rattle.cmd_words.specs.Language.{Language, ◌▹◌, ◌▸◌, word}
+use Rattle.cmd_words.specs.Productions.{sp, name}
 
 -- any bytes at all
 abbrev pub anything : Language (Unit {0})

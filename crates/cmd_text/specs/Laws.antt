@@ -1,8 +1,8 @@
 -- The laws of the language.
 use Rattle.std.specs.Prelude.{◌≡◌, ℕ, List}
-use Rattle.cmd_text.specs.declared.commands.Command.{Command}
-use Rattle.cmd_text.specs.Grammar.{command_line}
-use Rattle.cmd_text.specs.Printed.{printed}
+use Rattle.cmd_words.specs.declared.commands.Command.{Command}
+use Rattle.cmd_words.specs.Grammar.{command_line}
+use Rattle.cmd_print.specs.Printed.{printed}
 
 -- a line stands for at most one command
 abbrev pub OneCommand : Type 0

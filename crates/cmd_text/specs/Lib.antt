@@ -1,9 +1,6 @@
-pub mod Words
-pub mod Language
-pub mod Productions
-pub mod Grammar
-pub mod Printed
-pub mod Replies
 pub mod FrameLine
 pub mod Reading
+pub mod ReadingWords
+pub mod ReadingOptions
+pub mod ReadingLines
 pub mod Laws

@@ -1,11 +1,11 @@
 ghost use Rattle.std.specs.Prelude.{◌≡◌, ◌↔◌, IsTrue};
 ghost use Rattle.cmd_text.specs.FrameLine.{IsFrameLine};
-ghost use Rattle.cmd_text.specs.Reading.{frame_front_at};
+ghost use Rattle.cmd_text.specs.ReadingLines.{frame_front_at};
 
 use crate::reading::{expect, name, skip};
 
 /// Reads the front of a frame line: a name, `.`, `frame` and `(`, with or without spaces between them.
-#[tactic(auto, unfolding(crate::specs::Reading::frame_front_at))]
+#[tactic(auto, unfolding(crate::specs::ReadingLines::frame_front_at))]
 fn frame_front(bytes: &[u8]) -> Result<(), usize>
     ensures { result ≡ frame_front_at bytes.now }
 {

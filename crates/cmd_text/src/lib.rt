@@ -1,30 +1,18 @@
-//! The command language: which lines are commands, what they mean, and how commands and replies are
-//! printed. Nothing here takes memory.
+//! The command language: which lines are commands, and what they mean. What the language speaks of and how
+//! it is printed stand in cmd_words and cmd_print, and are named here too. Nothing here takes memory.
 #![tactic(auto)]
 
-mod commands;
 mod frames;
-mod inputs;
 pub mod laws;
-mod lists;
-mod methods;
 mod optioning;
 mod parsing;
-mod printing;
-mod putting;
+mod picking;
 mod reading;
-mod replies;
-mod replying;
-mod words;
 
-pub use commands::{Command, ConfigOption, PlaceOption};
+pub use cmd_print::{print, print_reply};
+pub use cmd_words::{Command, ConfigOption, Drew, Input, Options, PlaceOption, Refusal, Reply};
 pub use frames::is_frame_line;
-pub use inputs::{Drew, Input};
-pub use lists::Options;
 pub use parsing::{BadLine, parse};
-pub use printing::print;
-pub use replies::{Refusal, Reply};
-pub use replying::print_reply;
 
 #[cfg(test)]
 mod tests;

@@ -1,11 +1,11 @@
 //! The options of a command.
 ghost use Rattle.std.specs.Prelude.{◌≡◌, ◌-◌, ◌<◌, ◌≤◌, [], ◌∷◌, length};
-ghost use Rattle.cmd_text.specs.Reading.{Gives, sopt_at, popt_at, copt_at, option_comes, skip_at, pushed_at, more_at, options_at};
+ghost use Rattle.cmd_text.specs.Reading.{Gives, skip_at};
+ghost use Rattle.cmd_text.specs.ReadingOptions.{sopt_at, popt_at, copt_at, option_comes, pushed_at, more_at, options_at};
 
-use crate::commands::{ConfigOption, PlaceOption};
-use crate::lists::Options;
+use crate::picking::{attr, config_option, place_option};
 use crate::reading::{begins, expect, number, skip, skip_some, value};
-use crate::words::{attr, config_option, place_option};
+use cmd_words::{ConfigOption, Options, PlaceOption};
 use kind_core::{Attr, Value};
 
 /// An option that is read as a `-`, a word and a value.
@@ -22,7 +22,7 @@ pub(crate) trait Readable: Default + Copy {
 impl Readable for (Attr, Value) {
     ghost one_at = { sopt_at };
 
-    #[tactic(auto, unfolding(crate::specs::Reading::sopt_at))]
+    #[tactic(auto, unfolding(crate::specs::ReadingOptions::sopt_at))]
     fn read(bytes: &[u8]) -> Result<(Self, &[u8]), usize> {
         let rest = expect(b"-", bytes)?;
         let (which, rest) = attr(rest)?;
@@ -37,7 +37,7 @@ impl Readable for (Attr, Value) {
 impl Readable for (PlaceOption, i32) {
     ghost one_at = { popt_at };
 
-    #[tactic(auto, unfolding(crate::specs::Reading::popt_at))]
+    #[tactic(auto, unfolding(crate::specs::ReadingOptions::popt_at))]
     fn read(bytes: &[u8]) -> Result<(Self, &[u8]), usize> {
         let rest = expect(b"-", bytes)?;
         let (which, rest) = place_option(rest)?;
@@ -50,7 +50,7 @@ impl Readable for (PlaceOption, i32) {
 impl Readable for (ConfigOption, i32) {
     ghost one_at = { copt_at };
 
-    #[tactic(auto, unfolding(crate::specs::Reading::copt_at))]
+    #[tactic(auto, unfolding(crate::specs::ReadingOptions::copt_at))]
     fn read(bytes: &[u8]) -> Result<(Self, &[u8]), usize> {
         let rest = expect(b"-", bytes)?;
         let (which, rest) = config_option(rest)?;
@@ -104,7 +104,7 @@ fn more<T: Readable>(mut list: Options<T>, bytes: &[u8]) -> Result<(Options<T>, 
 }
 
 /// 1 to 8 options with spaces between them, and the spaces after the last.
-#[tactic(auto, unfolding(crate::specs::Reading::options_at))]
+#[tactic(auto, unfolding(crate::specs::ReadingOptions::options_at))]
 pub(crate) fn options<T: Readable>(bytes: &[u8]) -> Result<(Options<T>, &[u8]), usize>
     ensures { Gives (λ x. (x.0, x.1.now)) result (options_at T.one_at bytes.now) }
 {

@@ -1,22 +1,21 @@
 //! Lines are read from left to right, in one pass.
 ghost use Rattle.std.specs.Prelude.{◌≡◌, ◌≤◌, ◌-◌, [], length, codes, Ok, Err, IfOk, IfErr};
 ghost use Rattle.std.specs.Str.{bytes_eq};
-ghost use Rattle.cmd_text.specs.Grammar.{command_line, IsPlace};
-ghost use Rattle.cmd_text.specs.declared.commands.Command.{Command};
-ghost use Rattle.cmd_text.specs.Reading.{Gives, open_at, comma_at, end_at, finish_at, close_at, place_rest_at, arguments_at, called_at, made_at, body_at, line_at};
-ghost use Rattle.cmd_text.specs.declared.methods.Method.TheVariants as method;
+ghost use Rattle.cmd_words.specs.Grammar.{command_line, IsPlace};
+ghost use Rattle.cmd_words.specs.declared.commands.Command.{Command};
+ghost use Rattle.cmd_text.specs.Reading.{Gives};
+ghost use Rattle.cmd_text.specs.ReadingLines.{open_at, comma_at, end_at, finish_at, close_at, place_rest_at, arguments_at, called_at, made_at, body_at, line_at};
+ghost use Rattle.cmd_words.specs.declared.methods.Method.TheVariants as method;
 
-use crate::commands::Command;
-use crate::lists::Options;
-use crate::methods::Method;
 use crate::optioning::options;
+use crate::picking::{attr, event, kind, method};
 use crate::reading::{begins, count, expect, name, number, skip, skip_some};
-use crate::words::{attr, event, kind, method};
+use cmd_words::{Command, Method, Options};
 use kind_core::Name;
 use thiserror::Error;
 
 /// `(` with the spaces before and after it.
-#[tactic(auto, unfolding(crate::specs::Reading::open_at))]
+#[tactic(auto, unfolding(crate::specs::ReadingLines::open_at))]
 fn open(bytes: &[u8]) -> Result<&[u8], usize>
     ensures { Gives (λ x. x.now) result (open_at bytes.now) }
 {
@@ -25,7 +24,7 @@ fn open(bytes: &[u8]) -> Result<&[u8], usize>
 }
 
 /// `,` with the spaces before and after it.
-#[tactic(auto, unfolding(crate::specs::Reading::comma_at))]
+#[tactic(auto, unfolding(crate::specs::ReadingLines::comma_at))]
 fn comma(bytes: &[u8]) -> Result<&[u8], usize>
     ensures { Gives (λ x. x.now) result (comma_at bytes.now) }
 {
@@ -34,7 +33,7 @@ fn comma(bytes: &[u8]) -> Result<&[u8], usize>
 }
 
 /// The command, where only spaces are left.
-#[tactic(auto, unfolding(crate::specs::Reading::end_at))]
+#[tactic(auto, unfolding(crate::specs::ReadingLines::end_at))]
 fn end(command: Command, bytes: &[u8]) -> Result<Command, usize>
     ensures { result ≡ end_at command bytes.now }
 {
@@ -45,7 +44,7 @@ fn end(command: Command, bytes: &[u8]) -> Result<Command, usize>
 }
 
 /// The command, where `)` and the end of the line follow.
-#[tactic(auto, unfolding(crate::specs::Reading::finish_at))]
+#[tactic(auto, unfolding(crate::specs::ReadingLines::finish_at))]
 fn finish(command: Command, bytes: &[u8]) -> Result<Command, usize>
     ensures { result ≡ finish_at command bytes.now }
 {
@@ -56,14 +55,14 @@ fn finish(command: Command, bytes: &[u8]) -> Result<Command, usize>
 }
 
 /// The same with spaces before the `)`.
-#[tactic(auto, unfolding(crate::specs::Reading::close_at))]
+#[tactic(auto, unfolding(crate::specs::ReadingLines::close_at))]
 fn close(command: Command, bytes: &[u8]) -> Result<Command, usize>
     ensures { result ≡ close_at command bytes.now }
 {
     finish(command, skip(bytes))
 }
 
-#[tactic(auto, unfolding(crate::specs::Reading::arguments_at))]
+#[tactic(auto, unfolding(crate::specs::ReadingLines::arguments_at))]
 fn set(name: Name, bytes: &[u8]) -> Result<Command, usize>
     ensures { result ≡ arguments_at name method.Set bytes.now }
 {
@@ -73,7 +72,7 @@ fn set(name: Name, bytes: &[u8]) -> Result<Command, usize>
     }
 }
 
-#[tactic(auto, unfolding(crate::specs::Reading::arguments_at))]
+#[tactic(auto, unfolding(crate::specs::ReadingLines::arguments_at))]
 fn get(name: Name, bytes: &[u8]) -> Result<Command, usize>
     ensures { result ≡ arguments_at name method.Get bytes.now }
 {
@@ -82,7 +81,7 @@ fn get(name: Name, bytes: &[u8]) -> Result<Command, usize>
 }
 
 /// What follows the child's name in `place`.
-#[tactic(auto, unfolding(crate::specs::Reading::place_rest_at))]
+#[tactic(auto, unfolding(crate::specs::ReadingLines::place_rest_at))]
 fn place_rest(parent: Name, child: Name, bytes: &[u8]) -> Result<Command, usize>
     ensures { result ≡ place_rest_at parent child bytes.now }
 {
@@ -110,7 +109,7 @@ fn place_rest(parent: Name, child: Name, bytes: &[u8]) -> Result<Command, usize>
     }
 }
 
-#[tactic(auto, unfolding(crate::specs::Reading::arguments_at))]
+#[tactic(auto, unfolding(crate::specs::ReadingLines::arguments_at))]
 fn place(parent: Name, bytes: &[u8]) -> Result<Command, usize>
     ensures { result ≡ arguments_at parent method.Place bytes.now }
 {
@@ -120,7 +119,7 @@ fn place(parent: Name, bytes: &[u8]) -> Result<Command, usize>
     }
 }
 
-#[tactic(auto, unfolding(crate::specs::Reading::arguments_at))]
+#[tactic(auto, unfolding(crate::specs::ReadingLines::arguments_at))]
 fn lift(parent: Name, bytes: &[u8]) -> Result<Command, usize>
     ensures { result ≡ arguments_at parent method.Lift bytes.now }
 {
@@ -130,7 +129,7 @@ fn lift(parent: Name, bytes: &[u8]) -> Result<Command, usize>
     }
 }
 
-#[tactic(auto, unfolding(crate::specs::Reading::arguments_at))]
+#[tactic(auto, unfolding(crate::specs::ReadingLines::arguments_at))]
 fn column_config(name: Name, bytes: &[u8]) -> Result<Command, usize>
     ensures { result ≡ arguments_at name method.ColumnConfig bytes.now }
 {
@@ -149,7 +148,7 @@ fn column_config(name: Name, bytes: &[u8]) -> Result<Command, usize>
     }
 }
 
-#[tactic(auto, unfolding(crate::specs::Reading::arguments_at))]
+#[tactic(auto, unfolding(crate::specs::ReadingLines::arguments_at))]
 fn row_config(name: Name, bytes: &[u8]) -> Result<Command, usize>
     ensures { result ≡ arguments_at name method.RowConfig bytes.now }
 {
@@ -168,7 +167,7 @@ fn row_config(name: Name, bytes: &[u8]) -> Result<Command, usize>
     }
 }
 
-#[tactic(auto, unfolding(crate::specs::Reading::arguments_at))]
+#[tactic(auto, unfolding(crate::specs::ReadingLines::arguments_at))]
 fn link(widget: Name, bytes: &[u8]) -> Result<Command, usize>
     ensures { result ≡ arguments_at widget method.Link bytes.now }
 {
@@ -184,7 +183,7 @@ fn link(widget: Name, bytes: &[u8]) -> Result<Command, usize>
     }
 }
 
-#[tactic(auto, unfolding(crate::specs::Reading::arguments_at))]
+#[tactic(auto, unfolding(crate::specs::ReadingLines::arguments_at))]
 fn bind(widget: Name, bytes: &[u8]) -> Result<Command, usize>
     ensures { result ≡ arguments_at widget method.Bind bytes.now }
 {
@@ -203,7 +202,7 @@ fn bind(widget: Name, bytes: &[u8]) -> Result<Command, usize>
     }
 }
 
-#[tactic(auto, unfolding(crate::specs::Reading::arguments_at))]
+#[tactic(auto, unfolding(crate::specs::ReadingLines::arguments_at))]
 fn unbind(name: Name, bytes: &[u8]) -> Result<Command, usize>
     ensures { result ≡ arguments_at name method.Unbind bytes.now }
 {
@@ -211,7 +210,7 @@ fn unbind(name: Name, bytes: &[u8]) -> Result<Command, usize>
     close(Command::Unbind { name, event }, rest)
 }
 
-#[tactic(auto, unfolding(crate::specs::Reading::arguments_at))]
+#[tactic(auto, unfolding(crate::specs::ReadingLines::arguments_at))]
 fn mode(name: Name, bytes: &[u8]) -> Result<Command, usize>
     ensures { result ≡ arguments_at name method.Mode bytes.now }
 {
@@ -221,7 +220,7 @@ fn mode(name: Name, bytes: &[u8]) -> Result<Command, usize>
     close(Command::Mode { name, w, h }, rest)
 }
 
-#[tactic(auto, unfolding(crate::specs::Reading::arguments_at))]
+#[tactic(auto, unfolding(crate::specs::ReadingLines::arguments_at))]
 fn admit(name: Name, bytes: &[u8]) -> Result<Command, usize>
     ensures { result ≡ arguments_at name method.Admit bytes.now }
 {
@@ -229,7 +228,7 @@ fn admit(name: Name, bytes: &[u8]) -> Result<Command, usize>
     close(Command::Admit { name, period }, rest)
 }
 
-#[tactic(auto, unfolding(crate::specs::Reading::arguments_at))]
+#[tactic(auto, unfolding(crate::specs::ReadingLines::arguments_at))]
 fn send_frame(name: Name, bytes: &[u8]) -> Result<Command, usize>
     ensures { result ≡ arguments_at name method.Frame bytes.now }
 {
@@ -238,7 +237,7 @@ fn send_frame(name: Name, bytes: &[u8]) -> Result<Command, usize>
 }
 
 /// What is between the `(` of a method and the end of the line.
-#[tactic(auto, unfolding(crate::specs::Reading::arguments_at))]
+#[tactic(auto, unfolding(crate::specs::ReadingLines::arguments_at))]
 fn arguments(name: Name, method: Method, bytes: &[u8]) -> Result<Command, usize>
     ensures { result ≡ arguments_at name method bytes.now }
 {
@@ -265,7 +264,7 @@ fn arguments(name: Name, method: Method, bytes: &[u8]) -> Result<Command, usize>
 }
 
 /// What follows a name and `.`.
-#[tactic(auto, unfolding(crate::specs::Reading::called_at))]
+#[tactic(auto, unfolding(crate::specs::ReadingLines::called_at))]
 fn called(name: Name, bytes: &[u8]) -> Result<Command, usize>
     ensures { result ≡ called_at name bytes.now }
 {
@@ -275,7 +274,7 @@ fn called(name: Name, bytes: &[u8]) -> Result<Command, usize>
 }
 
 /// What follows a name and `=`.
-#[tactic(auto, unfolding(crate::specs::Reading::made_at))]
+#[tactic(auto, unfolding(crate::specs::ReadingLines::made_at))]
 fn made(name: Name, bytes: &[u8]) -> Result<Command, usize>
     ensures { result ≡ made_at name bytes.now }
 {
@@ -294,7 +293,7 @@ fn is_poll(name: Name) -> bool
 }
 
 /// What follows the first name of a line.
-#[tactic(auto, unfolding(crate::specs::Reading::body_at))]
+#[tactic(auto, unfolding(crate::specs::ReadingLines::body_at))]
 fn body(name: Name, bytes: &[u8]) -> Result<Command, usize>
     ensures { result ≡ body_at name bytes.now }
 {
@@ -311,7 +310,7 @@ fn body(name: Name, bytes: &[u8]) -> Result<Command, usize>
 }
 
 /// The command of a line, or how many bytes are left after its longest front that begins some line.
-#[tactic(auto, unfolding(crate::specs::Reading::line_at))]
+#[tactic(auto, unfolding(crate::specs::ReadingLines::line_at))]
 fn read_line(bytes: &[u8]) -> Result<Command, usize>
     ensures { result ≡ line_at bytes.now }
 {

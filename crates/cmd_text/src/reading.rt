@@ -1,8 +1,10 @@
 //! The small parts of a line. Each reader answers what it read and the bytes after it, or how many bytes
 //! were left where it had to stop.
 ghost use Rattle.std.specs.Prelude.{◌≡◌, ◌≤◌, ◌+◌, ◌-◌, ◌*◌, ◌^◌, ◌∷◌, [], pos, ◌<◌, ◌==◌, length, IfOk, IsTrue, codes};
-ghost use Rattle.cmd_text.specs.Productions.{is_space, number_of};
-ghost use Rattle.cmd_text.specs.Reading.{Gives, class_test, minus, expect_at, skip_at, skip_some_at, run_len, begins_with, name_at, count_at, number_at, escaped_char_at, char_at, chars_at, text_at, value_at, end_at};
+ghost use Rattle.cmd_words.specs.Productions.{is_space, number_of};
+ghost use Rattle.cmd_text.specs.Reading.{Gives, class_test, minus, expect_at, skip_at, skip_some_at, run_len, begins_with, name_at, count_at, number_at};
+ghost use Rattle.cmd_text.specs.ReadingOptions.{escaped_char_at, char_at, chars_at, text_at, value_at};
+ghost use Rattle.cmd_text.specs.ReadingLines.{end_at};
 ghost use Rattle.kind_core.specs.Bytes.{is_name, is_text, is_letter, is_digit, is_name_byte, is_printable};
 
 use arrayvec::ArrayVec;
@@ -239,7 +241,7 @@ fn characters(bytes: &[u8]) -> Result<(Text, &[u8]), usize>
 }
 
 /// A text in quotes.
-#[tactic(auto, unfolding(crate::specs::Reading::text_at))]
+#[tactic(auto, unfolding(crate::specs::ReadingOptions::text_at))]
 pub(crate) fn text(bytes: &[u8]) -> Result<(Text, &[u8]), usize>
     ensures { Gives (λ x. (x.0, x.1.now)) result (text_at bytes.now) }
 {
@@ -248,7 +250,7 @@ pub(crate) fn text(bytes: &[u8]) -> Result<(Text, &[u8]), usize>
 }
 
 /// A text in quotes or a number.
-#[tactic(auto, unfolding(crate::specs::Reading::value_at))]
+#[tactic(auto, unfolding(crate::specs::ReadingOptions::value_at))]
 pub(crate) fn value(bytes: &[u8]) -> Result<(Value, &[u8]), usize>
     ensures { Gives (λ x. (x.0, x.1.now)) result (value_at bytes.now) }
 {

@@ -1,6 +1,6 @@
 -- A tick with its choice named: the set of dirty pixels that it cleans, as a map of truth values.
 use Rattle.std.specs.Prelude.{◌≡◌, ℕ, ◌-◌, min, Bool, true, false, not, ◌&&◌, ◌||◌, if◌then◌else◌, List, [], ◌∷◌, length, slice_index_or}
-use Rattle.cmd_text.specs.declared.inputs.Drew.{Drew}
+use Rattle.cmd_words.specs.declared.inputs.Drew.{Drew}
 use Rattle.desk_model.specs.Picture.{colour}
 use Rattle.desk_model.specs.Beat.{beat, in_band, band_count}
 use Rattle.desk_model.specs.State.{State, index_of, byte_at, is_dirty, count_true, dirty_count, EachPixel}

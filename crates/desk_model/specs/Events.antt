@@ -1,6 +1,6 @@
 -- What can happen to the machine, and what it can answer.
 use Rattle.std.specs.Prelude.{ℕ, Option}
-use Rattle.cmd_text.specs.declared.inputs.Drew.{Drew}
+use Rattle.cmd_words.specs.declared.inputs.Drew.{Drew}
 
 pub data Event : Type 0 where
   -- a client readies its window, of which nothing is shown yet

@@ -5,6 +5,6 @@
 
 mod window;
 
-pub use cmd_text::Drew;
+pub use cmd_words::Drew;
 pub use kind_core::Shape;
 pub use window::Window;

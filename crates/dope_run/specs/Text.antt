@@ -1,7 +1,7 @@
 -- What is written for each answer of the machine: one line, with its line feed.
 use Rattle.std.specs.Prelude.{ℕ, List, ◌++◌, Option, Some, None, codes, decimal}
 use Rattle.std.specs.List.{flat_map}
-use Rattle.cmd_text.specs.declared.inputs.Drew.{Drew}
+use Rattle.cmd_words.specs.declared.inputs.Drew.{Drew}
 use Rattle.desk_model.specs.Events.{Answer}
 use Rattle.desk_model.specs.Events.Answer.{Done, Drawn, Counted, Seen}
 use Rattle.desk_model.specs.Run.{Moment}

@@ -2,7 +2,7 @@
 use Rattle.std.proofs.Common.{◌≡◌, ℕ, ◌+◌, ◌-◌, ◌*◌, ◌/◌, ◌%◌, ◌<◌, pos, Bool, true, false, not, ◌&&◌, ◌||◌, cond, List, [], ◌∷◌, Option, Some, None, length, get_or, set, replicate, refl, ap, ◌∙◌, subst, arith}
 use Rattle.std.specs.Option.{option_to_list, MatchOption}
 use Rattle.std.proofs.lemmas.Nat.{mul-add-lt, div-mul-add, mod-mul-add}
-use Rattle.cmd_text.specs.declared.inputs.Drew.{Drew}
+use Rattle.cmd_words.specs.declared.inputs.Drew.{Drew}
 use Rattle.kind_core.specs.declared.shapes.Shape.{Shape}
 use Rattle.desk_model.specs.declared.window.Window.{Window}
 use Rattle.desk_model.specs.Desk.{Desk, area, opening_desk}

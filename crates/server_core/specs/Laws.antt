@@ -1,6 +1,6 @@
 -- The laws of the machine, each a statement over its definitions alone.
 use Rattle.std.specs.Prelude.{◌≡◌, ◌≢◌, ℕ, false, List, ◌++◌}
-use Rattle.cmd_text.specs.declared.inputs.Drew.{Drew}
+use Rattle.cmd_words.specs.declared.inputs.Drew.{Drew}
 use Rattle.kind_core.specs.declared.shapes.Shape.{Shape}
 use Rattle.desk_model.specs.Desk.{Desk, IsShape}
 use Rattle.desk_model.specs.Picture.{colour, picture}

@@ -1,7 +1,8 @@
 -- each turn takes one option, as reading does
 use Rattle.std.proofs.Common.{◌≡◌, ◌-◌, true, false, length, sym, ◌∙◌}
 use Rattle.std.proofs.lemmas.Bool.{eqb-false}
-use Rattle.cmd_text.specs.Reading.{skip_at, option_comes}
+use Rattle.cmd_text.specs.Reading.{skip_at}
+use Rattle.cmd_text.specs.ReadingOptions.{option_comes}
 use Rattle.cmd_text.proofs.OptionSteps.{more_end, more_pushed, more_unread}
 use Rattle.cmd_text.proofs.optioning.more.Goals as goal
 

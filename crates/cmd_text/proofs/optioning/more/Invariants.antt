@@ -1,6 +1,6 @@
 -- what is left is read as the whole is
 use Rattle.std.proofs.Common.{◌≡◌, ◌-◌, ◌≤◌, length}
-use Rattle.cmd_text.specs.Reading.{more_at}
+use Rattle.cmd_text.specs.ReadingOptions.{more_at}
 use Rattle.cmd_text.proofs.optioning.more.Given as goal
 
 abbrev pub invariant-loop-rest : goal.invariant-loop-rest

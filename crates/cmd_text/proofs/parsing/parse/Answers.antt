@@ -1,6 +1,6 @@
 -- what was read is what the grammar says
 use Rattle.std.proofs.Common.{ap, Result, Ok}
-use Rattle.cmd_text.specs.declared.commands.Command.{Command}
+use Rattle.cmd_words.specs.declared.commands.Command.{Command}
 use Rattle.cmd_text.specs.declared.parsing.BadLine.{BadLine}
 use Rattle.cmd_text.proofs.Places.{found_line, only_line, no_line, left_within, place_is}
 use Rattle.cmd_text.proofs.parsing.parse.Goals as goal

@@ -3,7 +3,8 @@ use Rattle.std.proofs.Common.{◌≡◌, ℕ, suc, ◌-◌, true, false, ◌==�
 use Rattle.std.specs.List.{list_all}
 use Rattle.std.proofs.lemmas.Bool.{eqb-false}
 use Rattle.kind_core.specs.Bytes.{is_printable}
-use Rattle.cmd_text.specs.Reading.{begins_with, chars_at}
+use Rattle.cmd_text.specs.Reading.{begins_with}
+use Rattle.cmd_text.specs.ReadingOptions.{chars_at}
 use Rattle.cmd_text.proofs.Characters.{chars_end, chars_step, chars_fail, all_push}
 use Rattle.cmd_text.proofs.reading.characters.Goals as goal
 

@@ -2,7 +2,7 @@
 use Rattle.std.proofs.Common.{◌≡◌, ◌-◌, ◌≤◌, true, [], length}
 use Rattle.std.specs.List.{list_all}
 use Rattle.kind_core.specs.Bytes.{is_printable}
-use Rattle.cmd_text.specs.Reading.{chars_at}
+use Rattle.cmd_text.specs.ReadingOptions.{chars_at}
 use Rattle.cmd_text.proofs.reading.characters.Given as goal
 
 abbrev pub invariant-loop-rest : goal.invariant-loop-rest

@@ -6,10 +6,12 @@ use Rattle.kind_core.specs.declared.kinds.Attr as attr
 use Rattle.kind_core.specs.declared.kinds.Attr.TheVariants as attrs
 use Rattle.kind_core.specs.declared.kinds.EventKind as event
 use Rattle.kind_core.specs.declared.kinds.EventKind.TheVariants as events
-use Rattle.cmd_text.specs.declared.commands.PlaceOption.{PlaceOption}
-use Rattle.cmd_text.specs.declared.commands.PlaceOption.TheVariants.{Column, Row, Pad}
-use Rattle.cmd_text.specs.declared.commands.ConfigOption.{ConfigOption}
-use Rattle.cmd_text.specs.declared.commands.ConfigOption.TheVariants.{Size, Weight}
+use Rattle.cmd_words.specs.declared.commands.PlaceOption.{PlaceOption}
+use Rattle.cmd_words.specs.declared.commands.PlaceOption.TheVariants.{Column, Row, Pad}
+use Rattle.cmd_words.specs.declared.commands.ConfigOption.{ConfigOption}
+use Rattle.cmd_words.specs.declared.commands.ConfigOption.TheVariants.{Size, Weight}
+use Rattle.cmd_words.specs.declared.methods.Method.{Method}
+use Rattle.cmd_words.specs.declared.methods.Method.TheVariants as method
 
 abbrev pub kind_word : kind.Kind → List ℕ
 kind_word kinds.Window = codes "Window"
@@ -55,3 +57,23 @@ place_word Pad = codes "pad"
 abbrev pub config_word : ConfigOption → List ℕ
 config_word Size = codes "size"
 config_word Weight = codes "weight"
+
+abbrev pub method_word : Method → List ℕ
+method_word method.Set = codes "set"
+method_word method.Get = codes "get"
+method_word method.Place = codes "place"
+method_word method.Lift = codes "lift"
+method_word method.ColumnConfig = codes "columnconfig"
+method_word method.RowConfig = codes "rowconfig"
+method_word method.Link = codes "link"
+method_word method.Unlink = codes "unlink"
+method_word method.Bind = codes "bind"
+method_word method.Unbind = codes "unbind"
+method_word method.Open = codes "open"
+method_word method.Close = codes "close"
+method_word method.Top = codes "top"
+method_word method.Mode = codes "mode"
+method_word method.Admit = codes "admit"
+method_word method.Leave = codes "leave"
+method_word method.Frame = codes "frame"
+method_word method.Drop = codes "drop"

@@ -1,11 +1,11 @@
 -- The command grammar: which line stands for which command.
 use Rattle.std.specs.Prelude.{ℕ, ◌≤◌, List, [], ◌++◌, length, take}
-use Rattle.cmd_text.specs.declared.commands.Command.{Command}
-use Rattle.cmd_text.specs.declared.commands.Command.TheVariants.{New, Set, Get, Place, Lift, ColumnConfig, RowConfig, Link, Unlink, Bind, Unbind, OpenWindow, CloseWindow, TopWindow, Mode, Admit, Leave, SendFrame, DropWidget, Poll}
-use Rattle.cmd_text.specs.declared.methods.Method.{Method}
-use Rattle.cmd_text.specs.declared.methods.Method.TheVariants as method
-use Rattle.cmd_text.specs.Language.{Language, ◌▹◌, ◌▸◌, ◌⊕◌, any, stands_for, word}
-use Rattle.cmd_text.specs.Productions.{sp, sp1, name, number, count, kind, attr, event, sopt, popt, copt, options}
+use Rattle.cmd_words.specs.declared.commands.Command.{Command}
+use Rattle.cmd_words.specs.declared.commands.Command.TheVariants.{New, Set, Get, Place, Lift, ColumnConfig, RowConfig, Link, Unlink, Bind, Unbind, OpenWindow, CloseWindow, TopWindow, Mode, Admit, Leave, SendFrame, DropWidget, Poll}
+use Rattle.cmd_words.specs.declared.methods.Method.{Method}
+use Rattle.cmd_words.specs.declared.methods.Method.TheVariants as method
+use Rattle.cmd_words.specs.Language.{Language, ◌▹◌, ◌▸◌, ◌⊕◌, any, stands_for, word}
+use Rattle.cmd_words.specs.Productions.{sp, sp1, name, number, count, kind, attr, event, sopt, popt, copt, options}
 
 -- `(` and `)` with the spaces round them: sp "(" sp, and sp ")"
 abbrev pub opens : Language Command → Language Command

@@ -2,12 +2,12 @@
 ghost use Rattle.std.specs.Prelude.{◌≡◌, ◌+◌, ◌≤◌, ◌++◌, ℤ, pos, List, [], ◌∷◌, length, codes};
 ghost use Rattle.std.specs.List.{flat_map};
 ghost use Rattle.arrayvec.specs.ArrayString.{array_string_len};
-ghost use Rattle.cmd_text.specs.Replies.{error_number, error_details, spaced, reply_text};
-ghost use Rattle.cmd_text.specs.declared.replies.Reply.TheVariants as reply_of;
+ghost use Rattle.cmd_print.specs.Replies.{error_number, error_details, spaced, reply_text};
+ghost use Rattle.cmd_words.specs.declared.replies.Reply.TheVariants as reply_of;
 
 use crate::putting::{put_count, put_name, put_number, put_quoted, put_word};
-use crate::replies::{Refusal, Reply};
 use arrayvec::ArrayString;
+use cmd_words::{Refusal, Reply};
 use kind_core::{EventKind, Name};
 
 /// A space and a number.

@@ -1,7 +1,7 @@
 -- the options so far are put
 use Rattle.std.proofs.Common.{◌≡◌, ◌+◌, ◌*◌, ◌≤◌, ◌++◌, take, length, codes}
 use Rattle.std.specs.List.{flat_map}
-use Rattle.cmd_text.proofs.printing.put_others.Given as goal
+use Rattle.cmd_print.proofs.printing.put_others.Given as goal
 
 abbrev pub invariant-loop-option : goal.invariant-loop-option
 invariant-loop-option g l = record {

@@ -7,10 +7,10 @@ use Rattle.kind_core.specs.declared.kinds.Attr.{Attr}
 use Rattle.kind_core.specs.declared.kinds.EventKind.{EventKind}
 use Rattle.kind_core.specs.declared.values.Value as value_type
 use Rattle.kind_core.specs.declared.values.Value.TheVariants.{Number, Words}
-use Rattle.cmd_text.specs.declared.commands.PlaceOption.{PlaceOption}
-use Rattle.cmd_text.specs.declared.commands.ConfigOption.{ConfigOption}
-use Rattle.cmd_text.specs.Words.{kind_word, attr_word, event_word, place_word, config_word}
-use Rattle.cmd_text.specs.Language.{Language, ◌▹◌, ◌▸◌, ◌⊕◌, stands_for, word}
+use Rattle.cmd_words.specs.declared.commands.PlaceOption.{PlaceOption}
+use Rattle.cmd_words.specs.declared.commands.ConfigOption.{ConfigOption}
+use Rattle.cmd_words.specs.Words.{kind_word, attr_word, event_word, place_word, config_word}
+use Rattle.cmd_words.specs.Language.{Language, ◌▹◌, ◌▸◌, ◌⊕◌, stands_for, word}
 
 abbrev pub is_space : ℕ → Bool
 is_space b = b == 32

@@ -1,8 +1,8 @@
 -- the characters so far are put
 use Rattle.std.proofs.Common.{◌≡◌, ◌+◌, ◌*◌, ◌≤◌, ◌++◌, take, length}
 use Rattle.std.specs.List.{flat_map}
-use Rattle.cmd_text.specs.Productions.{character}
-use Rattle.cmd_text.proofs.putting.put_characters.Given as goal
+use Rattle.cmd_words.specs.Productions.{character}
+use Rattle.cmd_print.proofs.putting.put_characters.Given as goal
 
 abbrev pub invariant-loop-byte : goal.invariant-loop-byte
 invariant-loop-byte g l = record {

@@ -3,15 +3,13 @@ ghost use Rattle.std.specs.Prelude.{◌≡◌, ◌+◌, ◌*◌, ◌≤◌, [], 
 ghost use Rattle.std.specs.List.{flat_map};
 ghost use Rattle.std.specs.Fmt.{decimal, signed_decimal};
 ghost use Rattle.arrayvec.specs.ArrayString.{array_string_len};
-ghost use Rattle.cmd_text.specs.declared.commands.Command.TheVariants as command;
-ghost use Rattle.cmd_text.specs.Words.{kind_word, event_word};
-ghost use Rattle.cmd_text.specs.Printed.{printed_value, printed_set, printed_place, printed_config, printed_options, printed};
+ghost use Rattle.cmd_words.specs.declared.commands.Command.TheVariants as command;
+ghost use Rattle.cmd_words.specs.Words.{kind_word, event_word};
+ghost use Rattle.cmd_print.specs.Printed.{printed_value, printed_set, printed_place, printed_config, printed_options, printed};
 
-use crate::commands::{Command, ConfigOption, PlaceOption};
-use crate::lists::Options;
 use crate::putting::{put_count, put_name, put_number, put_quoted, put_word};
-use crate::words::Word;
 use arrayvec::ArrayString;
+use cmd_words::{Command, ConfigOption, Options, PlaceOption, Word};
 use kind_core::{Attr, EventKind, Kind, Name, Value};
 
 /// A value of an attribute.

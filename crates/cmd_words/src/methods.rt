@@ -1,6 +1,6 @@
 /// The words that may follow a name and a dot.
 #[derive(Clone, Copy)]
-pub(crate) enum Method {
+pub enum Method {
     Set,
     Get,
     Place,

@@ -2,12 +2,12 @@
 use Rattle.std.specs.Prelude.{ℕ, ℤ, pos, List, [], ◌∷◌, ◌++◌, codes}
 use Rattle.std.specs.List.{flat_map}
 use Rattle.std.specs.Fmt.{signed_decimal}
-use Rattle.cmd_text.specs.declared.replies.Reply.{Reply}
-use Rattle.cmd_text.specs.declared.replies.Reply.TheVariants.{Done, Number, Words, Event, NoEvent, Lost, Refused}
-use Rattle.cmd_text.specs.declared.replies.Refusal.{Refusal}
-use Rattle.cmd_text.specs.declared.replies.Refusal.TheVariants.{Memory, Syntax, NameTaken, NoSuchName, WrongKind, BadValue, Full, HasParent, Cycle, TooDeep, CellTaken, AlreadyOpen, NotOpen, NoMode, Admitted, Budget, NotAdmitted, FrameSize, InUse, NotConnected, NotHere, Connected, JournalFull}
-use Rattle.cmd_text.specs.Words.{event_word}
-use Rattle.cmd_text.specs.Printed.{quoted}
+use Rattle.cmd_words.specs.declared.replies.Reply.{Reply}
+use Rattle.cmd_words.specs.declared.replies.Reply.TheVariants.{Done, Number, Words, Event, NoEvent, Lost, Refused}
+use Rattle.cmd_words.specs.declared.replies.Refusal.{Refusal}
+use Rattle.cmd_words.specs.declared.replies.Refusal.TheVariants.{Memory, Syntax, NameTaken, NoSuchName, WrongKind, BadValue, Full, HasParent, Cycle, TooDeep, CellTaken, AlreadyOpen, NotOpen, NoMode, Admitted, Budget, NotAdmitted, FrameSize, InUse, NotConnected, NotHere, Connected, JournalFull}
+use Rattle.cmd_words.specs.Words.{event_word}
+use Rattle.cmd_print.specs.Printed.{quoted}
 
 -- the number of an error
 abbrev pub error_number : Refusal → ℕ

@@ -4,11 +4,11 @@ ghost use Rattle.std.specs.List.{list_all, flat_map};
 ghost use Rattle.std.specs.Fmt.{decimal, signed_decimal};
 ghost use Rattle.arrayvec.specs.ArrayString.{array_string_len};
 ghost use Rattle.kind_core.specs.Bytes.{is_printable};
-ghost use Rattle.cmd_text.specs.Productions.{character};
-ghost use Rattle.cmd_text.specs.Printed.{quoted};
+ghost use Rattle.cmd_words.specs.Productions.{character};
+ghost use Rattle.cmd_print.specs.Printed.{quoted};
 
-use crate::words::Word;
 use arrayvec::ArrayString;
+use cmd_words::Word;
 use itoa::Buffer;
 use kind_core::{Name, Text};
 

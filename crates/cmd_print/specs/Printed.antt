@@ -6,12 +6,12 @@ use Rattle.std.specs.Fmt.{decimal, signed_decimal}
 use Rattle.kind_core.specs.declared.kinds.Attr.{Attr}
 use Rattle.kind_core.specs.declared.values.Value as value_type
 use Rattle.kind_core.specs.declared.values.Value.TheVariants.{Number, Words}
-use Rattle.cmd_text.specs.declared.commands.PlaceOption.{PlaceOption}
-use Rattle.cmd_text.specs.declared.commands.ConfigOption.{ConfigOption}
-use Rattle.cmd_text.specs.declared.commands.Command.{Command}
-use Rattle.cmd_text.specs.declared.commands.Command.TheVariants.{New, Set, Get, Place, Lift, ColumnConfig, RowConfig, Link, Unlink, Bind, Unbind, OpenWindow, CloseWindow, TopWindow, Mode, Admit, Leave, SendFrame, DropWidget, Poll}
-use Rattle.cmd_text.specs.Words.{kind_word, attr_word, event_word, place_word, config_word}
-use Rattle.cmd_text.specs.Productions.{character}
+use Rattle.cmd_words.specs.declared.commands.PlaceOption.{PlaceOption}
+use Rattle.cmd_words.specs.declared.commands.ConfigOption.{ConfigOption}
+use Rattle.cmd_words.specs.declared.commands.Command.{Command}
+use Rattle.cmd_words.specs.declared.commands.Command.TheVariants.{New, Set, Get, Place, Lift, ColumnConfig, RowConfig, Link, Unlink, Bind, Unbind, OpenWindow, CloseWindow, TopWindow, Mode, Admit, Leave, SendFrame, DropWidget, Poll}
+use Rattle.cmd_words.specs.Words.{kind_word, attr_word, event_word, place_word, config_word}
+use Rattle.cmd_words.specs.Productions.{character}
 
 -- a text in quotes
 abbrev pub quoted : List ℕ → List ℕ

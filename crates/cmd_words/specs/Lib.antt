@@ -1,0 +1,4 @@
+pub mod Words
+pub mod Language
+pub mod Productions
+pub mod Grammar
