@@ -1,5 +1,5 @@
 -- How the words of kinds, attributes, events, options and methods are read.
-use Rattle.std.specs.Prelude.{ℕ, min, if◌then◌else◌, List, [], ◌∷◌, length, Result, Ok, Err}
+use Rattle.std.specs.Prelude.{ℕ, min, List, [], ◌∷◌, length, Result, Ok, Err}
 use Rattle.kind_core.specs.declared.kinds.Kind.{Kind}
 use Rattle.kind_core.specs.declared.kinds.Kind.TheVariants as kinds
 use Rattle.kind_core.specs.declared.kinds.Attr.{Attr}
