@@ -4,7 +4,7 @@
 use dope_run::{Report, Server, Status, report, run};
 use outside_io::{StdIn, StdOut};
 use std::env;
-use std::io::{self, Write};
+use std::io::{self, ErrorKind, Write};
 use std::process::ExitCode;
 
 /// The words of the command line, without the program's name.
@@ -29,7 +29,15 @@ fn run_command(rt: &HostRuntime) -> Status {
                 &mut kept,
             )
         }
-        Err(_) => Status::NoMemory,
+        Err(error) => unread_words(&error),
+    }
+}
+
+/// How the program ends where its words can't be had: without memory, or with a word that isn't text.
+fn unread_words(error: &io::Error) -> Status {
+    match error.kind() {
+        ErrorKind::OutOfMemory => Status::NoMemory,
+        _ => Status::Usage,
     }
 }
 
