@@ -127,7 +127,7 @@ impl Tree {
         self.store.row(id.key).client()
     }
 
-    /// The value of the widget's attribute, None exactly where its kind hasn't the attribute.
+    /// The value of the widget's attribute as its row has it, None where the row has none.
     pub fn attr(&self, id: Id, attr: Attr) -> Option<Value>
         requires { IsLive self.now id.key }
         ensures value { option_map (λ row. attr_of row attr) (row_at self.now.entries id.key) ≡ Some result }
