@@ -1,32 +1,48 @@
--- The desk: a server's fixed numbers, and what clients have put on it. So far that is the list of open
--- windows, from top to bottom.
-use Rattle.std.specs.Prelude.{ℕ, ◌*◌, ◌≤◌, List, []}
+-- The desk: what the sequential server keeps. Widgets are named by client and name. No frame is admitted and no
+-- event is kept yet, so the roster and the rings are empty, and the pointer is as at opening.
+use Rattle.std.specs.Prelude.{ℕ, Bool, ◌&&◌, nat_eq, List, []}
+use Rattle.std.specs.List.{list_any}
+use Rattle.std.specs.Str.{bytes_eq}
+use Rattle.kind_core.specs.declared.kinds.EventKind.{EventKind}
 use Rattle.kind_core.specs.declared.shapes.Shape.{Shape}
-use Rattle.desk_model.specs.declared.window.Window.{Window}
+use Rattle.desk_model.specs.Rows.{Row}
+use Rattle.desk_model.specs.Pointer.{Pointer, opening_pointer}
+
+-- an admitted VScreen, with the pixels that it may be drawn in a tick
+pub record Admission : Type 0 where
+  pub client : ℕ
+  pub name : List ℕ
+  pub share : ℕ
+
+-- the events kept for a client, the oldest first, each with its tag and two numbers, and how many were lost
+pub record Ring : Type 0 where
+  pub client : ℕ
+  pub kept : List (List ℕ × EventKind × ℕ × ℕ)
+  pub lost : ℕ
 
 pub record Desk : Type 0 where
   pub shape : Shape
-  pub windows : List Window
+  -- the connected clients
+  pub clients : List ℕ
+  -- the widgets of all clients in the order of making
+  pub rows : List Row
+  -- the open windows from top to bottom, each by client and name
+  pub windows : List (ℕ × List ℕ)
+  pub pointer : Pointer
+  -- in the order of admission
+  pub roster : List Admission
+  pub rings : List Ring
 
--- At opening a desk has its numbers alone.
-unfoldable pub opening_desk : Shape → Desk
-opening_desk shape = record { shape = shape; windows = [] }
+-- At opening a desk has its numbers and the pointer alone.
+abbrev pub opening_desk : Shape → Desk
+opening_desk shape = record { shape = shape; clients = []; rows = []; windows = []; pointer = opening_pointer; roster = []; rings = [] }
 
--- The pixels of the screen.
-abbrev pub area : Shape → ℕ
-area shape = shape.width * shape.height
+abbrev pub is_connected : Desk → ℕ → Bool
+is_connected desk client = list_any (nat_eq client) desk.clients
 
--- A server's numbers are in range: a screen of 16 by 16 to 1,024 by 768, and a spare part of the budget.
-pub record IsShape (shape : Shape) : Type 0 where
-  pub width_least : 16 ≤ shape.width
-  pub width_most : shape.width ≤ 1024
-  pub height_least : 16 ≤ shape.height
-  pub height_most : shape.height ≤ 768
-  pub budget_least : 1 ≤ shape.budget
-  pub budget_most : shape.budget ≤ 786432
-  pub spare_least : 1 ≤ shape.spare
-  pub spare_most : shape.spare ≤ shape.budget
+-- whether the window is the one with this client and name
+abbrev pub is_window : ℕ → List ℕ → ℕ × List ℕ → Bool
+is_window client name window = nat_eq client window.0 && bytes_eq name window.1
 
--- What holds of the desk at every moment, and is the premise of the laws.
-pub record IsDesk (desk : Desk) : Type 0 where
-  pub shape : IsShape desk.shape
+abbrev pub is_open : Desk → ℕ → List ℕ → Bool
+is_open desk client name = list_any (is_window client name) desk.windows

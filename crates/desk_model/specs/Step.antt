@@ -2,7 +2,7 @@
 -- pixels a tick cleans: those that are dirty before it and clean after.
 use Rattle.std.specs.Prelude.{◌≡◌, ℕ, ◌+◌, ◌-◌, min, pos, Bool, true, not, ◌&&◌, ◌||◌, if◌then◌else◌, ◌∷◌, length}
 use Rattle.cmd_words.specs.declared.inputs.Drew.{Drew}
-use Rattle.desk_model.specs.Desk.{Desk}
+use Rattle.desk_model.specs.Scene.{Scene}
 use Rattle.desk_model.specs.Picture.{colour}
 use Rattle.desk_model.specs.Reach.{in_reach}
 use Rattle.desk_model.specs.Beat.{beat, in_band, band_count}
@@ -12,12 +12,12 @@ use Rattle.desk_model.specs.Events.Event.{Ready, Show, Tick, CountDirty, LookAt}
 use Rattle.desk_model.specs.Events.Answer.{Done, Drawn, Counted, Seen}
 
 -- the desk with a window of w by h on top of all, at the screen's upper left corner
-unfoldable pub showing : Desk → ℕ → ℕ → Desk
+unfoldable pub showing : Scene → ℕ → ℕ → Scene
 showing desk w h = record desk { windows = record { x = pos 0; y = pos 0; w = w; h = h } ∷ desk.windows }
 
 -- An event that isn't a tick takes the desk to another. The screen stays, and a pixel is dirty after it
 -- exactly where it was dirty or the change reaches it.
-pub record Changed (old : State) (next : Desk) (new : State) : Type 0 where
+pub record Changed (old : State) (next : Scene) (new : State) : Type 0 where
   pub desk : new.desk ≡ next
   pub screen : new.screen ≡ old.screen
   pub size : length new.dirt ≡ length old.dirt

@@ -1,8 +1,8 @@
 -- The widgets of a desk: the joined clients in the order of joining, and the rows in the order of making,
 -- each with its number. A row is named by its client and name; a number names its row until that row is
 -- removed.
-use Rattle.std.specs.Prelude.{ℕ, ◌≡◌, Bool, nat_eq, List, [], ◌∷◌, ◌++◌, map, Option, Some, None, IsSome, if◌then◌else◌}
-use Rattle.std.specs.List.{list_any}
+use Rattle.std.specs.Prelude.{ℕ, ◌≡◌, Bool, not, nat_eq, List, [], ◌∷◌, ◌++◌, map, Option, Some, None, IsSome, if◌then◌else◌}
+use Rattle.std.specs.List.{list_any, filter}
 use Rattle.std.specs.Option.{option_map}
 use Rattle.kind_core.specs.declared.kinds.Kind.{Kind}
 use Rattle.kind_core.specs.declared.kinds.Kind.TheVariants.{Grid}
@@ -75,3 +75,11 @@ removed id widgets = record widgets { entries = without_row id widgets.entries }
 
 abbrev pub joined : ℕ → Widgets → Widgets
 joined client widgets = record widgets { clients = widgets.clients ++ client ∷ [] }
+
+-- the widgets of all clients but one
+abbrev pub departed : ℕ → Widgets → Widgets
+departed client widgets =
+    record {
+      clients = filter (λ other. not (nat_eq client other)) widgets.clients;
+      entries = filter (λ entry. not (nat_eq client entry.1.client)) widgets.entries;
+    }

@@ -1,7 +1,7 @@
 //! The run of the program: from its words to its status.
 ghost use Rattle.std.specs.Prelude.{◌≡◌, ◌≤◌, ◌↔◌, map, string_bytes, None, IsNone, IfOk, IfSome, IsSomeAnd};
 ghost use Rattle.outside_io.specs.Count.{Rose};
-ghost use Rattle.desk_model.specs.Desk.{IsShape};
+ghost use Rattle.desk_model.specs.Shapes.{IsShape};
 ghost use Rattle.dope_run.specs.Words.{play_shape};
 ghost use Rattle.dope_run.specs.Playing.{IsPlayer, IsFresh};
 ghost use Rattle.dope_run.specs.Transcript.{Ended, IsRefused, IsPlayed};

@@ -1,6 +1,6 @@
 //! Reading the words of a command line.
 ghost use Rattle.std.specs.Prelude.{◌≡◌, ◌≤◌, map, string_bytes, codes, IfSome};
-ghost use Rattle.desk_model.specs.Desk.{IsShape};
+ghost use Rattle.desk_model.specs.Shapes.{IsShape};
 ghost use Rattle.dope_run.specs.Words.{option_in, screen_behind, budget_behind, shape_behind, play_shape};
 
 use crate::number::number_in;

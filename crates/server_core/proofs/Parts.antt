@@ -5,7 +5,8 @@ use Rattle.std.proofs.lemmas.Nat.{mul-add-lt, div-mul-add, mod-mul-add}
 use Rattle.cmd_words.specs.declared.inputs.Drew.{Drew}
 use Rattle.kind_core.specs.declared.shapes.Shape.{Shape}
 use Rattle.desk_model.specs.declared.window.Window.{Window}
-use Rattle.desk_model.specs.Desk.{Desk, area, opening_desk}
+use Rattle.desk_model.specs.Shapes.{area}
+use Rattle.desk_model.specs.Scene.{Scene, opening_scene}
 use Rattle.desk_model.specs.Windows.{shows, shown_by_any, top_at}
 use Rattle.desk_model.specs.Picture.{colour, colour_through}
 use Rattle.desk_model.specs.Reach.{in_reach}
@@ -17,7 +18,7 @@ use Rattle.server_core.specs.Sweeping.{SweptTo, MarkedTo, mark_at, colour_under}
 use Rattle.canvas_core.specs.Screen.{Screen, IsScreen, with_span}
 use Rattle.canvas_core.proofs.Span.{with_span-one}
 use Rattle.desk_model.proofs.Pixels.{place_of_pixel}
-use Rattle.desk_model.proofs.Reach.{shape-showing, IsDesk-showing}
+use Rattle.desk_model.proofs.Reach.{shape-showing, IsScene-showing}
 use Rattle.desk_model.proofs.Steps.{IsState-changed, IsState-ticked}
 use Rattle.server_core.proofs.Sweeps.{SweptTo-count}
 
@@ -58,7 +59,7 @@ pub Ticked-from_sweep : (shape : Shape) (window : Option Window) (bytes : List �
 unfolding beat in_band band_count colour
 Ticked-from_sweep shape window bytes dirt bands queue left new_bytes new_dirt is s none e =
     let windows = option_to_list window in
-    let desk : Desk = record { shape = shape; windows = windows } in
+    let desk : Scene = record { shape = shape; windows = windows } in
     record {
       desk = refl;
       screen_size = s.screen_size;
@@ -108,7 +109,7 @@ show_of_parts None w h {shape} {canvas} {dirt} {dirty} {count} {new_dirt} is e m
     let ch : Changed old (showing old.desk w h) new = Changed-from_marks shape w h canvas.bytes dirt count new_dirt is.state m in (
       ch,
       record {
-        state = IsState-changed old (showing old.desk w h) new is.state (IsDesk-showing old.desk w h is.state.desk) (shape-showing old.desk w h) ch;
+        state = IsState-changed old (showing old.desk w h) new is.state (IsScene-showing old.desk w h is.state.desk) (shape-showing old.desk w h) ch;
         screen = is.screen;
         width = is.width;
         height = is.height;
@@ -118,7 +119,7 @@ show_of_parts None w h {shape} {canvas} {dirt} {dirty} {count} {new_dirt} is e m
 
 -- what a new server's parts make up
 pub opened : (shape : Shape) (bytes : List ℕ) (dirt : List Bool) → bytes ≡ replicate (area shape) 2 → dirt ≡ replicate (area shape) false → state_of shape None bytes dirt ≡ opening shape
-unfolding opening opening_desk
+unfolding opening opening_scene
 opened shape bytes dirt e f =
     ap (λ b. state_of shape None b dirt) e ∙ ap (λ d. state_of shape None (replicate (area shape) 2) d) f
 

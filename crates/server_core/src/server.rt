@@ -1,5 +1,5 @@
 ghost use Rattle.std.specs.Prelude.{◌≡◌, ◌+◌, ◌-◌, ◌≤◌, [], IfOk};
-ghost use Rattle.desk_model.specs.Desk.{IsShape};
+ghost use Rattle.desk_model.specs.Shapes.{IsShape};
 ghost use Rattle.desk_model.specs.Picture.{picture};
 ghost use Rattle.desk_model.specs.State.{IsState, dirty_count, opening};
 ghost use Rattle.desk_model.specs.Events.Event.{Show, Tick};

@@ -26,7 +26,7 @@ fn a_new_server_is_clean_and_has_the_desks_colour(rt: HostRuntime) -> Result<(),
 }
 
 #[test]
-#[tactic(auto, unfolding(desk_model::specs::State::opening, desk_model::specs::Desk::opening_desk))]
+#[tactic(auto, unfolding(desk_model::specs::State::opening, desk_model::specs::Scene::opening_scene))]
 fn a_window_is_drawn_in_slices(rt: HostRuntime) -> Result<(), Fail> {
     let mut server = Server::new(
         rt.alloc(),

@@ -1,0 +1,34 @@
+-- What holds of the desk at every moment.
+use Rattle.std.specs.Prelude.{ℕ, ◌≡◌, ◌≤◌, true, false, List, [], ◌∷◌}
+use Rattle.std.specs.List.{list_all, list_any}
+use Rattle.kind_core.specs.declared.kinds.Kind.{Kind}
+use Rattle.desk_model.specs.Rows.{Row}
+use Rattle.desk_model.specs.Nodes.{any_kind, counts_with}
+use Rattle.desk_model.specs.Named.{row_named, has_name, rows_counted, is_kind_of}
+use Rattle.desk_model.specs.Forest.{is_client}
+use Rattle.desk_model.specs.Planted.{IsPlanted}
+use Rattle.desk_model.specs.Fitting.{fits_table}
+use Rattle.desk_model.specs.Desk.{Desk, is_connected, is_window}
+use Rattle.desk_model.specs.Linking.{is_window_kind}
+
+-- No two rows of one client have one name.
+abbrev pub AreNamedApart : List Row → Type 0
+AreNamedApart [] = Unit {0}
+AreNamedApart (row ∷ rows) = (list_any (has_name row.client row.name) rows ≡ false) × AreNamedApart rows
+
+-- No window is open twice.
+abbrev pub AreOpenOnce : List (ℕ × List ℕ) → Type 0
+AreOpenOnce [] = Unit {0}
+AreOpenOnce (window ∷ windows) = (list_any (is_window window.0 window.1) windows ≡ false) × AreOpenOnce windows
+
+pub record IsDesk (desk : Desk) : Type 0 where
+  pub clients : list_all is_client desk.clients ≡ true
+  pub owners : list_all (λ row. is_connected desk row.client) desk.rows ≡ true
+  pub names : AreNamedApart desk.rows
+  pub most : (client : ℕ) → rows_counted client any_kind desk.rows ≤ 128
+  pub most_alike : (client : ℕ) (kind : Kind) → rows_counted client (counts_with kind) desk.rows ≤ 8
+  pub planted : IsPlanted desk.rows
+  pub fitting : list_all fits_table desk.rows ≡ true
+  -- an open window is one of the Windows, and is open once
+  pub windows : list_all (λ window. is_kind_of is_window_kind (row_named desk.rows window.0 window.1)) desk.windows ≡ true
+  pub once : AreOpenOnce desk.windows

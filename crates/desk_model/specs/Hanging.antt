@@ -1,0 +1,86 @@
+-- The commands that hang one widget in another, and that rule a Grid's columns and rows.
+use Rattle.std.specs.Prelude.{ℕ, ℤ, pos, ◌+◌, Bool, true, false, ◌&&◌, not, nat_lt, is_some, List, [], ◌∷◌, Option, Some, None, unsigned_abs}
+use Rattle.std.specs.Option.{option_map_or, option_and_then}
+use Rattle.std.specs.Str.{bytes_eq}
+use Rattle.kind_core.specs.declared.kinds.Kind.{Kind}
+use Rattle.kind_core.specs.declared.kinds.Kind.TheVariants.{Grid}
+use Rattle.cmd_words.specs.declared.commands.PlaceOption.{PlaceOption}
+use Rattle.cmd_words.specs.declared.commands.ConfigOption.{ConfigOption}
+use Rattle.cmd_words.specs.declared.replies.Reply.{Reply}
+use Rattle.cmd_words.specs.declared.replies.Reply.TheVariants.{Done}
+use Rattle.cmd_words.specs.declared.replies.Refusal.{Refusal}
+use Rattle.cmd_words.specs.declared.replies.Refusal.TheVariants.{WrongKind, HasParent, Cycle, TooDeep, CellTaken, NotHere}
+use Rattle.desk_model.specs.Rows.{Row, with_spot, column_rule_of, row_rule_of, with_column_rule, with_row_rule}
+use Rattle.desk_model.specs.Named.{row_named, with_named, is_kind_of}
+use Rattle.desk_model.specs.Trees.{hangs, has_children, can_be_child, parent_of, child_in, depth_of, height_of, is_above, most_levels}
+use Rattle.desk_model.specs.Desk.{Desk}
+use Rattle.desk_model.specs.Refusing.{when, first_refusal, outcome, unless_there, unless_kind}
+use Rattle.desk_model.specs.PlaceOptions.{unless_within, places_refusal, cell_given}
+use Rattle.desk_model.specs.ConfigOptions.{configs_refusal, with_configs}
+
+-- `p.place(c, options)`
+abbrev pub place_refusals : Desk → ℕ → List ℕ → List ℕ → List (PlaceOption × ℤ) → Option Refusal
+place_refusals desk client parent child options =
+    let upper = row_named desk.rows client parent in
+    let lower = row_named desk.rows client child in
+    let cell = cell_given options in
+    first_refusal (
+    unless_there upper
+    ∷ unless_there lower
+    ∷ when (not (is_kind_of has_children upper && is_kind_of can_be_child lower)) WrongKind
+    ∷ option_and_then (λ row. places_refusal row.kind options) upper
+    ∷ when (option_map_or hangs lower false) HasParent
+    ∷ when (is_above desk.rows client child parent) Cycle
+    ∷ when (nat_lt most_levels (depth_of desk.rows client parent + height_of desk.rows client child)) TooDeep
+    ∷ when (is_some (child_in desk.rows client parent cell.column cell.row)) CellTaken
+    ∷ [])
+
+abbrev pub place_effect : Desk → ℕ → List ℕ → List ℕ → List (PlaceOption × ℤ) → Reply × Desk
+place_effect desk client parent child options =
+    (Done, record desk { rows = with_named client child (with_spot (Some (parent, cell_given options))) desk.rows })
+
+unfoldable pub step_place : Desk → ℕ → List ℕ → List ℕ → List (PlaceOption × ℤ) → Reply × Desk
+step_place desk client parent child options = outcome desk (place_refusals desk client parent child options) (place_effect desk client parent child options)
+
+-- `p.lift(c)`
+abbrev pub lift_refusal : Desk → ℕ → List ℕ → List ℕ → Option Refusal
+lift_refusal desk client parent child =
+    first_refusal (
+    unless_there (row_named desk.rows client parent)
+    ∷ unless_there (row_named desk.rows client child)
+    ∷ when (not (option_map_or (bytes_eq parent) (parent_of desk.rows client child) false)) NotHere
+    ∷ [])
+
+abbrev pub lift_effect : Desk → ℕ → List ℕ → Reply × Desk
+lift_effect desk client child = (Done, record desk { rows = with_named client child (with_spot None) desk.rows })
+
+unfoldable pub step_lift : Desk → ℕ → List ℕ → List ℕ → Reply × Desk
+step_lift desk client parent child = outcome desk (lift_refusal desk client parent child) (lift_effect desk client child)
+
+abbrev pub is_grid : Kind → Bool
+is_grid Grid = true
+is_grid _ = false
+
+-- `g.columnconfig(i, options)` and `g.rowconfig(i, options)`
+abbrev pub config_refusal : Desk → ℕ → List ℕ → ℤ → List (ConfigOption × ℤ) → Option Refusal
+config_refusal desk client name index options =
+    let row = row_named desk.rows client name in
+    first_refusal (unless_there row ∷ unless_kind is_grid row ∷ unless_within (pos 1) (pos 16) index ∷ configs_refusal options ∷ [])
+
+abbrev pub with_column : ℕ → List (ConfigOption × ℤ) → Row → Row
+with_column index options row = with_column_rule index (with_configs options (column_rule_of row index)) row
+
+abbrev pub with_line : ℕ → List (ConfigOption × ℤ) → Row → Row
+with_line index options row = with_row_rule index (with_configs options (row_rule_of row index)) row
+
+abbrev pub column_effect : Desk → ℕ → List ℕ → ℤ → List (ConfigOption × ℤ) → Reply × Desk
+column_effect desk client name index options = (Done, record desk { rows = with_named client name (with_column (unsigned_abs index) options) desk.rows })
+
+unfoldable pub step_column : Desk → ℕ → List ℕ → ℤ → List (ConfigOption × ℤ) → Reply × Desk
+step_column desk client name index options = outcome desk (config_refusal desk client name index options) (column_effect desk client name index options)
+
+abbrev pub line_effect : Desk → ℕ → List ℕ → ℤ → List (ConfigOption × ℤ) → Reply × Desk
+line_effect desk client name index options = (Done, record desk { rows = with_named client name (with_line (unsigned_abs index) options) desk.rows })
+
+unfoldable pub step_line : Desk → ℕ → List ℕ → ℤ → List (ConfigOption × ℤ) → Reply × Desk
+step_line desk client name index options = outcome desk (config_refusal desk client name index options) (line_effect desk client name index options)

@@ -1,0 +1,79 @@
+-- The commands that link a widget to a Variable and bind its events, and the one that opens a window.
+use Rattle.std.specs.Prelude.{ℕ, Bool, true, false, ◌&&◌, not, List, [], ◌∷◌, Option, Some, None}
+use Rattle.kind_core.specs.declared.kinds.Kind.{Kind}
+use Rattle.kind_core.specs.declared.kinds.Kind.TheVariants.{Window, Frame, Label, Scale, Scrollbar, Variable}
+use Rattle.kind_core.specs.declared.kinds.EventKind.{EventKind}
+use Rattle.kind_core.specs.Events.{gives_event}
+use Rattle.cmd_words.specs.declared.replies.Reply.{Reply}
+use Rattle.cmd_words.specs.declared.replies.Reply.TheVariants.{Done}
+use Rattle.cmd_words.specs.declared.replies.Refusal.{Refusal}
+use Rattle.cmd_words.specs.declared.replies.Refusal.TheVariants.{WrongKind, AlreadyOpen}
+use Rattle.desk_model.specs.Rows.{with_link, with_binding}
+use Rattle.desk_model.specs.Named.{row_named, with_named, is_kind_of}
+use Rattle.desk_model.specs.Desk.{Desk, is_open}
+use Rattle.desk_model.specs.Refusing.{when, first_refusal, outcome, unless_there, unless_kind}
+
+-- A Label, Scale, Scrollbar or Frame shows a Variable.
+abbrev pub can_link : Kind → Bool
+can_link Label = true
+can_link Scale = true
+can_link Scrollbar = true
+can_link Frame = true
+can_link _ = false
+
+abbrev pub is_variable_kind : Kind → Bool
+is_variable_kind Variable = true
+is_variable_kind _ = false
+
+-- `n.link(v)`
+abbrev pub link_refusal : Desk → ℕ → List ℕ → List ℕ → Option Refusal
+link_refusal desk client name variable =
+    let row = row_named desk.rows client name in
+    let other = row_named desk.rows client variable in
+    first_refusal (unless_there row ∷ unless_there other ∷ when (not (is_kind_of can_link row && is_kind_of is_variable_kind other)) WrongKind ∷ [])
+
+abbrev pub link_effect : Desk → ℕ → List ℕ → List ℕ → Reply × Desk
+link_effect desk client name variable = (Done, record desk { rows = with_named client name (with_link (Some variable)) desk.rows })
+
+unfoldable pub step_link : Desk → ℕ → List ℕ → List ℕ → Reply × Desk
+step_link desk client name variable = outcome desk (link_refusal desk client name variable) (link_effect desk client name variable)
+
+-- `n.unlink()`
+abbrev pub unlink_refusal : Desk → ℕ → List ℕ → Option Refusal
+unlink_refusal desk client name =
+    let row = row_named desk.rows client name in
+    first_refusal (unless_there row ∷ unless_kind can_link row ∷ [])
+
+abbrev pub unlink_effect : Desk → ℕ → List ℕ → Reply × Desk
+unlink_effect desk client name = (Done, record desk { rows = with_named client name (with_link None) desk.rows })
+
+unfoldable pub step_unlink : Desk → ℕ → List ℕ → Reply × Desk
+step_unlink desk client name = outcome desk (unlink_refusal desk client name) (unlink_effect desk client name)
+
+-- `n.bind(event, tag)` and `n.unbind(event)`
+abbrev pub bind_refusal : Desk → ℕ → List ℕ → EventKind → Option Refusal
+bind_refusal desk client name event =
+    let row = row_named desk.rows client name in
+    first_refusal (unless_there row ∷ unless_kind (λ kind. gives_event kind event) row ∷ [])
+
+abbrev pub bind_effect : Desk → ℕ → List ℕ → EventKind → Option (List ℕ) → Reply × Desk
+bind_effect desk client name event tag = (Done, record desk { rows = with_named client name (with_binding event tag) desk.rows })
+
+unfoldable pub step_bind : Desk → ℕ → List ℕ → EventKind → Option (List ℕ) → Reply × Desk
+step_bind desk client name event tag = outcome desk (bind_refusal desk client name event) (bind_effect desk client name event tag)
+
+abbrev pub is_window_kind : Kind → Bool
+is_window_kind Window = true
+is_window_kind _ = false
+
+-- `w.open()`: the window goes on top of all.
+abbrev pub open_refusal : Desk → ℕ → List ℕ → Option Refusal
+open_refusal desk client name =
+    let row = row_named desk.rows client name in
+    first_refusal (unless_there row ∷ unless_kind is_window_kind row ∷ when (is_open desk client name) AlreadyOpen ∷ [])
+
+abbrev pub open_effect : Desk → ℕ → List ℕ → Reply × Desk
+open_effect desk client name = (Done, record desk { windows = (client, name) ∷ desk.windows })
+
+unfoldable pub step_open : Desk → ℕ → List ℕ → Reply × Desk
+step_open desk client name = outcome desk (open_refusal desk client name) (open_effect desk client name)

@@ -1,0 +1,59 @@
+-- What a client does touches its own part of the desk alone, and what it is answered depends on that part alone.
+use Rattle.std.specs.Prelude.{ℕ, ◌≡◌, Bool, false, not, nat_eq, List}
+use Rattle.std.specs.List.{filter}
+use Rattle.cmd_words.specs.declared.commands.Command.{Command}
+use Rattle.desk_model.specs.Rows.{Row}
+use Rattle.desk_model.specs.Named.{rows_of_others}
+use Rattle.desk_model.specs.Desk.{Desk, is_connected}
+use Rattle.desk_model.specs.Clients.{step_connect, step_bye}
+use Rattle.desk_model.specs.Commands.{step}
+
+abbrev pub own_rows : ℕ → List Row → List Row
+own_rows client rows = filter (λ row. nat_eq client row.client) rows
+
+abbrev pub own_windows : ℕ → List (ℕ × List ℕ) → List (ℕ × List ℕ)
+own_windows client windows = filter (λ window. nat_eq client window.0) windows
+
+-- the others' windows, in their order
+abbrev pub windows_of_others : ℕ → List (ℕ × List ℕ) → List (ℕ × List ℕ)
+windows_of_others client windows = filter (λ window. not (nat_eq client window.0)) windows
+
+-- What is not the client's is as it was: who else is connected, the others' rows, the order of their windows, their
+-- admissions and events, and the pointer with its grab and focus.
+pub record LeavesOthers (client : ℕ) (old new : Desk) : Type 0 where
+  pub shape : new.shape ≡ old.shape
+  pub clients : (other : ℕ) → nat_eq client other ≡ false → is_connected new other ≡ is_connected old other
+  pub rows : rows_of_others client new.rows ≡ rows_of_others client old.rows
+  pub windows : windows_of_others client new.windows ≡ windows_of_others client old.windows
+  pub pointer : new.pointer ≡ old.pointer
+  pub roster : filter (λ admission. not (nat_eq client admission.client)) new.roster ≡ filter (λ admission. not (nat_eq client admission.client)) old.roster
+  pub rings : filter (λ ring. not (nat_eq client ring.client)) new.rings ≡ filter (λ ring. not (nat_eq client ring.client)) old.rings
+
+-- A client's command, its coming and its going leave the others' parts as they were.
+abbrev pub CommandsLeaveOthers : Type 0
+CommandsLeaveOthers = (desk : Desk) (client : ℕ) (command : Command) (short : Bool) → LeavesOthers client desk (step desk client command short).1
+
+abbrev pub ConnectsLeaveOthers : Type 0
+ConnectsLeaveOthers = (desk : Desk) (client : ℕ) (short : Bool) → LeavesOthers client desk (step_connect desk client short).1
+
+abbrev pub ByesLeaveOthers : Type 0
+ByesLeaveOthers = (desk : Desk) (client : ℕ) → LeavesOthers client desk (step_bye desk client).1
+
+-- Two desks agree on the client's part: whether it is connected, its rows and its open windows.
+pub record AgreeOn (client : ℕ) (one two : Desk) : Type 0 where
+  pub shape : one.shape ≡ two.shape
+  pub connected : is_connected one client ≡ is_connected two client
+  pub rows : own_rows client one.rows ≡ own_rows client two.rows
+  pub windows : own_windows client one.windows ≡ own_windows client two.windows
+
+-- Such desks answer each command of the client alike, under the same want of memory.
+abbrev pub AnswersDependOnOwnPart : Type 0
+AnswersDependOnOwnPart =
+    (one two : Desk) (client : ℕ) (command : Command) (short : Bool) → AgreeOn client one two → (step one client command short).0 ≡ (step two client command short).0
+
+abbrev pub ConnectsDependOnOwnPart : Type 0
+ConnectsDependOnOwnPart =
+    (one two : Desk) (client : ℕ) (short : Bool) → AgreeOn client one two → (step_connect one client short).0 ≡ (step_connect two client short).0
+
+abbrev pub ByesDependOnOwnPart : Type 0
+ByesDependOnOwnPart = (one two : Desk) (client : ℕ) → AgreeOn client one two → (step_bye one client).0 ≡ (step_bye two client).0
