@@ -1,4 +1,5 @@
 pub mod Reach
+pub mod Telling
 pub mod Beat
 pub mod Marks
 pub mod Pixels

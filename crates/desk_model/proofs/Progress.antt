@@ -5,7 +5,7 @@ use Rattle.std.proofs.lemmas.List.FromFn.{length-map-range_with_len}
 use Rattle.cmd_words.specs.declared.inputs.Drew.{Drew}
 use Rattle.kind_core.specs.declared.shapes.Shape.{Shape}
 use Rattle.desk_model.specs.Shapes.{area}
-use Rattle.desk_model.specs.Scene.{Scene}
+use Rattle.desk_model.specs.Desk.{Desk}
 use Rattle.desk_model.specs.Picture.{colour}
 use Rattle.desk_model.specs.Reach.{in_reach}
 use Rattle.desk_model.specs.Beat.{beat, in_band, band_count}
@@ -22,7 +22,7 @@ use Rattle.desk_model.proofs.Pixels.{get_or-rows}
 use Rattle.desk_model.proofs.Steps.{IsState-step}
 
 -- a change to a desk of the same shape has a state after it
-pub changed_state : (old : State) (next : Scene) → IsState old → next.shape ≡ old.desk.shape → (new : State) × Changed old next new
+pub changed_state : (old : State) (next : Desk) → IsState old → next.shape ≡ old.desk.shape → (new : State) × Changed old next new
 changed_state old next is same =
     let w = next.shape.width in
     let width : w ≡ old.desk.shape.width = ap (λ (s : Shape). s.width) same in
