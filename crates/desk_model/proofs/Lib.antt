@@ -7,3 +7,5 @@ pub mod Steps
 pub mod Ticks
 pub mod Progress
 pub mod Runs
+pub mod OwnRows
+pub mod OwnPart
