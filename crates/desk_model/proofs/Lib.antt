@@ -9,4 +9,5 @@ pub mod Progress
 pub mod Runs
 pub mod OwnRows
 pub mod OthersRows
+pub mod OwnAnswers
 pub mod OwnPart

@@ -1,5 +1,5 @@
 -- A change of one client's widgets leaves the other clients' rows.
-use Rattle.std.proofs.Common.{◌≡◌, ℕ, Bool, true, false, cond, ◌&&◌, not, nat_eq, List, [], ◌∷◌, ◌++◌, Option, refl, sym, ap, ◌∙◌}
+use Rattle.std.proofs.Common.{◌≡◌, ℕ, Bool, true, false, cond, ◌&&◌, not, nat_eq, List, [], ◌∷◌, ◌++◌, refl, sym, ◌∙◌}
 use Rattle.std.proofs.lemmas.Bool.{eqb-true, eqb-false, eq-eqb, ne_eqb}
 use Rattle.std.proofs.Math.Bool.{or-false}
 use Rattle.std.proofs.lemmas.List.{append-nil}
@@ -12,7 +12,7 @@ use Rattle.kind_core.specs.declared.kinds.Kind.{Kind}
 use Rattle.kind_core.specs.declared.kinds.Attr.{Attr}
 use Rattle.kind_core.specs.declared.values.Value as value
 use Rattle.desk_model.specs.Rows.{Row, new_row, with_attr}
-use Rattle.desk_model.specs.Named.{has_name, with_named, without_named, rows_of_others}
+use Rattle.desk_model.specs.Named.{with_named, without_named, rows_of_others}
 use Rattle.desk_model.specs.AttrOptions.{with_attrs}
 use Rattle.desk_model.specs.OwnPart.{windows_of_others}
 

@@ -1,5 +1,5 @@
 -- What a client does leaves the others' part of the desk, and what it is answered depends on its own part alone.
-use Rattle.std.proofs.Common.{◌≡◌, ℕ, ℤ, Bool, true, false, not, nat_eq, List, [], ◌∷◌, ◌++◌, Option, Some, None, refl, sym, ap, ◌∙◌}
+use Rattle.std.proofs.Common.{◌≡◌, ℕ, ℤ, Bool, not, nat_eq, List, [], ◌∷◌, ◌++◌, Option, Some, None, refl}
 use Rattle.std.specs.Prelude.{unsigned_abs}
 use Rattle.kind_core.specs.declared.kinds.Kind.{Kind}
 use Rattle.kind_core.specs.declared.kinds.Attr.{Attr}
@@ -23,25 +23,11 @@ use Rattle.desk_model.specs.Hanging.{place_refusals, place_effect, lift_refusal,
 use Rattle.desk_model.specs.Linking.{link_refusal, link_effect, unlink_refusal, unlink_effect, bind_refusal, bind_effect, open_refusal, open_effect, step_link, step_unlink, step_bind, step_open}
 use Rattle.desk_model.specs.Clients.{step_connect, step_bye, with_client, without_client}
 use Rattle.desk_model.specs.Commands.{row_step, step}
-use Rattle.desk_model.specs.OwnPart.{LeavesOthers, windows_of_others, CommandsLeaveOthers, ConnectsLeaveOthers, ByesLeaveOthers}
+use Rattle.desk_model.specs.OwnPart.{LeavesOthers, CommandsLeaveOthers, ConnectsLeaveOthers, ByesLeaveOthers, AnswersDependOnOwnPart, ConnectsDependOnOwnPart, ByesDependOnOwnPart}
 use Rattle.desk_model.proofs.OthersRows.{filter-filter, rows_of_others-with_named, rows_of_others-without_named, rows_of_others-push, client-new_row, client-with_attrs, windows_of_others-cons, list_any-push_other, list_any-without_other}
+use Rattle.desk_model.proofs.OwnAnswers.{answer-outcome, answer-row_step}
 
-LeavesOthers-same : (client : ℕ) (desk : Desk) → LeavesOthers client desk desk
-LeavesOthers-same client desk = record {
-  shape = refl;
-  clients = λ other differ. refl;
-  rows = refl;
-  windows = refl;
-  pointer = refl;
-  roster = refl;
-  rings = refl;
-}
-
--- a refused command leaves the whole desk
-LeavesOthers-outcome : (client : ℕ) (desk : Desk) (refusal : Option Refusal) (effect : Reply × Desk) → LeavesOthers client desk effect.1 → LeavesOthers client desk (outcome desk refusal effect).1
-LeavesOthers-outcome client desk None effect leaves = leaves
-LeavesOthers-outcome client desk (Some refusal) effect leaves = LeavesOthers-same client desk
-
+-- a change of the rows alone
 LeavesOthers-rows : (client : ℕ) (desk : Desk) (rows : List Row) → rows_of_others client rows ≡ rows_of_others client desk.rows → LeavesOthers client desk (record desk { rows = rows })
 LeavesOthers-rows client desk rows kept = record {
   shape = refl;
@@ -53,6 +39,15 @@ LeavesOthers-rows client desk rows kept = record {
   rings = refl;
 }
 
+LeavesOthers-same : (client : ℕ) (desk : Desk) → LeavesOthers client desk desk
+LeavesOthers-same client desk = LeavesOthers-rows client desk desk.rows refl
+
+-- a refused command leaves the whole desk
+LeavesOthers-outcome : (client : ℕ) (desk : Desk) (refusal : Option Refusal) (effect : Reply × Desk) → LeavesOthers client desk effect.1 → LeavesOthers client desk (outcome desk refusal effect).1
+LeavesOthers-outcome client desk None effect leaves = leaves
+LeavesOthers-outcome client desk (Some refusal) effect leaves = LeavesOthers-same client desk
+
+-- a change of one row that leaves its client
 LeavesOthers-with_named : (client : ℕ) (name : List ℕ) (change : Row → Row) (desk : Desk) → ((row : Row) → (change row).client ≡ row.client) → LeavesOthers client desk (record desk { rows = with_named client name change desk.rows })
 LeavesOthers-with_named client name change desk same = LeavesOthers-rows client desk (with_named client name change desk.rows) (rows_of_others-with_named client name change desk.rows same)
 
@@ -135,6 +130,7 @@ LeavesOthers-open desk client name =
       rings = refl;
     })
 
+-- each command that is built, and the others, which change nothing
 LeavesOthers-row_step : (desk : Desk) (client : ℕ) (command : Command) (short : Bool) → LeavesOthers client desk (row_step desk client command short).1
 unfolding row_step
 LeavesOthers-row_step desk client (New name kind) short = LeavesOthers-new desk client name kind short
@@ -152,6 +148,7 @@ LeavesOthers-row_step desk client (OpenWindow name) short = LeavesOthers-open de
 LeavesOthers-row_step desk client (DropWidget name) short = LeavesOthers-drop desk client name
 LeavesOthers-row_step desk client _ short = LeavesOthers-same client desk
 
+-- the six laws
 pub commands_leave_others : CommandsLeaveOthers
 unfolding step
 commands_leave_others desk client command short =
@@ -184,3 +181,18 @@ byes_leave_others desk client =
       roster = filter-filter (λ (admission : Admission). not (nat_eq client admission.client)) desk.roster;
       rings = filter-filter (λ (ring : Ring). not (nat_eq client ring.client)) desk.rings;
     })
+
+pub answers_depend_on_own_part : AnswersDependOnOwnPart
+unfolding step
+answers_depend_on_own_part one two client command short agree =
+    answer-outcome one two _ _ (row_step one client command short) (row_step two client command short) (rw agree.connected refl) (answer-row_step one two client command short agree)
+
+pub connects_depend_on_own_part : ConnectsDependOnOwnPart
+unfolding step_connect
+connects_depend_on_own_part one two client short agree =
+    answer-outcome one two _ _ (Done, with_client client one) (Done, with_client client two) (rw agree.connected refl) refl
+
+pub byes_depend_on_own_part : ByesDependOnOwnPart
+unfolding step_bye
+byes_depend_on_own_part one two client agree =
+    answer-outcome one two _ _ (Done, without_client client one) (Done, without_client client two) (rw agree.connected refl) refl

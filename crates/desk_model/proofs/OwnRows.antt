@@ -1,6 +1,6 @@
 -- What is asked about a client's widgets depends on that client's rows alone.
 use Rattle.std.proofs.Common.{◌≡◌, ℕ, zero, suc, ◌+◌, max, Bool, true, false, cond, ◌&&◌, ◌||◌, not, nat_eq, List, [], ◌∷◌, Option, Some, None, refl, sym, ap, ◌∙◌, subst, arith}
-use Rattle.std.proofs.lemmas.Bool.{false≢true, and_parts, eqb-true}
+use Rattle.std.proofs.lemmas.Bool.{and_parts, eqb-true}
 use Rattle.std.proofs.lemmas.List.Sums.{sum_by-cons}
 use Rattle.std.specs.List.{find, filter, list_any, count_by}
 use Rattle.std.specs.Option.{option_map, option_map_or, option_and_then}
@@ -8,7 +8,7 @@ use Rattle.std.specs.Str.{bytes_eq}
 use Rattle.kind_core.specs.declared.kinds.Kind.{Kind}
 use Rattle.desk_model.specs.Rows.{Row}
 use Rattle.desk_model.specs.Named.{has_name, row_named, rows_counted}
-use Rattle.desk_model.specs.Trees.{parent_of, is_child, links_to, stands_at, child_in, depth_in, is_above_in, greatest_child, height_in, is_used, hangs}
+use Rattle.desk_model.specs.Trees.{parent_of, is_child, links_to, child_in, depth_in, is_above_in, greatest_child, height_in, is_used}
 use Rattle.desk_model.specs.OwnPart.{own_rows}
 
 -- A test within another finds the same among what passes the other.
@@ -85,6 +85,7 @@ is_above_in-agree (suc most) client upper name a b e = rw (parent_of-agree clien
     by rest None = refl
     by rest (Some next) = rest next
 
+-- the children of a client's widget are its own
 greatest_child-own : (measure : List ℕ → ℕ) (client : ℕ) (name : List ℕ) (rows : List Row) → greatest_child measure client name (own_rows client rows) ≡ greatest_child measure client name rows
 greatest_child-own measure client name [] = refl
 greatest_child-own measure client name (row ∷ rows) = by (greatest_child-own measure client name rows) (nat_eq client row.client) refl
@@ -93,6 +94,7 @@ greatest_child-own measure client name (row ∷ rows) = by (greatest_child-own m
     by rest true e = rw rest refl
     by rest false e = rw e (omega (arith, rest))
 
+-- measures that give each name one number
 greatest_child-measure : (one two : List ℕ → ℕ) (client : ℕ) (name : List ℕ) (rows : List Row) → ((name : List ℕ) → one name ≡ two name) → greatest_child one client name rows ≡ greatest_child two client name rows
 greatest_child-measure one two client name [] same = refl
 greatest_child-measure one two client name (row ∷ rows) same = rw (same row.name, greatest_child-measure one two client name rows same) refl
@@ -106,6 +108,7 @@ height_in-agree (suc most) client name a b e =
     ∙ ap (greatest_child (height_in most b client) client name) e
     ∙ greatest_child-own (height_in most b client) client name b)
 
+-- whether it has a child, and whether another is linked to it
 pub list_any-is_child-agree : (client : ℕ) (name : List ℕ) (a b : List Row) → own_rows client a ≡ own_rows client b → list_any (is_child client name) a ≡ list_any (is_child client name) b
 list_any-is_child-agree client name a b e =
     list_any-agree (λ (row : Row). nat_eq client row.client) (λ (row : Row). option_map_or (λ spot. bytes_eq name spot.0) row.spot false) a b e
@@ -114,6 +117,7 @@ pub list_any-links_to-agree : (client : ℕ) (name : List ℕ) (a b : List Row) 
 list_any-links_to-agree client name a b e =
     list_any-agree (λ (row : Row). nat_eq client row.client) (λ (row : Row). option_map_or (bytes_eq name) row.link false && not (bytes_eq name row.name)) a b e
 
+-- a row of the client
 is_used-agree : (client : ℕ) (row : Row) (a b : List Row) → own_rows client a ≡ own_rows client b → row.client ≡ client → is_used a row ≡ is_used b row
 is_used-agree client row a b e own =
     let same : own_rows row.client a ≡ own_rows row.client b = subst (λ client. own_rows client a ≡ own_rows client b) (sym own) e in
