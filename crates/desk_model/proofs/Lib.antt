@@ -9,3 +9,7 @@ pub mod Ticks
 pub mod Progress
 pub mod Runs
 pub mod Counting
+pub mod OwnRows
+pub mod OthersRows
+pub mod OwnAnswers
+pub mod OwnPart
