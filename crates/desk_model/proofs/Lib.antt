@@ -13,3 +13,4 @@ pub mod OwnRows
 pub mod OthersRows
 pub mod OwnAnswers
 pub mod OwnPart
+pub mod Ample

@@ -1,6 +1,6 @@
 -- It can be told whether two desks show the same: rows and orders of windows are data.
-use Rattle.std.proofs.Common.{◌≡◌, ◌⊎◌, ◌↔◌, ℕ, ℤ, Bool, true, false, List, [], ◌∷◌, Option, get_or, inl, inr, refl, sym, ap, ◌∙◌, nat_eq}
-use Rattle.std.proofs.lemmas.Bool.{eqb-true, eq-eqb, true≢false, cases_Bool}
+use Rattle.std.proofs.Common.{◌≡◌, ◌⊎◌, ℕ, ℤ, Bool, true, false, List, [], ◌∷◌, Option, get_or, inl, inr, refl, sym, ap, ◌∙◌, nat_eq}
+use Rattle.std.proofs.lemmas.Bool.{eqb-true, eq-eqb, true≢false}
 use Rattle.std.specs.Coded.{Coded, code_by, coded_ℕ, coded_ℤ, coded_list, coded_option, coded×, coded⊎}
 use base.Stored.{Gv, gnil, gnum, gcons, num}
 use Rattle.kind_core.specs.declared.kinds.Kind.{Kind}
@@ -10,7 +10,7 @@ use Rattle.kind_core.specs.declared.values.Value.TheVariants.{Number, Words}
 use Rattle.kind_core.specs.declared.shapes.Cell.{Cell}
 use Rattle.desk_model.specs.Rows.{Row}
 use Rattle.desk_model.specs.Desk.{Desk}
-use Rattle.desk_model.specs.Reach.{ShowTheSame, IsTouched}
+use Rattle.desk_model.specs.Reach.{IsTouched}
 
 abbrev Told : {A : Type 0} → A → A → Type 0
 Told a b = (a ≡ b) ⊎ (a ≡ b → ⊥)

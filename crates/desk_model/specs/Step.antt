@@ -1,6 +1,6 @@
 -- One step of the machine: an event takes a state to another, with an answer. What is free is which dirty
 -- pixels a tick cleans: those that are dirty before it and clean after.
-use Rattle.std.specs.Prelude.{◌≡◌, ℕ, ◌+◌, ◌-◌, min, pos, Bool, true, not, ◌&&◌, ◌||◌, if◌then◌else◌, ◌∷◌, length}
+use Rattle.std.specs.Prelude.{◌≡◌, ℕ, ◌+◌, ◌-◌, min, Bool, true, not, ◌&&◌, ◌||◌, if◌then◌else◌, length}
 use Rattle.cmd_words.specs.declared.inputs.Drew.{Drew}
 use Rattle.cmd_words.specs.declared.replies.Reply.{Reply}
 use Rattle.cmd_words.specs.declared.replies.Reply.TheVariants.{Refused}
