@@ -1,5 +1,5 @@
 -- It can be told whether two desks show the same: rows and orders of windows are data.
-use Rattle.std.proofs.Common.{◌≡◌, ◌⊎◌, ℕ, ℤ, Bool, true, false, List, [], ◌∷◌, Option, get_or, inl, inr, refl, sym, ap, ◌∙◌, nat_eq}
+use Rattle.std.proofs.Common.{◌≡◌, ◌⊎◌, ◌↔◌, IsTrue, ℕ, ℤ, Bool, true, false, List, [], ◌∷◌, Option, get_or, inl, inr, refl, sym, ap, ◌∙◌, nat_eq}
 use Rattle.std.proofs.lemmas.Bool.{eqb-true, eq-eqb, true≢false}
 use Rattle.std.specs.Coded.{Coded, code_by, coded_ℕ, coded_ℤ, coded_list, coded_option, coded×, coded⊎}
 use base.Stored.{Gv, gnil, gnum, gcons, num}
@@ -143,3 +143,13 @@ tell_desks before after =
     by (inl p) (inl q) = (false, (λ e. record { rows = p; windows = q }, λ s. refl))
     by (inr p) q = (true, (λ e. absurd (true≢false e), λ s. absurd (p s.rows)))
     by (inl p) (inr q) = (true, (λ e. absurd (true≢false e), λ s. absurd (q s.windows)))
+
+-- a truth value that is true exactly where they don't show the same tells it
+pub IsTouched-told : (before after : Desk) (touched : Bool) → (IsTrue touched ↔ ((after.rows ≡ before.rows) × (after.windows ≡ before.windows) → ⊥)) → IsTouched touched before after
+IsTouched-told before after true h =
+    (λ e. absurd (true≢false e), λ same. absurd (h.0 refl (same.rows, same.windows)))
+IsTouched-told before after false h = by (tell_desks before after)
+  where
+    by : (touched : Bool) × IsTouched touched before after → IsTouched false before after
+    by (false, t) = t
+    by (true, t) = (λ e. absurd (true≢false (sym (h.1 (λ same. true≢false (t.1 (record { rows = same.0; windows = same.1 })))))), λ same. refl)
