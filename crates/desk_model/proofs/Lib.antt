@@ -7,4 +7,5 @@ pub mod Steps
 pub mod Ticks
 pub mod Progress
 pub mod Runs
+pub mod Hanging
 pub mod Planting

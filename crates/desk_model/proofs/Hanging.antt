@@ -1,0 +1,122 @@
+-- Elements found in lists, and rows under their names, after rows were put last, changed or left out.
+use Rattle.std.proofs.Common.{◌≡◌, ℕ, zero, suc, Bool, true, false, cond, ◌&&◌, not, nat_eq, List, [], ◌∷◌, ◌++◌, map, Option, Some, None, is_some, refl, sym, ap, ◌∙◌, subst, slice_get, ◌⊎◌, inl, inr}
+use Rattle.std.proofs.lemmas.Bool.{true≢false, eqb-true, and_parts, and_from, or_parts, cond-true, cond-false}
+use Rattle.std.proofs.lemmas.Slice.Eq.{bytes_eq-Decides}
+use Rattle.std.specs.Cmp.{nat_eq_equiv}
+use Rattle.std.specs.Cmp.Lexicographic.{nat_list_eq_equiv}
+use Rattle.std.specs.List.{find, filter, list_all, list_any}
+use Rattle.std.specs.Option.{option_map}
+use Rattle.std.specs.Str.{bytes_eq}
+use Rattle.desk_model.specs.Rows.{Row}
+use Rattle.desk_model.specs.Named.{has_name, row_named, with_named, without_named, rows_of_others}
+use Rattle.desk_model.specs.DeskFacts.{AreNamedApart}
+
+pub find-passes : {X : Type 0} (p : X → Bool) (xs : List X) (x : X) → find p xs ≡ Some x → p x ≡ true
+find-passes p [] x found = absurd (cc)
+find-passes p (y ∷ ys) x found = by (find-passes p ys x) (p y) refl found
+  where
+    by : (find p ys ≡ Some x → p x ≡ true) → (b : Bool) → p y ≡ b → cond b (Some y) (find p ys) ≡ Some x → p x ≡ true
+    by rest true passes h = let same : y ≡ x = cc in rw (← same) passes
+    by rest false passes h = rest h
+
+pub find-element : {X : Type 0} (p : X → Bool) (xs : List X) (x : X) → find p xs ≡ Some x → (i : ℕ) × (slice_get xs i ≡ Some x)
+find-element p [] x found = absurd (cc)
+find-element p (y ∷ ys) x found = by (find-element p ys x) (p y) found
+  where
+    by : (find p ys ≡ Some x → (i : ℕ) × (slice_get ys i ≡ Some x)) → (b : Bool) → cond b (Some y) (find p ys) ≡ Some x → (i : ℕ) × (slice_get (y ∷ ys) i ≡ Some x)
+    by rest true h = (zero, h)
+    by rest false h = let there = rest h in (suc there.0, there.1)
+
+-- what holds of all elements holds of each, and the other way round
+pub all_at : {X : Type 0} (p : X → Bool) (xs : List X) (i : ℕ) (x : X) → list_all p xs ≡ true → slice_get xs i ≡ Some x → p x ≡ true
+all_at p [] i x h there = absurd (cc)
+all_at p (y ∷ ys) zero x h there = let same : y ≡ x = cc in rw (← same) (and_parts _ _ h).0
+all_at p (y ∷ ys) (suc i) x h there = all_at p ys i x (and_parts (p y) (list_all p ys) h).1 there
+
+pub all_from : {X : Type 0} (p : X → Bool) (xs : List X) → ((i : ℕ) (x : X) → slice_get xs i ≡ Some x → p x ≡ true) → list_all p xs ≡ true
+all_from p [] each = refl
+all_from p (y ∷ ys) each = and_from _ _ (each zero y refl) (all_from p ys (λ i x there. each (suc i) x there))
+
+pub none_at : {X : Type 0} (p : X → Bool) (xs : List X) (i : ℕ) (x : X) → list_any p xs ≡ false → slice_get xs i ≡ Some x → p x ≡ false
+none_at p [] i x h there = absurd (cc)
+none_at p (y ∷ ys) zero x h there = let same : y ≡ x = cc in rw (← same) (or_parts _ _ h).0
+none_at p (y ∷ ys) (suc i) x h there = none_at p ys i x (or_parts (p y) (list_any p ys) h).1 there
+
+pub all-filter : {X : Type 0} (p q : X → Bool) (xs : List X) → ((i : ℕ) (x : X) → slice_get xs i ≡ Some x → q x ≡ true → p x ≡ true) → list_all p (filter q xs) ≡ true
+all-filter p q [] each = refl
+all-filter p q (y ∷ ys) each = by (all-filter p q ys (λ i x there. each (suc i) x there)) (q y) refl
+  where
+    by : list_all p (filter q ys) ≡ true → (b : Bool) → q y ≡ b → list_all p (cond b (y ∷ filter q ys) (filter q ys)) ≡ true
+    by rest true kept = and_from _ _ (each zero y refl kept) rest
+    by rest false kept = rest
+
+pub find_none_at : {X : Type 0} (p : X → Bool) (xs : List X) (i : ℕ) (x : X) → find p xs ≡ None → slice_get xs i ≡ Some x → p x ≡ false
+find_none_at p [] i x absent there = absurd (cc)
+find_none_at p (y ∷ ys) zero x absent there = by (p y) refl absent
+  where
+    by : (b : Bool) → p y ≡ b → cond b (Some y) (find p ys) ≡ None → p x ≡ false
+    by true passes h = absurd (cc)
+    by false passes h = let same : y ≡ x = cc in rw (← same) passes
+find_none_at p (y ∷ ys) (suc i) x absent there = by (λ h. find_none_at p ys i x h there) (p y) absent
+  where
+    by : (find p ys ≡ None → p x ≡ false) → (b : Bool) → cond b (Some y) (find p ys) ≡ None → p x ≡ false
+    by rest true h = absurd (cc)
+    by rest false h = rest h
+
+pub find_none_from : {X : Type 0} (p : X → Bool) (xs : List X) → ((i : ℕ) (x : X) → slice_get xs i ≡ Some x → p x ≡ false) → find p xs ≡ None
+find_none_from p [] each = refl
+find_none_from p (y ∷ ys) each = cond-false (p y) (Some y) (find p ys) (each zero y refl) ∙ find_none_from p ys (λ i x there. each (suc i) x there)
+
+pub find-map : {X Y : Type 0} (p : Y → Bool) (f : X → Y) (xs : List X) → find p (map f xs) ≡ option_map f (find (λ x. p (f x)) xs)
+find-map p f [] = refl
+find-map p f (y ∷ ys) = by (find-map p f ys) (p (f y))
+  where
+    by : find p (map f ys) ≡ option_map f (find (λ x. p (f x)) ys) → (b : Bool) → cond b (Some (f y)) (find p (map f ys)) ≡ option_map f (cond b (Some y) (find (λ x. p (f x)) ys))
+    by rest true = refl
+    by rest false = rest
+
+pub find-same : {X : Type 0} (p q : X → Bool) (xs : List X) → ((i : ℕ) (x : X) → slice_get xs i ≡ Some x → p x ≡ q x) → find p xs ≡ find q xs
+find-same p q [] each = refl
+find-same p q (y ∷ ys) each = rw (each zero y refl, find-same p q ys (λ i x there. each (suc i) x there)) refl
+
+-- a search of a list that was mapped, where each element is left or isn't looked for
+pub find-map_same : {X : Type 0} (p : X → Bool) (f : X → X) (xs : List X) → ((i : ℕ) (x : X) → slice_get xs i ≡ Some x → (f x ≡ x) ⊎ ((p (f x) ≡ false) × (p x ≡ false))) → find p (map f xs) ≡ find p xs
+find-map_same p f [] each = refl
+find-map_same p f (y ∷ ys) each = by (find-map_same p f ys (λ i x there. each (suc i) x there)) (each zero y refl)
+  where
+    by : find p (map f ys) ≡ find p ys → (f y ≡ y) ⊎ ((p (f y) ≡ false) × (p y ≡ false)) → find p (map f (y ∷ ys)) ≡ find p (y ∷ ys)
+    by rest (inl same) = rw (same, rest) refl
+    by rest (inr out) = rw (out.0, out.1) rest
+
+-- a search of a list from which elements were left out
+pub find-filter : {X : Type 0} (p q : X → Bool) (xs : List X) → ((x : X) → p x ≡ true → q x ≡ true) → find p (filter q xs) ≡ find p xs
+find-filter p q [] kept = refl
+find-filter p q (y ∷ ys) kept = by (find-filter p q ys kept) (q y) refl (p y) refl
+  where
+    by : find p (filter q ys) ≡ find p ys → (b : Bool) → q y ≡ b → (d : Bool) → p y ≡ d → find p (cond b (y ∷ filter q ys) (filter q ys)) ≡ cond d (Some y) (find p ys)
+    by rest true there true passes = rw passes refl
+    by rest true there false passes = rw passes rest
+    by rest false there true passes = absurd (true≢false (sym (kept y passes) ∙ there))
+    by rest false there false passes = rest
+
+pub find-filter_none : {X : Type 0} (p q : X → Bool) (xs : List X) → find p xs ≡ None → find p (filter q xs) ≡ None
+find-filter_none p q [] absent = refl
+find-filter_none p q (y ∷ ys) absent = by (find-filter_none p q ys) (q y) (p y) refl absent
+  where
+    by : (find p ys ≡ None → find p (filter q ys) ≡ None) → (b d : Bool) → p y ≡ d → cond d (Some y) (find p ys) ≡ None → find p (cond b (y ∷ filter q ys) (filter q ys)) ≡ None
+    by rest b true passes h = absurd (cc)
+    by rest true false passes h = rw passes (rest h)
+    by rest false false passes h = rest h
+
+-- the names that a name test decides
+pub record IsNamed (client : ℕ) (name : List ℕ) (row : Row) : Type 0 where
+  pub client_is : row.client ≡ client
+  pub name_is : row.name ≡ name
+
+pub IsNamed-from : (client : ℕ) (name : List ℕ) (row : Row) → has_name client name row ≡ true → IsNamed client name row
+IsNamed-from client name row h =
+    let parts = and_parts (nat_eq client row.client) (bytes_eq name row.name) h in
+    record { client_is = sym (eqb-true client row.client parts.0); name_is = sym ((bytes_eq-Decides name row.name).0 parts.1) }
+
+pub has_name-own : (row : Row) → has_name row.client row.name row ≡ true
+has_name-own row = and_from _ _ (nat_eq_equiv.refl row.client) (nat_list_eq_equiv.refl row.name)
