@@ -1,6 +1,7 @@
 -- Elements found in lists, and rows under their names, after rows were put last, changed or left out.
 use Rattle.std.proofs.Common.{◌≡◌, ℕ, zero, suc, Bool, true, false, cond, ◌&&◌, not, nat_eq, List, [], ◌∷◌, ◌++◌, map, Option, Some, None, is_some, refl, sym, ap, ◌∙◌, subst, slice_get, ◌⊎◌, inl, inr}
 use Rattle.std.proofs.lemmas.Bool.{true≢false, eqb-true, and_parts, and_from, or_parts, cond-true, cond-false}
+use Rattle.std.proofs.lemmas.Option.{same_Some}
 use Rattle.std.proofs.lemmas.Slice.Eq.{bytes_eq-Decides}
 use Rattle.std.specs.Cmp.{nat_eq_equiv}
 use Rattle.std.specs.Cmp.Lexicographic.{nat_list_eq_equiv}
@@ -120,3 +121,40 @@ IsNamed-from client name row h =
 
 pub has_name-own : (row : Row) → has_name row.client row.name row ≡ true
 has_name-own row = and_from _ _ (nat_eq_equiv.refl row.client) (nat_list_eq_equiv.refl row.name)
+
+pub IsNamed-row_named : (rows : List Row) (client : ℕ) (name : List ℕ) (row : Row) → row_named rows client name ≡ Some row → IsNamed client name row
+IsNamed-row_named rows client name row there = IsNamed-from client name row (find-passes (has_name client name) rows row there)
+
+-- a row that is there under its name, or a change that leaves names
+pub record LeavesNames (change : Row → Row) : Type 0 where
+  pub client : (row : Row) → (change row).client ≡ row.client
+  pub name : (row : Row) → (change row).name ≡ row.name
+
+pub row_named-map : (rows : List Row) (change : Row → Row) (client : ℕ) (name : List ℕ) → LeavesNames change → row_named (map change rows) client name ≡ option_map change (row_named rows client name)
+row_named-map rows change client name leaves =
+    let same = find-same (λ (row : Row). has_name client name (change row)) (has_name client name) rows (λ i row there. rw (leaves.client row, leaves.name row) refl) in
+    find-map (has_name client name) change rows ∙ ap (option_map change) same
+
+-- where no two rows have one name, each row is the one of its name
+pub row_named-own : (rows : List Row) (i : ℕ) (row : Row) → AreNamedApart rows → slice_get rows i ≡ Some row → row_named rows row.client row.name ≡ Some row
+row_named-own [] i row apart there = absurd (cc)
+row_named-own (first ∷ rows) zero row apart there =
+    let same : first ≡ row = cc in
+    let own : has_name row.client row.name first ≡ true = rw (← same) (has_name-own first) in
+    cond-true (has_name row.client row.name first) (Some first) (row_named rows row.client row.name) own ∙ ap Some same
+row_named-own (first ∷ rows) (suc i) row apart there = by (has_name row.client row.name first) refl (row_named-own rows i row apart.1 there)
+  where
+    by : (b : Bool) → has_name row.client row.name first ≡ b → row_named rows row.client row.name ≡ Some row → cond b (Some first) (row_named rows row.client row.name) ≡ Some row
+    by true named rest =
+        let is = IsNamed-from row.client row.name first named in
+        let other : has_name first.client first.name row ≡ false = none_at (has_name first.client first.name) rows i row apart.0 there in
+        let own : has_name first.client first.name row ≡ true = rw (is.client_is, is.name_is) (has_name-own row) in
+        absurd (true≢false (sym own ∙ other))
+    by false named rest = rest
+
+-- so each row of that name is it
+pub row_named-only : (rows : List Row) (i : ℕ) (row named : Row) (client : ℕ) (name : List ℕ) → AreNamedApart rows → row_named rows client name ≡ Some named → slice_get rows i ≡ Some row → has_name client name row ≡ true → row ≡ named
+row_named-only rows i row named client name apart found there passes =
+    let is = IsNamed-from client name row passes in
+    let own : row_named rows client name ≡ Some row = rw (← is.client_is, ← is.name_is) (row_named-own rows i row apart there) in
+    same_Some row named (sym own ∙ found)

@@ -8,4 +8,5 @@ pub mod Ticks
 pub mod Progress
 pub mod Runs
 pub mod Hanging
+pub mod Levels
 pub mod Planting
