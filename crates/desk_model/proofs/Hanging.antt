@@ -76,6 +76,9 @@ find-map p f (y ∷ ys) = by (find-map p f ys) (p (f y))
     by rest true = refl
     by rest false = rest
 
+pub find-map_none : {X Y : Type 0} (p : Y → Bool) (f : X → Y) (xs : List X) → ((i : ℕ) (x : X) → slice_get xs i ≡ Some x → p (f x) ≡ false) → find p (map f xs) ≡ None
+find-map_none p f xs each = find-map p f xs ∙ ap (option_map f) (find_none_from (λ x. p (f x)) xs each)
+
 pub find-same : {X : Type 0} (p q : X → Bool) (xs : List X) → ((i : ℕ) (x : X) → slice_get xs i ≡ Some x → p x ≡ q x) → find p xs ≡ find q xs
 find-same p q [] each = refl
 find-same p q (y ∷ ys) each = rw (each zero y refl, find-same p q ys (λ i x there. each (suc i) x there)) refl

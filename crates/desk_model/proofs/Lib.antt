@@ -9,4 +9,5 @@ pub mod Progress
 pub mod Runs
 pub mod Hanging
 pub mod Levels
+pub mod Cells
 pub mod Planting
