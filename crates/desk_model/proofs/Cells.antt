@@ -1,7 +1,7 @@
 -- Who is in a cell, and that no two are in one, after rows were put last, changed or left out.
 use Rattle.std.proofs.Common.{◌≡◌, ℕ, zero, suc, Bool, true, false, cond, ◌&&◌, not, nat_eq, nat_lt, ◌+◌, List, [], ◌∷◌, ◌++◌, map, Option, Some, None, is_none, is_some, refl, sym, ap, ◌∙◌, slice_get, ◌⊎◌, inl, inr}
 use Rattle.std.proofs.lemmas.Bool.{true≢false, eqb-true, and_parts, and_from, cond-true, cond-false, false_from_ne_true}
-use Rattle.std.proofs.lemmas.Option.{same_Some}
+use Rattle.std.proofs.lemmas.Option.{same_Some, some_pair_parts}
 use Rattle.std.proofs.lemmas.Slice.Eq.{bytes_eq-Decides}
 use Rattle.std.specs.Cmp.{nat_eq_equiv}
 use Rattle.std.specs.Cmp.Lexicographic.{nat_list_eq_equiv}
@@ -15,7 +15,7 @@ use Rattle.desk_model.specs.Named.{has_name, row_named, with_named}
 use Rattle.desk_model.specs.Trees.{hangs, has_children, can_be_child, child_in, stands_at, depth_of, height_of, is_above, most_levels}
 use Rattle.desk_model.specs.Planted.{has_cell, is_alone, HaveOwnCells}
 use Rattle.desk_model.specs.DeskFacts.{AreNamedApart}
-use Rattle.desk_model.proofs.Hanging.{find-passes, find_none_at, find_none_from, find-map_none, find-map_same, find-filter_none, none_at, IsNamed, IsNamed-from, row_named-only}
+use Rattle.desk_model.proofs.Hanging.{find-passes, find_none_at, find_none_from, find-map_none, find-map_same, find-filter_none, find-push_none, none_at, IsNamed, IsNamed-from, row_named-only}
 
 -- the child in a cell hangs there
 pub record StandsIn (client : ℕ) (name : List ℕ) (column line : ℕ) (child : Row) : Type 0 where
@@ -86,3 +86,108 @@ child_in-own (first ∷ rows) (suc i) row name cell own there spot = by (stands_
         let free : child_in rows first.client name is.cell.column is.cell.row ≡ None = is_alone-at rows first name is.cell own.0 is.spot in
         absurd (cc (rest, free, is.owner, is.column_is, is.line_is))
     by false stands rest = rest
+
+-- A change that leaves a row as it is, or cuts it loose.
+pub record Lessens (change : Row → Row) : Type 0 where
+  pub client : (row : Row) → (change row).client ≡ row.client
+  pub name : (row : Row) → (change row).name ≡ row.name
+  pub kind : (row : Row) → (change row).kind ≡ row.kind
+  pub spot : (row : Row) → ((change row).spot ≡ None) ⊎ ((change row).spot ≡ row.spot)
+
+stands_at-less : (change : Row → Row) (client : ℕ) (name : List ℕ) (column line : ℕ) (row : Row) → Lessens change → stands_at client name column line row ≡ false → stands_at client name column line (change row) ≡ false
+stands_at-less change client name column line row less h = by (less.spot row)
+  where
+    by : ((change row).spot ≡ None) ⊎ ((change row).spot ≡ row.spot) → stands_at client name column line (change row) ≡ false
+    by (inl alone) = stands_at-alone client name column line (change row) alone
+    by (inr same) = rw (less.client row, same) h
+
+is_alone-map : (change : Row → Row) (later : List Row) (row : Row) → Lessens change → is_alone later row ≡ true → is_alone (map change later) (change row) ≡ true
+is_alone-map change later row less alone = is_alone-from (map change later) (change row) (λ name cell is. by name cell is (less.spot row))
+  where
+    by : (name : List ℕ) (cell : Cell) → (change row).spot ≡ Some (name, cell) → ((change row).spot ≡ None) ⊎ ((change row).spot ≡ row.spot) → child_in (map change later) (change row).client name cell.column cell.row ≡ None
+    by name cell is (inl loose) = absurd (cc)
+    by name cell is (inr same) =
+        let free = is_alone-at later row name cell alone (sym same ∙ is) in
+        rw (less.client row)
+        (find-map_none (stands_at row.client name cell.column cell.row) change later (λ i other there. stands_at-less change row.client name cell.column cell.row other less (find_none_at (stands_at row.client name cell.column cell.row) later i other free there)))
+
+pub HaveOwnCells-map : (change : Row → Row) (rows : List Row) → Lessens change → HaveOwnCells rows → HaveOwnCells (map change rows)
+HaveOwnCells-map change [] less own = tt
+HaveOwnCells-map change (row ∷ rows) less own = (is_alone-map change rows row less own.0, HaveOwnCells-map change rows less own.1)
+
+pub HaveOwnCells-filter : (kept : Row → Bool) (rows : List Row) → HaveOwnCells rows → HaveOwnCells (filter kept rows)
+HaveOwnCells-filter kept [] own = tt
+HaveOwnCells-filter kept (row ∷ rows) own = by (HaveOwnCells-filter kept rows own.1) (kept row)
+  where
+    alone : is_alone (filter kept rows) row ≡ true
+    alone = is_alone-from (filter kept rows) row (λ name cell is. find-filter_none (stands_at row.client name cell.column cell.row) kept rows (is_alone-at rows row name cell own.0 is))
+
+    by : HaveOwnCells (filter kept rows) → (b : Bool) → HaveOwnCells (cond b (row ∷ filter kept rows) (filter kept rows))
+    by rest true = (alone, rest)
+    by rest false = rest
+
+pub HaveOwnCells-push : (rows : List Row) (row : Row) → row.spot ≡ None → HaveOwnCells rows → HaveOwnCells (rows ++ row ∷ [])
+HaveOwnCells-push [] row alone own = (is_alone-from [] row (λ name cell is. refl), tt)
+HaveOwnCells-push (first ∷ rows) row alone own = (is_alone-from (rows ++ row ∷ []) first (λ name cell is. find-push_none (stands_at first.client name cell.column cell.row) rows row (is_alone-at rows first name cell own.0 is) (stands_at-alone first.client name cell.column cell.row row alone)), HaveOwnCells-push rows row alone own.1)
+
+-- Where no row stands in the cell, a row can be hung in it.
+abbrev pub hung_in : List ℕ → Cell → Row → Row
+hung_in parent cell row = with_spot (Some (parent, cell)) row
+
+-- a change of the named row alone
+abbrev pub changed : ℕ → List ℕ → (Row → Row) → Row → Row
+changed client name change row = cond (has_name client name row) (change row) row
+
+-- the row hung there stands in no other cell
+stands_at-hung : (client : ℕ) (name : List ℕ) (column line : ℕ) (parent : List ℕ) (cell : Cell) (row : Row) → (StandsIn client name column line (hung_in parent cell row) → ⊥) → stands_at client name column line (hung_in parent cell row) ≡ false
+stands_at-hung client name column line parent cell row elsewhere = false_from_ne_true (stands_at client name column line (hung_in parent cell row)) (λ h. elsewhere (StandsIn-from client name column line (hung_in parent cell row) h))
+
+stands_at-changed : (client : ℕ) (name : List ℕ) (column line : ℕ) (target : ℕ) (child : List ℕ) (change : Row → Row) (row : Row) → stands_at client name column line row ≡ false → (IsNamed target child row → stands_at client name column line (change row) ≡ false) → stands_at client name column line (changed target child change row) ≡ false
+stands_at-changed client name column line target child change row old new = by (has_name target child row) refl
+  where
+    by : (b : Bool) → has_name target child row ≡ b → stands_at client name column line (cond b (change row) row) ≡ false
+    by true named = new (IsNamed-from target child row named)
+    by false named = old
+
+HaveOwnCells-attach : (rows : List Row) (client : ℕ) (parent child : List ℕ) (cell : Cell) → AreNamedApart rows → child_in rows client parent cell.column cell.row ≡ None → HaveOwnCells rows → HaveOwnCells (with_named client child (hung_in parent cell) rows)
+HaveOwnCells-attach [] client parent child cell apart free own = tt
+HaveOwnCells-attach (row ∷ rows) client parent child cell apart free own = (by (has_name client child row) refl, HaveOwnCells-attach rows client parent child cell apart.1 free_later own.1)
+  where
+    here : stands_at client parent cell.column cell.row row ≡ false
+    here = find_none_at (stands_at client parent cell.column cell.row) (row ∷ rows) zero row free refl
+
+    free_later : child_in rows client parent cell.column cell.row ≡ None
+    free_later = find_none_from (stands_at client parent cell.column cell.row) rows (λ i other there. find_none_at (stands_at client parent cell.column cell.row) (row ∷ rows) (suc i) other free there)
+
+    elsewhere : (other : Row) (name : List ℕ) (spot : Cell) → row.spot ≡ Some (name, spot) → IsNamed client child other → StandsIn row.client name spot.column spot.row (hung_in parent cell other) → ⊥
+    elsewhere other name spot is named stands =
+        let place : (parent ≡ name) × (cell ≡ stands.cell) = some_pair_parts parent name cell stands.cell stands.spot in
+        let there : StandsIn client parent cell.column cell.row row = record {
+              cell = spot;
+              owner = sym stands.owner ∙ named.client_is;
+              spot = is ∙ ap (λ (above : List ℕ). Some (above, spot)) (sym place.0);
+              column_is = sym stands.column_is ∙ ap (λ (c : Cell). c.column) (sym place.1);
+              line_is = sym stands.line_is ∙ ap (λ (c : Cell). c.row) (sym place.1);
+            } in
+        true≢false (sym (stands_at-from client parent cell.column cell.row row there) ∙ here)
+
+    by : (b : Bool) → has_name client child row ≡ b → is_alone (with_named client child (hung_in parent cell) rows) (cond b (hung_in parent cell row) row) ≡ true
+    by true named =
+        let is = IsNamed-from client child row named in
+        is_alone-from (with_named client child (hung_in parent cell) rows) (hung_in parent cell row)
+        (λ name spot where_is.
+            let place : (parent ≡ name) × (cell ≡ spot) = some_pair_parts parent name cell spot where_is in
+            rw (is.client_is, ← place.0, ← place.1)
+            (find-map_none (stands_at client parent cell.column cell.row) (changed client child (hung_in parent cell)) rows
+             (λ i other there. stands_at-changed client parent cell.column cell.row client child (hung_in parent cell) other
+                  (find_none_at (stands_at client parent cell.column cell.row) rows i other free_later there)
+                  (λ twice.
+                      let same : has_name client child other ≡ true = rw (twice.client_is, twice.name_is) (and_from _ _ (nat_eq_equiv.refl client) (nat_list_eq_equiv.refl child)) in
+                      let differs : has_name client child other ≡ false = rw (← is.client_is, ← is.name_is) (none_at (has_name row.client row.name) rows i other apart.0 there) in
+                      absurd (true≢false (sym same ∙ differs))))))
+    by false named = is_alone-from (with_named client child (hung_in parent cell) rows) row
+        (λ name spot is.
+            find-map_none (stands_at row.client name spot.column spot.row) (changed client child (hung_in parent cell)) rows
+             (λ i other there. stands_at-changed row.client name spot.column spot.row client child (hung_in parent cell) other
+                  (find_none_at (stands_at row.client name spot.column spot.row) rows i other (is_alone-at rows row name spot own.0 is) there)
+                  (λ named. stands_at-hung row.client name spot.column spot.row parent cell other (elsewhere other name spot is named))))

@@ -1,6 +1,7 @@
 -- Elements found in lists, and rows under their names, after rows were put last, changed or left out.
 use Rattle.std.proofs.Common.{◌≡◌, ℕ, zero, suc, Bool, true, false, cond, ◌&&◌, not, nat_eq, List, [], ◌∷◌, ◌++◌, map, Option, Some, None, is_some, refl, sym, ap, ◌∙◌, subst, slice_get, ◌⊎◌, inl, inr}
 use Rattle.std.proofs.lemmas.Bool.{true≢false, eqb-true, and_parts, and_from, or_parts, cond-true, cond-false}
+use Rattle.std.proofs.lemmas.List.Folds.{find-append}
 use Rattle.std.proofs.lemmas.Option.{same_Some}
 use Rattle.std.proofs.lemmas.Slice.Eq.{bytes_eq-Decides}
 use Rattle.std.specs.Cmp.{nat_eq_equiv}
@@ -78,6 +79,9 @@ find-map p f (y ∷ ys) = by (find-map p f ys) (p (f y))
 
 pub find-map_none : {X Y : Type 0} (p : Y → Bool) (f : X → Y) (xs : List X) → ((i : ℕ) (x : X) → slice_get xs i ≡ Some x → p (f x) ≡ false) → find p (map f xs) ≡ None
 find-map_none p f xs each = find-map p f xs ∙ ap (option_map f) (find_none_from (λ x. p (f x)) xs each)
+
+pub find-push_none : {X : Type 0} (p : X → Bool) (xs : List X) (x : X) → find p xs ≡ None → p x ≡ false → find p (xs ++ x ∷ []) ≡ None
+find-push_none p xs x absent out = find-append p xs (x ∷ []) ∙ rw (absent, out) refl
 
 pub find-same : {X : Type 0} (p q : X → Bool) (xs : List X) → ((i : ℕ) (x : X) → slice_get xs i ≡ Some x → p x ≡ q x) → find p xs ≡ find q xs
 find-same p q [] each = refl
