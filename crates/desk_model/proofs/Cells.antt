@@ -15,7 +15,7 @@ use Rattle.desk_model.specs.Named.{has_name, row_named, with_named}
 use Rattle.desk_model.specs.Trees.{hangs, has_children, can_be_child, child_in, stands_at, depth_of, height_of, is_above, most_levels}
 use Rattle.desk_model.specs.Planted.{has_cell, is_alone, HaveOwnCells}
 use Rattle.desk_model.specs.DeskFacts.{AreNamedApart}
-use Rattle.desk_model.proofs.Hanging.{find-passes, find_none_at, find_none_from, find-map_none, find-map_same, find-filter_none, find-push_none, none_at, IsNamed, IsNamed-from, row_named-only}
+use Rattle.desk_model.proofs.Hanging.{find-passes, find-element, find_none_at, find_none_from, find-map_none, find-map_same, find-filter_none, find-push_none, none_at, IsNamed, IsNamed-from, IsNamed-row_named, row_named-only}
 
 -- the child in a cell hangs there
 pub record StandsIn (client : ℕ) (name : List ℕ) (column line : ℕ) (child : Row) : Type 0 where
@@ -191,3 +191,93 @@ HaveOwnCells-attach (row ∷ rows) client parent child cell apart free own = (by
              (λ i other there. stands_at-changed row.client name spot.column spot.row client child (hung_in parent cell) other
                   (find_none_at (stands_at row.client name spot.column spot.row) rows i other (is_alone-at rows row name spot own.0 is) there)
                   (λ named. stands_at-hung row.client name spot.column spot.row parent cell other (elsewhere other name spot is named))))
+
+-- what `place` asks of the two widgets and the cell
+pub record CanHang (rows : List Row) (client : ℕ) (parent child : List ℕ) (cell : Cell) (upper lower : Row) : Type 0 where
+  pub upper_there : row_named rows client parent ≡ Some upper
+  pub lower_there : row_named rows client child ≡ Some lower
+  pub has_children : has_children upper.kind ≡ true
+  pub can_be_child : can_be_child lower.kind ≡ true
+  pub has_cell : has_cell upper.kind cell ≡ true
+  pub stands_alone : hangs lower ≡ false
+  pub no_cycle : is_above rows client child parent ≡ false
+  pub not_deep : nat_lt most_levels (depth_of rows client parent + height_of rows client child) ≡ false
+  pub cell_free : child_in rows client parent cell.column cell.row ≡ None
+
+pub spot_of_alone : (row : Row) → hangs row ≡ false → row.spot ≡ None
+spot_of_alone row alone = by row.spot alone
+  where
+    by : (o : Option (List ℕ × Cell)) → option_map_or (λ (spot : List ℕ × Cell). true) o false ≡ false → o ≡ None
+    by None h = refl
+    by (Some spot) h = absurd (true≢false h)
+
+child_in-hung : (rows : List Row) (client : ℕ) (parent child : List ℕ) (cell : Cell) (lower : Row) → row_named rows client child ≡ Some lower → child_in rows client parent cell.column cell.row ≡ None → child_in (with_named client child (hung_in parent cell) rows) client parent cell.column cell.row ≡ Some (hung_in parent cell lower)
+child_in-hung [] client parent child cell lower found free = absurd (cc)
+child_in-hung (first ∷ rows) client parent child cell lower found free =
+    by (child_in-hung rows client parent child cell lower) (has_name client child first) refl found
+  where
+    free_later : child_in rows client parent cell.column cell.row ≡ None
+    free_later = find_none_from (stands_at client parent cell.column cell.row) rows (λ i other there. find_none_at (stands_at client parent cell.column cell.row) (first ∷ rows) (suc i) other free there)
+
+    by : (row_named rows client child ≡ Some lower → child_in rows client parent cell.column cell.row ≡ None → child_in (with_named client child (hung_in parent cell) rows) client parent cell.column cell.row ≡ Some (hung_in parent cell lower)) → (b : Bool) → has_name client child first ≡ b → cond b (Some first) (row_named rows client child) ≡ Some lower → find (stands_at client parent cell.column cell.row) (cond b (hung_in parent cell first) first ∷ with_named client child (hung_in parent cell) rows) ≡ Some (hung_in parent cell lower)
+    by rest true named h =
+        let same : first ≡ lower = cc in
+        let is = IsNamed-from client child first named in
+        let stands : StandsIn client parent cell.column cell.row (hung_in parent cell first) = record { cell = cell; owner = is.client_is; spot = refl; column_is = refl; line_is = refl } in
+        cond-true (stands_at client parent cell.column cell.row (hung_in parent cell first)) (Some (hung_in parent cell first)) (child_in (with_named client child (hung_in parent cell) rows) client parent cell.column cell.row) (stands_at-from client parent cell.column cell.row (hung_in parent cell first) stands)
+        ∙ ap (λ (r : Row). Some (hung_in parent cell r)) same
+    by rest false named h =
+        cond-false (stands_at client parent cell.column cell.row first) (Some first) (child_in (with_named client child (hung_in parent cell) rows) client parent cell.column cell.row) (find_none_at (stands_at client parent cell.column cell.row) (first ∷ rows) zero first free refl)
+        ∙ rest h free_later
+
+-- who is in a cell after a widget was hung there, or elsewhere
+pub child_in-attach_same : (rows : List Row) (client : ℕ) (parent child : List ℕ) (cell : Cell) (upper lower : Row) → AreNamedApart rows → CanHang rows client parent child cell upper lower → child_in (with_named client child (with_spot (Some (parent, cell))) rows) client parent cell.column cell.row ≡ Some (with_spot (Some (parent, cell)) lower)
+child_in-attach_same rows client parent child cell upper lower apart can = child_in-hung rows client parent child cell lower can.lower_there can.cell_free
+
+-- a change of the named row is seen only in cells in which it was or is
+child_in-changed : (rows : List Row) (client : ℕ) (child : List ℕ) (change : Row → Row) (lower : Row) → AreNamedApart rows → row_named rows client child ≡ Some lower → (other : ℕ) (name : List ℕ) (column line : ℕ) → stands_at other name column line lower ≡ false → stands_at other name column line (change lower) ≡ false → child_in (with_named client child change rows) other name column line ≡ child_in rows other name column line
+child_in-changed rows client child change lower apart found other name column line old new =
+    find-map_same (stands_at other name column line) (changed client child change) rows (λ i row there. by i row there (has_name client child row) refl)
+  where
+    by : (i : ℕ) (row : Row) → slice_get rows i ≡ Some row → (b : Bool) → has_name client child row ≡ b → (cond b (change row) row ≡ row) ⊎ ((stands_at other name column line (cond b (change row) row) ≡ false) × (stands_at other name column line row ≡ false))
+    by i row there true named =
+        let same : row ≡ lower = row_named-only rows i row lower client child apart found there named in
+        inr (rw same new, rw same old)
+    by i row there false named = inl refl
+
+pub child_in-attach_other : (rows : List Row) (client : ℕ) (parent child : List ℕ) (cell : Cell) (upper lower : Row) → AreNamedApart rows → CanHang rows client parent child cell upper lower → (other : ℕ) (name : List ℕ) (column line : ℕ) → (nat_eq other client && (bytes_eq name parent && (nat_eq column cell.column && nat_eq line cell.row))) ≡ false → child_in (with_named client child (with_spot (Some (parent, cell))) rows) other name column line ≡ child_in rows other name column line
+child_in-attach_other rows client parent child cell upper lower apart can other name column line differs =
+    let is = IsNamed-row_named rows client child lower can.lower_there in
+    let new : stands_at other name column line (hung_in parent cell lower) ≡ false = rw is.client_is differs in
+    child_in-changed rows client child (hung_in parent cell) lower apart can.lower_there other name column line (stands_at-alone other name column line lower (spot_of_alone lower can.stands_alone)) new
+
+-- who is in a cell after a widget was taken out of it, or out of another
+pub child_in-detach_same : (rows : List Row) (client : ℕ) (child parent : List ℕ) (cell : Cell) (lower : Row) → AreNamedApart rows → HaveOwnCells rows → row_named rows client child ≡ Some lower → lower.spot ≡ Some (parent, cell) → child_in (with_named client child (with_spot None) rows) client parent cell.column cell.row ≡ None
+child_in-detach_same rows client child parent cell lower apart own found spot =
+    find-map_none (stands_at client parent cell.column cell.row) (changed client child (with_spot None)) rows (λ i row there. by i row there (has_name client child row) refl)
+  where
+    is : IsNamed client child lower
+    is = IsNamed-row_named rows client child lower found
+
+    lower_in : child_in rows client parent cell.column cell.row ≡ Some lower
+    lower_in =
+        let place = find-element (has_name client child) rows lower found in
+        rw (← is.client_is) (child_in-own rows place.0 lower parent cell own place.1 spot)
+
+    by : (i : ℕ) (row : Row) → slice_get rows i ≡ Some row → (b : Bool) → has_name client child row ≡ b → stands_at client parent cell.column cell.row (cond b (with_spot None row) row) ≡ false
+    by i row there true named = stands_at-alone client parent cell.column cell.row (with_spot None row) refl
+    by i row there false named = false_from_ne_true (stands_at client parent cell.column cell.row row) absurd_if
+      where
+        absurd_if : stands_at client parent cell.column cell.row row ≡ true → ⊥
+        absurd_if h =
+            let stands = StandsIn-from client parent cell.column cell.row row h in
+            let row_in = child_in-own rows i row parent stands.cell own there stands.spot in
+            let same : row ≡ lower = cc (row_in, lower_in, stands.owner, stands.column_is, stands.line_is) in
+            let named_too : has_name client child row ≡ true = rw same (find-passes (has_name client child) rows lower found) in
+            true≢false (sym named_too ∙ named)
+
+pub child_in-detach_other : (rows : List Row) (client : ℕ) (child parent : List ℕ) (cell : Cell) (lower : Row) → AreNamedApart rows → row_named rows client child ≡ Some lower → lower.spot ≡ Some (parent, cell) → (other : ℕ) (name : List ℕ) (column line : ℕ) → (nat_eq other client && (bytes_eq name parent && (nat_eq column cell.column && nat_eq line cell.row))) ≡ false → child_in (with_named client child (with_spot None) rows) other name column line ≡ child_in rows other name column line
+child_in-detach_other rows client child parent cell lower apart found spot other name column line differs =
+    let is = IsNamed-row_named rows client child lower found in
+    let old : stands_at other name column line lower ≡ false = rw (is.client_is, spot) differs in
+    child_in-changed rows client child (with_spot None) lower apart found other name column line old (stands_at-alone other name column line (with_spot None lower) refl)
