@@ -15,7 +15,7 @@ use Rattle.desk_model.specs.Named.{has_name, row_named, with_named}
 use Rattle.desk_model.specs.Trees.{hangs, has_children, can_be_child, child_in, stands_at, depth_of, height_of, is_above, most_levels}
 use Rattle.desk_model.specs.Planted.{has_cell, is_alone, HaveOwnCells}
 use Rattle.desk_model.specs.DeskFacts.{AreNamedApart}
-use Rattle.desk_model.proofs.Hanging.{find-passes, find-element, find_none_at, find_none_from, find-map_none, find-map_same, find-filter_none, find-push_none, none_at, IsNamed, IsNamed-from, IsNamed-row_named, row_named-only}
+use Rattle.desk_model.proofs.Hanging.{find-passes, find-element, find_none_at, find_none_from, find-map_none, find-map_same, find-filter_none, find-push_none, none_at, IsNamed, IsNamed-from, IsNamed-row_named, changed, row_named-only}
 
 -- the child in a cell hangs there
 pub record StandsIn (client : ℕ) (name : List ℕ) (column line : ℕ) (child : Row) : Type 0 where
@@ -133,10 +133,6 @@ HaveOwnCells-push (first ∷ rows) row alone own = (is_alone-from (rows ++ row �
 -- Where no row stands in the cell, a row can be hung in it.
 abbrev pub hung_in : List ℕ → Cell → Row → Row
 hung_in parent cell row = with_spot (Some (parent, cell)) row
-
--- a change of the named row alone
-abbrev pub changed : ℕ → List ℕ → (Row → Row) → Row → Row
-changed client name change row = cond (has_name client name row) (change row) row
 
 -- the row hung there stands in no other cell
 stands_at-hung : (client : ℕ) (name : List ℕ) (column line : ℕ) (parent : List ℕ) (cell : Cell) (row : Row) → (StandsIn client name column line (hung_in parent cell row) → ⊥) → stands_at client name column line (hung_in parent cell row) ≡ false
@@ -266,10 +262,10 @@ child_in-detach_same rows client child parent cell lower apart own found spot =
 
     by : (i : ℕ) (row : Row) → slice_get rows i ≡ Some row → (b : Bool) → has_name client child row ≡ b → stands_at client parent cell.column cell.row (cond b (with_spot None row) row) ≡ false
     by i row there true named = stands_at-alone client parent cell.column cell.row (with_spot None row) refl
-    by i row there false named = false_from_ne_true (stands_at client parent cell.column cell.row row) absurd_if
+    by i row there false named = false_from_ne_true (stands_at client parent cell.column cell.row row) not_there
       where
-        absurd_if : stands_at client parent cell.column cell.row row ≡ true → ⊥
-        absurd_if h =
+        not_there : stands_at client parent cell.column cell.row row ≡ true → ⊥
+        not_there h =
             let stands = StandsIn-from client parent cell.column cell.row row h in
             let row_in = child_in-own rows i row parent stands.cell own there stands.spot in
             let same : row ≡ lower = cc (row_in, lower_in, stands.owner, stands.column_is, stands.line_is) in

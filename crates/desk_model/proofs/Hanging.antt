@@ -7,10 +7,13 @@ use Rattle.std.proofs.lemmas.Slice.Eq.{bytes_eq-Decides}
 use Rattle.std.specs.Cmp.{nat_eq_equiv}
 use Rattle.std.specs.Cmp.Lexicographic.{nat_list_eq_equiv}
 use Rattle.std.specs.List.{find, filter, list_all, list_any}
-use Rattle.std.specs.Option.{option_map}
+use Rattle.std.specs.Option.{option_map, option_map_or, option_and_then}
 use Rattle.std.specs.Str.{bytes_eq}
+use Rattle.kind_core.specs.declared.shapes.Cell.{Cell}
 use Rattle.desk_model.specs.Rows.{Row}
 use Rattle.desk_model.specs.Named.{has_name, row_named, with_named, without_named, rows_of_others}
+use Rattle.desk_model.specs.Trees.{can_be_child, parent_of, is_child}
+use Rattle.desk_model.specs.Planted.{hangs_right, has_cell}
 use Rattle.desk_model.specs.DeskFacts.{AreNamedApart}
 
 pub find-passes : {X : Type 0} (p : X → Bool) (xs : List X) (x : X) → find p xs ≡ Some x → p x ≡ true
@@ -137,6 +140,10 @@ pub record LeavesNames (change : Row → Row) : Type 0 where
   pub client : (row : Row) → (change row).client ≡ row.client
   pub name : (row : Row) → (change row).name ≡ row.name
 
+-- a change of the named row alone
+abbrev pub changed : ℕ → List ℕ → (Row → Row) → Row → Row
+changed client name change row = cond (has_name client name row) (change row) row
+
 pub row_named-map : (rows : List Row) (change : Row → Row) (client : ℕ) (name : List ℕ) → LeavesNames change → row_named (map change rows) client name ≡ option_map change (row_named rows client name)
 row_named-map rows change client name leaves =
     let same = find-same (λ (row : Row). has_name client name (change row)) (has_name client name) rows (λ i row there. rw (leaves.client row, leaves.name row) refl) in
@@ -165,3 +172,97 @@ row_named-only rows i row named client name apart found there passes =
     let is = IsNamed-from client name row passes in
     let own : row_named rows client name ≡ Some row = rw (← is.client_is, ← is.name_is) (row_named-own rows i row apart there) in
     same_Some row named (sym own ∙ found)
+
+-- the names are left by a change of one row that leaves names
+pub LeavesNames-changed : (client : ℕ) (name : List ℕ) (change : Row → Row) → LeavesNames change → LeavesNames (changed client name change)
+LeavesNames-changed client name change leaves =
+    record {
+      client = λ row. by_client row (has_name client name row);
+      name = λ row. by_name row (has_name client name row);
+    }
+  where
+    by_client : (row : Row) (b : Bool) → (cond b (change row) row).client ≡ row.client
+    by_client row true = leaves.client row
+    by_client row false = refl
+
+    by_name : (row : Row) (b : Bool) → (cond b (change row) row).name ≡ row.name
+    by_name row true = leaves.name row
+    by_name row false = refl
+
+-- rows of other names are found as they were
+pub row_named-changed_other : (rows : List Row) (client : ℕ) (name : List ℕ) (change : Row → Row) (owner : ℕ) (other : List ℕ) → LeavesNames change → (nat_eq client owner && bytes_eq name other) ≡ false → row_named (with_named client name change rows) owner other ≡ row_named rows owner other
+row_named-changed_other rows client name change owner other leaves differs = row_named-map rows (changed client name change) owner other (LeavesNames-changed client name change leaves) ∙ by (row_named rows owner other) refl
+  where
+    by : (o : Option Row) → row_named rows owner other ≡ o → option_map (changed client name change) o ≡ o
+    by None found = refl
+    by (Some row) found =
+        let is = IsNamed-row_named rows owner other row found in
+        let out : has_name client name row ≡ false = rw (is.client_is, is.name_is) differs in
+        ap Some (cond-false (has_name client name row) (change row) row out)
+
+-- where names are kept or left out as a whole, a kept one is found as it was
+pub row_named-filter : (test : ℕ → List ℕ → Bool) (rows : List Row) (client : ℕ) (name : List ℕ) → test client name ≡ true → row_named (filter (λ row. test row.client row.name) rows) client name ≡ row_named rows client name
+row_named-filter test rows client name kept =
+    find-filter (has_name client name) (λ row. test row.client row.name) rows
+    (λ row passes. let is = IsNamed-from client name row passes in rw (is.client_is, is.name_is) kept)
+
+-- the row that a parent is the parent of
+pub record HangsIn (rows : List Row) (client : ℕ) (name parent : List ℕ) : Type 0 where
+  pub i : ℕ
+  pub row : Row
+  pub cell : Cell
+  pub there : slice_get rows i ≡ Some row
+  pub found : row_named rows client name ≡ Some row
+  pub named : IsNamed client name row
+  pub spot : row.spot ≡ Some (parent, cell)
+
+pub HangsIn-from : (rows : List Row) (client : ℕ) (name parent : List ℕ) → parent_of rows client name ≡ Some parent → HangsIn rows client name parent
+HangsIn-from rows client name parent h = by (row_named rows client name) refl h
+  where
+    by : (o : Option Row) → row_named rows client name ≡ o → option_and_then (λ (row : Row). option_map (λ (spot : List ℕ × Cell). spot.0) row.spot) o ≡ Some parent → HangsIn rows client name parent
+    by None found h = absurd (cc)
+    by (Some row) found h = inside row.spot refl h
+      where
+        inside : (spot : Option (List ℕ × Cell)) → row.spot ≡ spot → option_map (λ (spot : List ℕ × Cell). spot.0) spot ≡ Some parent → HangsIn rows client name parent
+        inside None hangs h = absurd (cc)
+        inside (Some spot) hangs h =
+            let place = find-element _ rows row found in
+            let same : spot.0 ≡ parent = cc in
+            record {
+              i = place.0;
+              row = row;
+              cell = spot.1;
+              there = place.1;
+              found = found;
+              named = IsNamed-row_named rows client name row found;
+              spot = hangs ∙ ap (λ (above : List ℕ). Some (above, spot.1)) same;
+            }
+
+pub HangsIn-child : (rows : List Row) (client : ℕ) (name parent : List ℕ) (h : HangsIn rows client name parent) → is_child client parent h.row ≡ true
+HangsIn-child rows client name parent h =
+    rw (h.named.client_is, h.spot) (and_from _ _ (nat_eq_equiv.refl client) (nat_list_eq_equiv.refl parent))
+
+-- what hanging right says of a row that hangs
+pub record IsHungRight (rows : List Row) (row : Row) (name : List ℕ) (cell : Cell) : Type 0 where
+  pub upper : Row
+  pub can_be_child : can_be_child row.kind ≡ true
+  pub found : row_named rows row.client name ≡ Some upper
+  pub has_cell : has_cell upper.kind cell ≡ true
+
+pub hangs_right-at : (rows : List Row) (row : Row) (name : List ℕ) (cell : Cell) → hangs_right rows row ≡ true → row.spot ≡ Some (name, cell) → IsHungRight rows row name cell
+hangs_right-at rows row name cell right is =
+    let whole : (can_be_child row.kind && option_map_or (λ (parent : Row). has_cell parent.kind cell) (row_named rows row.client name) false) ≡ true = sym (ap (λ (o : Option (List ℕ × Cell)). option_map_or (λ (spot : List ℕ × Cell). can_be_child row.kind && option_map_or (λ (parent : Row). has_cell parent.kind spot.1) (row_named rows row.client spot.0) false) o true) is) ∙ right in
+    by (row_named rows row.client name) refl (and_parts (can_be_child row.kind) (option_map_or (λ (parent : Row). has_cell parent.kind cell) (row_named rows row.client name) false) whole)
+  where
+    by : (o : Option Row) → row_named rows row.client name ≡ o → (can_be_child row.kind ≡ true) × (option_map_or (λ (parent : Row). has_cell parent.kind cell) o false ≡ true) → IsHungRight rows row name cell
+    by None found parts = absurd (true≢false (sym parts.1))
+    by (Some upper) found parts = record { upper = upper; can_be_child = parts.0; found = found; has_cell = parts.1 }
+
+pub hangs_right-from : (rows : List Row) (row : Row) → ((name : List ℕ) (cell : Cell) → row.spot ≡ Some (name, cell) → IsHungRight rows row name cell) → hangs_right rows row ≡ true
+hangs_right-from rows row each = by row.spot refl
+  where
+    by : (o : Option (List ℕ × Cell)) → row.spot ≡ o → option_map_or (λ (spot : List ℕ × Cell). can_be_child row.kind && option_map_or (λ (parent : Row). has_cell parent.kind spot.1) (row_named rows row.client spot.0) false) o true ≡ true
+    by None is = refl
+    by (Some spot) is =
+        let right = each spot.0 spot.1 is in
+        and_from _ _ right.can_be_child (ap (λ (o : Option Row). option_map_or (λ (parent : Row). has_cell parent.kind spot.1) o false) right.found ∙ right.has_cell)
