@@ -145,7 +145,7 @@ stands_at-changed client name column line target child change row old new = by (
     by true named = new (IsNamed-from target child row named)
     by false named = old
 
-HaveOwnCells-attach : (rows : List Row) (client : ℕ) (parent child : List ℕ) (cell : Cell) → AreNamedApart rows → child_in rows client parent cell.column cell.row ≡ None → HaveOwnCells rows → HaveOwnCells (with_named client child (hung_in parent cell) rows)
+pub HaveOwnCells-attach : (rows : List Row) (client : ℕ) (parent child : List ℕ) (cell : Cell) → AreNamedApart rows → child_in rows client parent cell.column cell.row ≡ None → HaveOwnCells rows → HaveOwnCells (with_named client child (hung_in parent cell) rows)
 HaveOwnCells-attach [] client parent child cell apart free own = tt
 HaveOwnCells-attach (row ∷ rows) client parent child cell apart free own = (by (has_name client child row) refl, HaveOwnCells-attach rows client parent child cell apart.1 free_later own.1)
   where
