@@ -13,7 +13,7 @@ use Rattle.desk_model.specs.Named.{has_name, row_named, with_named, without_name
 use Rattle.desk_model.specs.Trees.{hangs, parent_of, is_child, depth_of, height_of, ends_within, root_in, is_used, links_to, most_levels}
 use Rattle.desk_model.specs.Planted.{hangs_right, has_cell, HaveOwnCells, IsPlanted}
 use Rattle.desk_model.specs.DeskFacts.{AreNamedApart}
-use Rattle.desk_model.proofs.Hanging.{find-passes, all_at, all_from, none_at, all-filter, IsNamed, IsNamed-row_named, LeavesNames, changed, row_named-map, row_named-only, row_named-changed_other, row_named-filter, LeavesNames-changed, HangsIn, HangsIn-from, IsHungRight, hangs_right-at, hangs_right-from}
+use Rattle.desk_model.proofs.Hanging.{find-passes, find-element, all_at, all_from, none_at, all-filter, IsNamed, IsNamed-row_named, LeavesNames, changed, row_named-map, row_named-only, row_named-changed_other, row_named-filter, LeavesNames-changed, HangsIn, HangsIn-from, IsHungRight, hangs_right-at, hangs_right-from}
 use Rattle.desk_model.proofs.Levels.{ends_within-fewer, IsHung, ends_within-hung}
 use Rattle.desk_model.proofs.Cells.{Lessens, HaveOwnCells-map, HaveOwnCells-filter, HaveOwnCells-push, HaveOwnCells-attach, hung_in, CanHang, spot_of_alone}
 
@@ -176,3 +176,169 @@ pub IsPlanted-detach : (rows : List Row) (client : ℕ) (child : List ℕ) → I
 IsPlanted-detach rows client child planted =
     let less : Lessens (with_spot None) = record { client = λ row. refl; name = λ row. refl; kind = λ row. refl; spot = λ row. inl refl } in
     IsPlanted-map rows (changed client child (with_spot None)) (Lessens-changed client child (with_spot None) less) planted
+
+-- rows left out by their names, where the parent of each row that is kept is kept
+IsPlanted-filter : (test : ℕ → List ℕ → Bool) (rows : List Row) → ((i : ℕ) (row : Row) (name : List ℕ) (cell : Cell) → slice_get rows i ≡ Some row → test row.client row.name ≡ true → row.spot ≡ Some (name, cell) → test row.client name ≡ true) → IsPlanted rows → IsPlanted (filter (λ (row : Row). test row.client row.name) rows)
+IsPlanted-filter test rows closed planted =
+    record {
+      hang = all-filter (hangs_right (filter keeps rows)) keeps rows (λ i row there kept. hang i row there kept);
+      own_cells = HaveOwnCells-filter keeps rows planted.own_cells;
+      low = all-filter (λ (row : Row). ends_within most_levels (filter keeps rows) row.client row.name) keeps rows (λ i row there kept. low i row there kept);
+    }
+  where
+    keeps : Row → Bool
+    keeps row = test row.client row.name
+
+    hang : (i : ℕ) (row : Row) → slice_get rows i ≡ Some row → keeps row ≡ true → hangs_right (filter keeps rows) row ≡ true
+    hang i row there kept =
+        hangs_right-from (filter keeps rows) row
+        (λ name cell is.
+            let right = hangs_right-at rows row name cell (all_at (hangs_right rows) rows i row planted.hang there) is in
+            let found : row_named (filter keeps rows) row.client name ≡ Some right.upper = row_named-filter test rows row.client name (closed i row name cell there kept is) ∙ right.found in
+            record { upper = right.upper; can_be_child = right.can_be_child; found = found; has_cell = right.has_cell })
+
+    goes_on : (client : ℕ) (name parent : List ℕ) → test client name ≡ true → parent_of rows client name ≡ Some parent → test client parent ≡ true
+    goes_on client name parent kept up =
+        let lower = HangsIn-from rows client name parent up in
+        let kept_row : test lower.row.client lower.row.name ≡ true = rw (lower.named.client_is, lower.named.name_is) kept in
+        rw (← lower.named.client_is) (closed lower.i lower.row parent lower.cell lower.there kept_row lower.spot)
+
+    low : (i : ℕ) (row : Row) → slice_get rows i ≡ Some row → keeps row ≡ true → ends_within most_levels (filter keeps rows) row.client row.name ≡ true
+    low i row there kept =
+        ends_within-fewer rows (filter keeps rows) row.client (λ name. test row.client name ≡ true) (λ name on. inr (ap parent_in (row_named-filter test rows row.client name on))) (λ name parent on up. goes_on row.client name parent on up) most_levels row.name kept
+        (all_at (λ (r : Row). ends_within most_levels rows r.client r.name) rows i row planted.low there)
+
+pub IsPlanted-remove : (rows : List Row) (client : ℕ) (name : List ℕ) (row : Row) → row_named rows client name ≡ Some row → is_used rows row ≡ false → IsPlanted rows → IsPlanted (without_named client name rows)
+IsPlanted-remove rows client name row found unused planted =
+    IsPlanted-filter (λ owner other. not (nat_eq client owner && bytes_eq name other)) rows (λ i other parent cell there kept spot. closed i other parent cell there spot) planted
+  where
+    no_children : list_any (is_child row.client row.name) rows ≡ false
+    no_children = (or_parts (list_any (is_child row.client row.name) rows) (list_any (links_to row.client row.name) rows) (or_parts (hangs row) _ unused).1).0
+
+    closed : (i : ℕ) (other : Row) (parent : List ℕ) (cell : Cell) → slice_get rows i ≡ Some other → other.spot ≡ Some (parent, cell) → not (nat_eq client other.client && bytes_eq name parent) ≡ true
+    closed i other parent cell there spot =
+        let is = IsNamed-row_named rows client name row found in
+        let childless : is_child row.client row.name other ≡ false = none_at (is_child row.client row.name) rows i other no_children there in
+        let below : is_child row.client row.name other ≡ (nat_eq row.client other.client && bytes_eq row.name parent) = ap (λ (o : Option (List ℕ × Cell)). nat_eq row.client other.client && option_map_or (λ (s : List ℕ × Cell). bytes_eq row.name s.0) o false) spot in
+        rw (← is.client_is, ← is.name_is) (ap not (sym below ∙ childless))
+
+pub IsPlanted-others : (rows : List Row) (client : ℕ) → IsPlanted rows → IsPlanted (rows_of_others client rows)
+IsPlanted-others rows client planted = IsPlanted-filter (λ owner name. not (nat_eq client owner)) rows (λ i row name cell there kept spot. kept) planted
+
+-- a widget hung in another
+IsHung-attach : (rows : List Row) (client : ℕ) (parent child : List ℕ) (cell : Cell) (upper lower : Row) → CanHang rows client parent child cell upper lower → IsHung rows (with_named client child (hung_in parent cell) rows) client child parent
+IsHung-attach rows client parent child cell upper lower can =
+    record {
+      alone = ap parent_in can.lower_there ∙ parent_in-loose lower (spot_of_alone lower can.stands_alone);
+      hung = ap parent_in new;
+      same = λ name differs. ap parent_in (row_named-changed_other rows client child (hung_in parent cell) client name leaves (rw differs (none (nat_eq client client))));
+    }
+  where
+    leaves : LeavesNames (hung_in parent cell)
+    leaves = record { client = λ row. refl; name = λ row. refl }
+
+    none : (b : Bool) → (b && false) ≡ false
+    none true = refl
+    none false = refl
+
+    new : row_named (with_named client child (hung_in parent cell) rows) client child ≡ Some (hung_in parent cell lower)
+    new =
+        let own : has_name client child lower ≡ true = find-passes (has_name client child) rows lower can.lower_there in
+        row_named-map rows (changed client child (hung_in parent cell)) client child (LeavesNames-changed client child (hung_in parent cell) leaves)
+        ∙ ap (option_map (changed client child (hung_in parent cell))) can.lower_there
+        ∙ ap Some (cond-true (has_name client child lower) (hung_in parent cell lower) lower own)
+
+pub IsPlanted-attach : (rows : List Row) (client : ℕ) (parent child : List ℕ) (cell : Cell) (upper lower : Row) → AreNamedApart rows → CanHang rows client parent child cell upper lower → IsPlanted rows → IsPlanted (with_named client child (with_spot (Some (parent, cell))) rows)
+IsPlanted-attach rows client parent child cell upper lower apart can planted =
+    record {
+      hang = list_all-map (hangs_right others) hang_it rows ∙ all_from (λ (row : Row). hangs_right others (hang_it row)) rows (λ i row there. hang i row there);
+      own_cells = HaveOwnCells-attach rows client parent child cell apart can.cell_free planted.own_cells;
+      low = list_all-map (λ (row : Row). ends_within most_levels others row.client row.name) hang_it rows ∙ all_from (λ (row : Row). ends_within most_levels others (hang_it row).client (hang_it row).name) rows (λ i row there. low i row there);
+    }
+  where
+    hang_it : Row → Row
+    hang_it = changed client child (hung_in parent cell)
+
+    others : List Row
+    others = with_named client child (hung_in parent cell) rows
+
+    leaves_one : LeavesNames (hung_in parent cell)
+    leaves_one = record { client = λ row. refl; name = λ row. refl }
+
+    leaves : LeavesNames hang_it
+    leaves = LeavesNames-changed client child (hung_in parent cell) leaves_one
+
+    kind : (row : Row) → (hang_it row).kind ≡ row.kind
+    kind row = by (has_name client child row)
+      where
+        by : (b : Bool) → (cond b (hung_in parent cell row) row).kind ≡ row.kind
+        by true = refl
+        by false = refl
+
+    -- a row that was found before is found, with the kind that it had
+    found_still : (owner : ℕ) (name : List ℕ) (row : Row) → row_named rows owner name ≡ Some row → row_named others owner name ≡ Some (hang_it row)
+    found_still owner name row found = row_named-map rows hang_it owner name leaves ∙ ap (option_map hang_it) found
+
+    hang : (i : ℕ) (row : Row) → slice_get rows i ≡ Some row → hangs_right others (hang_it row) ≡ true
+    hang i row there = by (has_name client child row) refl
+      where
+        by : (b : Bool) → has_name client child row ≡ b → hangs_right others (cond b (hung_in parent cell row) row) ≡ true
+        by true named =
+            let same = row_named-only rows i row lower client child apart can.lower_there there named in
+            let is = IsNamed-row_named rows client child lower can.lower_there in
+            hangs_right-from others (hung_in parent cell row)
+            (λ name spot where_is.
+                let place : (parent ≡ name) × (cell ≡ spot) = some_pair_parts parent name cell spot where_is in
+                let found : row_named others row.client name ≡ Some (hang_it upper) = rw (same, is.client_is, ← place.0) (found_still client parent upper can.upper_there) in
+                record {
+                  upper = hang_it upper;
+                  can_be_child = rw same can.can_be_child;
+                  found = found;
+                  has_cell = rw (kind upper, ← place.1) can.has_cell;
+                })
+        by false named =
+            hangs_right-from others row
+            (λ name spot is.
+                let right = hangs_right-at rows row name spot (all_at (hangs_right rows) rows i row planted.hang there) is in
+                record {
+                  upper = hang_it right.upper;
+                  can_be_child = right.can_be_child;
+                  found = found_still row.client name right.upper right.found;
+                  has_cell = rw (kind right.upper) right.has_cell;
+                })
+
+    was_low : (i : ℕ) (row : Row) → slice_get rows i ≡ Some row → ends_within most_levels rows row.client row.name ≡ true
+    was_low i row there = all_at (λ (r : Row). ends_within most_levels rows r.client r.name) rows i row planted.low there
+
+    upper_low : ends_within most_levels rows client parent ≡ true
+    upper_low =
+        let place = find-element (has_name client parent) rows upper can.upper_there in
+        let is = IsNamed-row_named rows client parent upper can.upper_there in
+        rw (← is.client_is, ← is.name_is) (was_low place.0 upper place.1)
+
+    low : (i : ℕ) (row : Row) → slice_get rows i ≡ Some row → ends_within most_levels others (hang_it row).client (hang_it row).name ≡ true
+    low i row there = rw (leaves.client row, leaves.name row) (by (nat_eq client row.client) refl)
+      where
+        by : (b : Bool) → nat_eq client row.client ≡ b → ends_within most_levels others row.client row.name ≡ true
+        by true own =
+            let same : client ≡ row.client = eqb-true client row.client own in
+            let was : ends_within most_levels rows client row.name ≡ true = rw same (was_low i row there) in
+            rw (← same) (ends_within-hung rows others client child parent most_levels (IsHung-attach rows client parent child cell upper lower can) upper_low can.no_cycle (ltb-false most_levels (depth_of rows client parent + height_of rows client child) can.not_deep) row.name was)
+        by false own =
+            ends_within-fewer rows others row.client (λ name. Unit {0}) (λ name on. inr (ap parent_in (row_named-changed_other rows client child (hung_in parent cell) row.client name leaves_one (rw own refl)))) (λ name parent on up. tt) most_levels row.name tt (was_low i row there)
+
+-- a parent is a widget
+pub row_named-parent : (rows : List Row) (client : ℕ) (name parent : List ℕ) → IsPlanted rows → parent_of rows client name ≡ Some parent → is_some (row_named rows client parent) ≡ true
+row_named-parent rows client name parent planted up =
+    let lower = HangsIn-from rows client name parent up in
+    let right = hangs_right-at rows lower.row parent lower.cell (all_at (hangs_right rows) rows lower.i lower.row planted.hang lower.there) lower.spot in
+    ap (λ (owner : ℕ). is_some (row_named rows owner parent)) (sym lower.named.client_is) ∙ ap is_some right.found
+
+-- so is the root of a widget
+pub row_named-root : (most : ℕ) (rows : List Row) (client : ℕ) (name : List ℕ) → IsPlanted rows → is_some (row_named rows client name) ≡ true → is_some (row_named rows client (root_in most rows client name)) ≡ true
+row_named-root zero rows client name planted found = found
+row_named-root (suc most) rows client name planted found = by (λ parent h. row_named-root most rows client parent planted h) (parent_of rows client name) refl
+  where
+    by : ((parent : List ℕ) → is_some (row_named rows client parent) ≡ true → is_some (row_named rows client (root_in most rows client parent)) ≡ true) → (o : Option (List ℕ)) → parent_of rows client name ≡ o → is_some (row_named rows client (option_map_or (root_in most rows client) o name)) ≡ true
+    by rest None up = found
+    by rest (Some parent) up = rest parent (row_named-parent rows client name parent planted up)
