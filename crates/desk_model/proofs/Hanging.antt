@@ -119,7 +119,7 @@ find-filter_none p q (y ∷ ys) absent = by (find-filter_none p q ys) (q y) (p y
     by rest true false passes h = rw passes (rest h)
     by rest false false passes h = rest h
 
--- the names that a name test decides
+-- what a test of a name decides
 pub record IsNamed (client : ℕ) (name : List ℕ) (row : Row) : Type 0 where
   pub client_is : row.client ≡ client
   pub name_is : row.name ≡ name
@@ -135,7 +135,7 @@ has_name-own row = and_from _ _ (nat_eq_equiv.refl row.client) (nat_list_eq_equi
 pub IsNamed-row_named : (rows : List Row) (client : ℕ) (name : List ℕ) (row : Row) → row_named rows client name ≡ Some row → IsNamed client name row
 IsNamed-row_named rows client name row there = IsNamed-from client name row (find-passes (has_name client name) rows row there)
 
--- a row that is there under its name, or a change that leaves names
+-- a change that leaves names
 pub record LeavesNames (change : Row → Row) : Type 0 where
   pub client : (row : Row) → (change row).client ≡ row.client
   pub name : (row : Row) → (change row).name ≡ row.name
@@ -173,7 +173,7 @@ row_named-only rows i row named client name apart found there passes =
     let own : row_named rows client name ≡ Some row = rw (← is.client_is, ← is.name_is) (row_named-own rows i row apart there) in
     same_Some row named (sym own ∙ found)
 
--- the names are left by a change of one row that leaves names
+-- so does such a change of the named row alone
 pub LeavesNames-changed : (client : ℕ) (name : List ℕ) (change : Row → Row) → LeavesNames change → LeavesNames (changed client name change)
 LeavesNames-changed client name change leaves =
     record {
@@ -206,6 +206,16 @@ row_named-filter test rows client name kept =
     find-filter (has_name client name) (λ row. test row.client row.name) rows
     (λ row passes. let is = IsNamed-from client name row passes in rw (is.client_is, is.name_is) kept)
 
+-- the parent that a found row names
+abbrev pub parent_in : Option Row → Option (List ℕ)
+parent_in o = option_and_then (λ (row : Row). option_map (λ (spot : List ℕ × Cell). spot.0) row.spot) o
+
+pub parent_in-loose : (row : Row) → row.spot ≡ None → parent_in (Some row) ≡ None
+parent_in-loose row loose = ap (λ (o : Option (List ℕ × Cell)). option_map (λ (spot : List ℕ × Cell). spot.0) o) loose
+
+pub parent_in-same : (row other : Row) → row.spot ≡ other.spot → parent_in (Some row) ≡ parent_in (Some other)
+parent_in-same row other same = ap (λ (o : Option (List ℕ × Cell)). option_map (λ (spot : List ℕ × Cell). spot.0) o) same
+
 -- the row that a parent is the parent of
 pub record HangsIn (rows : List Row) (client : ℕ) (name parent : List ℕ) : Type 0 where
   pub i : ℕ
@@ -219,7 +229,7 @@ pub record HangsIn (rows : List Row) (client : ℕ) (name parent : List ℕ) : T
 pub HangsIn-from : (rows : List Row) (client : ℕ) (name parent : List ℕ) → parent_of rows client name ≡ Some parent → HangsIn rows client name parent
 HangsIn-from rows client name parent h = by (row_named rows client name) refl h
   where
-    by : (o : Option Row) → row_named rows client name ≡ o → option_and_then (λ (row : Row). option_map (λ (spot : List ℕ × Cell). spot.0) row.spot) o ≡ Some parent → HangsIn rows client name parent
+    by : (o : Option Row) → row_named rows client name ≡ o → parent_in o ≡ Some parent → HangsIn rows client name parent
     by None found h = absurd (cc)
     by (Some row) found h = inside row.spot refl h
       where

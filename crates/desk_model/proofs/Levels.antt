@@ -1,17 +1,19 @@
 -- How far going up from a widget goes, after widgets were hung in others, taken out or left out; and how deep a tree is.
-use Rattle.std.proofs.Common.{◌≡◌, ℕ, zero, suc, ◌+◌, ◌<◌, ◌≤◌, max, Bool, true, false, cond, ◌&&◌, ◌||◌, nat_eq, List, [], ◌∷◌, Option, Some, None, refl, sym, ap, ◌∙◌, arith, slice_get, ◌⊎◌, inl, inr}
-use Rattle.std.proofs.lemmas.Bool.{true≢false, and_from, or_parts}
+use Rattle.std.proofs.Common.{◌≡◌, ℕ, zero, suc, ◌+◌, ◌<◌, ◌≤◌, max, Bool, true, false, cond, ◌&&◌, ◌||◌, nat_eq, List, [], ◌∷◌, ◌++◌, Option, Some, None, refl, sym, ap, ◌∙◌, arith, slice_get, ◌⊎◌, inl, inr}
+use Rattle.std.proofs.lemmas.Bool.{true≢false, or_parts, cond-true}
+use Rattle.std.proofs.lemmas.List.Folds.{find-append}
 use Rattle.std.proofs.lemmas.Option.{same_Some}
 use Rattle.std.proofs.lemmas.Slice.Eq.{bytes_eq-Decides}
 use Rattle.std.specs.Cmp.{nat_eq_equiv}
 use Rattle.std.specs.Cmp.Lexicographic.{nat_list_eq_equiv}
-use Rattle.std.specs.Option.{option_map_or, option_map, option_and_then}
+use Rattle.std.specs.Option.{option_map_or, option_map, option_or}
 use Rattle.std.specs.Str.{bytes_eq}
 use Rattle.kind_core.specs.declared.shapes.Cell.{Cell}
 use Rattle.desk_model.specs.Rows.{Row}
-use Rattle.desk_model.specs.Named.{row_named}
-use Rattle.desk_model.specs.Trees.{parent_of, is_child, depth_in, height_in, is_above_in, greatest_child, ends_within}
-use Rattle.desk_model.proofs.Hanging.{HangsIn, HangsIn-from, HangsIn-child}
+use Rattle.desk_model.specs.Named.{has_name, row_named, with_named}
+use Rattle.desk_model.specs.Trees.{parent_of, is_child, depth_in, height_in, is_above_in, greatest_child, ends_within, most_levels}
+use Rattle.desk_model.proofs.Hanging.{find-passes, LeavesNames, changed, row_named-map, LeavesNames-changed, row_named-changed_other, parent_in, parent_in-loose, HangsIn, HangsIn-from, HangsIn-child}
+use Rattle.desk_model.proofs.Cells.{hung_in, CanHang, spot_of_alone}
 
 -- the greatest child is no less than each, and no greater than what bounds them all
 pub greatest_child-each : (measure : List ℕ → ℕ) (client : ℕ) (name : List ℕ) (rows : List Row) (i : ℕ) (row : Row) → slice_get rows i ≡ Some row → is_child client name row ≡ true → measure row.name ≤ greatest_child measure client name rows
@@ -40,10 +42,10 @@ ends_within-up : (most : ℕ) (rows : List Row) (client : ℕ) (name parent : Li
 ends_within-up most rows client name parent hung = ap (λ (o : Option (List ℕ)). option_map_or (ends_within most rows client) o true) hung
 
 -- A way up that ends within some levels ends within more.
-pub ends_within_more : (few most : ℕ) (rows : List Row) (client : ℕ) (name : List ℕ) → few ≤ most → ends_within few rows client name ≡ true → ends_within most rows client name ≡ true
-ends_within_more zero most rows client name less h = absurd (true≢false (sym h))
-ends_within_more (suc few) zero rows client name less h = absurd (omega arith)
-ends_within_more (suc few) (suc most) rows client name less h = by (λ parent up. ends_within_more few most rows client parent (omega arith) up) (parent_of rows client name) h
+pub ends_within-more : (few most : ℕ) (rows : List Row) (client : ℕ) (name : List ℕ) → few ≤ most → ends_within few rows client name ≡ true → ends_within most rows client name ≡ true
+ends_within-more zero most rows client name less h = absurd (true≢false (sym h))
+ends_within-more (suc few) zero rows client name less h = absurd (omega arith)
+ends_within-more (suc few) (suc most) rows client name less h = by (λ parent up. ends_within-more few most rows client parent (omega arith) up) (parent_of rows client name) h
   where
     by : ((parent : List ℕ) → ends_within few rows client parent ≡ true → ends_within most rows client parent ≡ true) → (o : Option (List ℕ)) → option_map_or (ends_within few rows client) o true ≡ true → option_map_or (ends_within most rows client) o true ≡ true
     by rest None h = refl
@@ -115,7 +117,7 @@ Climbs-hung : (rows others : List Row) (client : ℕ) (child parent : List ℕ) 
 Climbs-hung rows others client child parent is deep zero steps name less way h = absurd (omega arith)
 Climbs-hung rows others client child parent is deep (suc most) zero name less way h =
     let new : parent_of others client name ≡ Some parent = rw (← way) is.hung in
-    ends_within-up most others client name parent new ∙ ends_within_more deep most others client parent (omega arith) h
+    ends_within-up most others client name parent new ∙ ends_within-more deep most others client parent (omega arith) h
 Climbs-hung rows others client child parent is deep (suc most) (suc steps) name less way h =
     by (bytes_eq child name) refl (Climbs-hung rows others client child parent is deep most steps way.0 (omega arith) way.2 h)
   where
@@ -153,3 +155,60 @@ ends_within-hung rows others client child parent most is low free short name h =
         let deep = depth_in most rows client parent in
         let parent_low = parent-depth rows others client child parent is most deep parent (omega arith) free low in
         Climbs-hung rows others client child parent is deep most way.0 name (omega arith) way.1 parent_low
+
+-- a widget hung in another
+pub IsHung-attach : (rows : List Row) (client : ℕ) (parent child : List ℕ) (cell : Cell) (upper lower : Row) → CanHang rows client parent child cell upper lower → IsHung rows (with_named client child (hung_in parent cell) rows) client child parent
+IsHung-attach rows client parent child cell upper lower can =
+    record {
+      alone = ap parent_in can.lower_there ∙ parent_in-loose lower (spot_of_alone lower can.stands_alone);
+      hung = ap parent_in new;
+      same = λ name differs. ap parent_in (row_named-changed_other rows client child (hung_in parent cell) client name leaves (rw differs (none (nat_eq client client))));
+    }
+  where
+    leaves : LeavesNames (hung_in parent cell)
+    leaves = record { client = λ row. refl; name = λ row. refl }
+
+    none : (b : Bool) → (b && false) ≡ false
+    none true = refl
+    none false = refl
+
+    new : row_named (with_named client child (hung_in parent cell) rows) client child ≡ Some (hung_in parent cell lower)
+    new =
+        let own : has_name client child lower ≡ true = find-passes (has_name client child) rows lower can.lower_there in
+        row_named-map rows (changed client child (hung_in parent cell)) client child (LeavesNames-changed client child (hung_in parent cell) leaves)
+        ∙ ap (option_map (changed client child (hung_in parent cell))) can.lower_there
+        ∙ ap Some (cond-true (has_name client child lower) (hung_in parent cell lower) lower own)
+
+-- a tree has a level at least
+pub some_levels : 1 ≤ most_levels
+unfolding most_levels
+some_levels = omega arith
+
+pub ends_within-alone : (most : ℕ) (rows : List Row) (client : ℕ) (name : List ℕ) → 1 ≤ most → parent_of rows client name ≡ None → ends_within most rows client name ≡ true
+ends_within-alone zero rows client name some alone = absurd (omega arith)
+ends_within-alone (suc most) rows client name some alone = ends_within-top most rows client name alone
+
+-- a new last row that stands alone
+pub parent_of-push : (rows : List Row) (row : Row) (client : ℕ) (name : List ℕ) → row.spot ≡ None → (parent_of (rows ++ row ∷ []) client name ≡ None) ⊎ (parent_of (rows ++ row ∷ []) client name ≡ parent_of rows client name)
+parent_of-push rows row client name loose = by (row_named rows client name) refl (has_name client name row) refl
+  where
+    whole : row_named (rows ++ row ∷ []) client name ≡ option_or (row_named rows client name) (cond (has_name client name row) (Some row) None)
+    whole = find-append (has_name client name) rows (row ∷ [])
+
+    by : (o : Option Row) → row_named rows client name ≡ o → (b : Bool) → has_name client name row ≡ b → (parent_of (rows ++ row ∷ []) client name ≡ None) ⊎ (parent_of (rows ++ row ∷ []) client name ≡ parent_of rows client name)
+    by (Some found) is b named =
+        let same : row_named (rows ++ row ∷ []) client name ≡ row_named rows client name = whole ∙ rw is refl in
+        inr (ap parent_in same)
+    by None is true named =
+        let last : row_named (rows ++ row ∷ []) client name ≡ Some row = whole ∙ rw (is, named) refl in
+        inl (ap parent_in last ∙ parent_in-loose row loose)
+    by None is false named =
+        let absent : row_named (rows ++ row ∷ []) client name ≡ None = whole ∙ rw (is, named) refl in
+        inl (ap parent_in absent)
+
+pub parent_of-push_alone : (rows : List Row) (row : Row) (client : ℕ) (name : List ℕ) → row.spot ≡ None → row_named rows client name ≡ None → parent_of (rows ++ row ∷ []) client name ≡ None
+parent_of-push_alone rows row client name loose absent = by (parent_of-push rows row client name loose)
+  where
+    by : (parent_of (rows ++ row ∷ []) client name ≡ None) ⊎ (parent_of (rows ++ row ∷ []) client name ≡ parent_of rows client name) → parent_of (rows ++ row ∷ []) client name ≡ None
+    by (inl alone) = alone
+    by (inr same) = same ∙ ap parent_in absent

@@ -8,6 +8,6 @@ pub mod Ticks
 pub mod Progress
 pub mod Runs
 pub mod Hanging
-pub mod Levels
 pub mod Cells
+pub mod Levels
 pub mod Planting

@@ -13,53 +13,9 @@ use Rattle.desk_model.specs.Named.{has_name, row_named, with_named, without_name
 use Rattle.desk_model.specs.Trees.{hangs, parent_of, is_child, depth_of, height_of, ends_within, root_in, is_used, links_to, most_levels}
 use Rattle.desk_model.specs.Planted.{hangs_right, has_cell, HaveOwnCells, IsPlanted}
 use Rattle.desk_model.specs.DeskFacts.{AreNamedApart}
-use Rattle.desk_model.proofs.Hanging.{find-passes, find-element, all_at, all_from, none_at, all-filter, IsNamed, IsNamed-row_named, LeavesNames, changed, row_named-map, row_named-only, row_named-changed_other, row_named-filter, LeavesNames-changed, HangsIn, HangsIn-from, IsHungRight, hangs_right-at, hangs_right-from}
-use Rattle.desk_model.proofs.Levels.{ends_within-fewer, IsHung, ends_within-hung}
+use Rattle.desk_model.proofs.Hanging.{find-passes, find-element, all_at, all_from, none_at, all-filter, IsNamed, IsNamed-row_named, LeavesNames, changed, row_named-map, row_named-only, row_named-changed_other, row_named-filter, LeavesNames-changed, parent_in, parent_in-loose, parent_in-same, HangsIn, HangsIn-from, IsHungRight, hangs_right-at, hangs_right-from}
+use Rattle.desk_model.proofs.Levels.{ends_within-fewer, ends_within-hung, IsHung-attach, some_levels, ends_within-alone, parent_of-push, parent_of-push_alone}
 use Rattle.desk_model.proofs.Cells.{Lessens, HaveOwnCells-map, HaveOwnCells-filter, HaveOwnCells-push, HaveOwnCells-attach, hung_in, CanHang, spot_of_alone}
-
--- the parent that a found row names
-abbrev parent_in : Option Row → Option (List ℕ)
-parent_in o = option_and_then (λ (row : Row). option_map (λ (spot : List ℕ × Cell). spot.0) row.spot) o
-
-parent_in-loose : (row : Row) → row.spot ≡ None → parent_in (Some row) ≡ None
-parent_in-loose row loose = ap (λ (o : Option (List ℕ × Cell)). option_map (λ (spot : List ℕ × Cell). spot.0) o) loose
-
-parent_in-same : (row other : Row) → row.spot ≡ other.spot → parent_in (Some row) ≡ parent_in (Some other)
-parent_in-same row other same = ap (λ (o : Option (List ℕ × Cell)). option_map (λ (spot : List ℕ × Cell). spot.0) o) same
-
--- a tree has a level at least
-levels-some : 1 ≤ most_levels
-unfolding most_levels
-levels-some = omega arith
-
-ends_within-alone : (most : ℕ) (rows : List Row) (client : ℕ) (name : List ℕ) → 1 ≤ most → parent_of rows client name ≡ None → ends_within most rows client name ≡ true
-ends_within-alone zero rows client name some alone = absurd (omega arith)
-ends_within-alone (suc most) rows client name some alone = ap (λ (o : Option (List ℕ)). option_map_or (ends_within most rows client) o true) alone
-
--- a new last row that stands alone
-parent_of-push : (rows : List Row) (row : Row) (client : ℕ) (name : List ℕ) → row.spot ≡ None → (parent_of (rows ++ row ∷ []) client name ≡ None) ⊎ (parent_of (rows ++ row ∷ []) client name ≡ parent_of rows client name)
-parent_of-push rows row client name loose = by (row_named rows client name) refl (has_name client name row) refl
-  where
-    whole : row_named (rows ++ row ∷ []) client name ≡ option_or (row_named rows client name) (cond (has_name client name row) (Some row) None)
-    whole = find-append (has_name client name) rows (row ∷ [])
-
-    by : (o : Option Row) → row_named rows client name ≡ o → (b : Bool) → has_name client name row ≡ b → (parent_of (rows ++ row ∷ []) client name ≡ None) ⊎ (parent_of (rows ++ row ∷ []) client name ≡ parent_of rows client name)
-    by (Some found) is b named =
-        let same : row_named (rows ++ row ∷ []) client name ≡ row_named rows client name = whole ∙ rw is refl in
-        inr (ap parent_in same)
-    by None is true named =
-        let last : row_named (rows ++ row ∷ []) client name ≡ Some row = whole ∙ rw (is, named) refl in
-        inl (ap parent_in last ∙ parent_in-loose row loose)
-    by None is false named =
-        let absent : row_named (rows ++ row ∷ []) client name ≡ None = whole ∙ rw (is, named) refl in
-        inl (ap parent_in absent)
-
-parent_of-push_alone : (rows : List Row) (row : Row) (client : ℕ) (name : List ℕ) → row.spot ≡ None → row_named rows client name ≡ None → parent_of (rows ++ row ∷ []) client name ≡ None
-parent_of-push_alone rows row client name loose absent = by (parent_of-push rows row client name loose)
-  where
-    by : (parent_of (rows ++ row ∷ []) client name ≡ None) ⊎ (parent_of (rows ++ row ∷ []) client name ≡ parent_of rows client name) → parent_of (rows ++ row ∷ []) client name ≡ None
-    by (inl alone) = alone
-    by (inr same) = same ∙ ap parent_in absent
 
 pub IsPlanted-push : (rows : List Row) (row : Row) → row.spot ≡ None → row_named rows row.client row.name ≡ None → IsPlanted rows → IsPlanted (rows ++ row ∷ [])
 IsPlanted-push rows row loose absent planted =
@@ -89,7 +45,7 @@ IsPlanted-push rows row loose absent planted =
         (all_at (λ (r : Row). ends_within most_levels rows r.client r.name) rows i other planted.low there)
 
     low_last : ends_within most_levels (rows ++ row ∷ []) row.client row.name ≡ true
-    low_last = ends_within-alone most_levels (rows ++ row ∷ []) row.client row.name levels-some (parent_of-push_alone rows row row.client row.name loose absent)
+    low_last = ends_within-alone most_levels (rows ++ row ∷ []) row.client row.name some_levels (parent_of-push_alone rows row row.client row.name loose absent)
 
 -- a change that leaves rows as they are, or cuts them loose, made of each row
 IsPlanted-map : (rows : List Row) (change : Row → Row) → Lessens change → IsPlanted rows → IsPlanted (map change rows)
@@ -224,29 +180,6 @@ IsPlanted-remove rows client name row found unused planted =
 
 pub IsPlanted-others : (rows : List Row) (client : ℕ) → IsPlanted rows → IsPlanted (rows_of_others client rows)
 IsPlanted-others rows client planted = IsPlanted-filter (λ owner name. not (nat_eq client owner)) rows (λ i row name cell there kept spot. kept) planted
-
--- a widget hung in another
-IsHung-attach : (rows : List Row) (client : ℕ) (parent child : List ℕ) (cell : Cell) (upper lower : Row) → CanHang rows client parent child cell upper lower → IsHung rows (with_named client child (hung_in parent cell) rows) client child parent
-IsHung-attach rows client parent child cell upper lower can =
-    record {
-      alone = ap parent_in can.lower_there ∙ parent_in-loose lower (spot_of_alone lower can.stands_alone);
-      hung = ap parent_in new;
-      same = λ name differs. ap parent_in (row_named-changed_other rows client child (hung_in parent cell) client name leaves (rw differs (none (nat_eq client client))));
-    }
-  where
-    leaves : LeavesNames (hung_in parent cell)
-    leaves = record { client = λ row. refl; name = λ row. refl }
-
-    none : (b : Bool) → (b && false) ≡ false
-    none true = refl
-    none false = refl
-
-    new : row_named (with_named client child (hung_in parent cell) rows) client child ≡ Some (hung_in parent cell lower)
-    new =
-        let own : has_name client child lower ≡ true = find-passes (has_name client child) rows lower can.lower_there in
-        row_named-map rows (changed client child (hung_in parent cell)) client child (LeavesNames-changed client child (hung_in parent cell) leaves)
-        ∙ ap (option_map (changed client child (hung_in parent cell))) can.lower_there
-        ∙ ap Some (cond-true (has_name client child lower) (hung_in parent cell lower) lower own)
 
 pub IsPlanted-attach : (rows : List Row) (client : ℕ) (parent child : List ℕ) (cell : Cell) (upper lower : Row) → AreNamedApart rows → CanHang rows client parent child cell upper lower → IsPlanted rows → IsPlanted (with_named client child (with_spot (Some (parent, cell))) rows)
 IsPlanted-attach rows client parent child cell upper lower apart can planted =
