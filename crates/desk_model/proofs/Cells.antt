@@ -1,14 +1,13 @@
 -- Who is in a cell, and that no two are in one, after rows were put last, changed or left out.
-use Rattle.std.proofs.Common.{◌≡◌, ℕ, zero, suc, Bool, true, false, cond, ◌&&◌, not, nat_eq, nat_lt, ◌+◌, List, [], ◌∷◌, ◌++◌, map, Option, Some, None, is_none, is_some, refl, sym, ap, ◌∙◌, slice_get, ◌⊎◌, inl, inr}
+use Rattle.std.proofs.Common.{◌≡◌, ℕ, zero, suc, Bool, true, false, cond, ◌&&◌, nat_eq, nat_lt, ◌+◌, List, [], ◌∷◌, ◌++◌, map, Option, Some, None, is_none, refl, sym, ap, ◌∙◌, slice_get, ◌⊎◌, inl, inr}
 use Rattle.std.proofs.lemmas.Bool.{true≢false, eqb-true, and_parts, and_from, cond-true, cond-false, false_from_ne_true}
-use Rattle.std.proofs.lemmas.Option.{same_Some, some_pair_parts}
+use Rattle.std.proofs.lemmas.Option.{some_pair_parts}
 use Rattle.std.proofs.lemmas.Slice.Eq.{bytes_eq-Decides}
 use Rattle.std.specs.Cmp.{nat_eq_equiv}
 use Rattle.std.specs.Cmp.Lexicographic.{nat_list_eq_equiv}
 use Rattle.std.specs.List.{find, filter}
 use Rattle.std.specs.Option.{option_map_or}
 use Rattle.std.specs.Str.{bytes_eq}
-use Rattle.kind_core.specs.declared.kinds.Kind.{Kind}
 use Rattle.kind_core.specs.declared.shapes.Cell.{Cell}
 use Rattle.desk_model.specs.Rows.{Row, with_spot}
 use Rattle.desk_model.specs.Named.{has_name, row_named, with_named}
@@ -159,12 +158,12 @@ HaveOwnCells-attach (row ∷ rows) client parent child cell apart free own = (by
     elsewhere other name spot is named stands =
         let place : (parent ≡ name) × (cell ≡ stands.cell) = some_pair_parts parent name cell stands.cell stands.spot in
         let there : StandsIn client parent cell.column cell.row row = record {
-              cell = spot;
-              owner = sym stands.owner ∙ named.client_is;
-              spot = is ∙ ap (λ (above : List ℕ). Some (above, spot)) (sym place.0);
-              column_is = sym stands.column_is ∙ ap (λ (c : Cell). c.column) (sym place.1);
-              line_is = sym stands.line_is ∙ ap (λ (c : Cell). c.row) (sym place.1);
-            } in
+          cell = spot;
+          owner = sym stands.owner ∙ named.client_is;
+          spot = is ∙ ap (λ (above : List ℕ). Some (above, spot)) (sym place.0);
+          column_is = sym stands.column_is ∙ ap (λ (c : Cell). c.column) (sym place.1);
+          line_is = sym stands.line_is ∙ ap (λ (c : Cell). c.row) (sym place.1);
+        } in
         true≢false (sym (stands_at-from client parent cell.column cell.row row there) ∙ here)
 
     by : (b : Bool) → has_name client child row ≡ b → is_alone (with_named client child (hung_in parent cell) rows) (cond b (hung_in parent cell row) row) ≡ true
@@ -172,21 +171,21 @@ HaveOwnCells-attach (row ∷ rows) client parent child cell apart free own = (by
         let is = IsNamed-from client child row named in
         is_alone-from (with_named client child (hung_in parent cell) rows) (hung_in parent cell row)
         (λ name spot where_is.
-            let place : (parent ≡ name) × (cell ≡ spot) = some_pair_parts parent name cell spot where_is in
-            rw (is.client_is, ← place.0, ← place.1)
-            (find-map_none (stands_at client parent cell.column cell.row) (changed client child (hung_in parent cell)) rows
-             (λ i other there. stands_at-changed client parent cell.column cell.row client child (hung_in parent cell) other
-                  (find_none_at (stands_at client parent cell.column cell.row) rows i other free_later there)
-                  (λ twice.
-                      let same : has_name client child other ≡ true = rw (twice.client_is, twice.name_is) (and_from _ _ (nat_eq_equiv.refl client) (nat_list_eq_equiv.refl child)) in
-                      let differs : has_name client child other ≡ false = rw (← is.client_is, ← is.name_is) (none_at (has_name row.client row.name) rows i other apart.0 there) in
-                      absurd (true≢false (sym same ∙ differs))))))
+        let place : (parent ≡ name) × (cell ≡ spot) = some_pair_parts parent name cell spot where_is in
+        rw (is.client_is, ← place.0, ← place.1)
+        (find-map_none (stands_at client parent cell.column cell.row) (changed client child (hung_in parent cell)) rows
+        (λ i other there. stands_at-changed client parent cell.column cell.row client child (hung_in parent cell) other
+        (find_none_at (stands_at client parent cell.column cell.row) rows i other free_later there)
+        (λ twice.
+        let same : has_name client child other ≡ true = rw (twice.client_is, twice.name_is) (and_from _ _ (nat_eq_equiv.refl client) (nat_list_eq_equiv.refl child)) in
+        let differs : has_name client child other ≡ false = rw (← is.client_is, ← is.name_is) (none_at (has_name row.client row.name) rows i other apart.0 there) in
+        absurd (true≢false (sym same ∙ differs))))))
     by false named = is_alone-from (with_named client child (hung_in parent cell) rows) row
         (λ name spot is.
-            find-map_none (stands_at row.client name spot.column spot.row) (changed client child (hung_in parent cell)) rows
-             (λ i other there. stands_at-changed row.client name spot.column spot.row client child (hung_in parent cell) other
-                  (find_none_at (stands_at row.client name spot.column spot.row) rows i other (is_alone-at rows row name spot own.0 is) there)
-                  (λ named. stands_at-hung row.client name spot.column spot.row parent cell other (elsewhere other name spot is named))))
+        find-map_none (stands_at row.client name spot.column spot.row) (changed client child (hung_in parent cell)) rows
+        (λ i other there. stands_at-changed row.client name spot.column spot.row client child (hung_in parent cell) other
+        (find_none_at (stands_at row.client name spot.column spot.row) rows i other (is_alone-at rows row name spot own.0 is) there)
+        (λ named. stands_at-hung row.client name spot.column spot.row parent cell other (elsewhere other name spot is named))))
 
 -- what `place` asks of the two widgets and the cell
 pub record CanHang (rows : List Row) (client : ℕ) (parent child : List ℕ) (cell : Cell) (upper lower : Row) : Type 0 where

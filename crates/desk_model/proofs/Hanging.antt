@@ -1,5 +1,5 @@
 -- Elements found in lists, and rows under their names, after rows were put last, changed or left out.
-use Rattle.std.proofs.Common.{◌≡◌, ℕ, zero, suc, Bool, true, false, cond, ◌&&◌, not, nat_eq, List, [], ◌∷◌, ◌++◌, map, Option, Some, None, is_some, refl, sym, ap, ◌∙◌, subst, slice_get, ◌⊎◌, inl, inr}
+use Rattle.std.proofs.Common.{◌≡◌, ℕ, zero, suc, Bool, true, false, cond, ◌&&◌, nat_eq, List, [], ◌∷◌, ◌++◌, map, Option, Some, None, refl, sym, ap, ◌∙◌, slice_get, ◌⊎◌, inl, inr}
 use Rattle.std.proofs.lemmas.Bool.{true≢false, eqb-true, and_parts, and_from, or_parts, cond-true, cond-false}
 use Rattle.std.proofs.lemmas.List.Folds.{find-append}
 use Rattle.std.proofs.lemmas.Option.{same_Some}
@@ -11,7 +11,7 @@ use Rattle.std.specs.Option.{option_map, option_map_or, option_and_then}
 use Rattle.std.specs.Str.{bytes_eq}
 use Rattle.kind_core.specs.declared.shapes.Cell.{Cell}
 use Rattle.desk_model.specs.Rows.{Row}
-use Rattle.desk_model.specs.Named.{has_name, row_named, with_named, without_named, rows_of_others}
+use Rattle.desk_model.specs.Named.{has_name, row_named, with_named}
 use Rattle.desk_model.specs.Trees.{can_be_child, parent_of, is_child}
 use Rattle.desk_model.specs.Planted.{hangs_right, has_cell}
 use Rattle.desk_model.specs.DeskFacts.{AreNamedApart}

@@ -1,18 +1,15 @@
 -- How far going up from a widget goes, after widgets were hung in others, taken out or left out; and how deep a tree is.
-use Rattle.std.proofs.Common.{◌≡◌, ℕ, zero, suc, ◌+◌, ◌<◌, ◌≤◌, max, Bool, true, false, cond, ◌&&◌, ◌||◌, nat_eq, List, [], ◌∷◌, ◌++◌, Option, Some, None, refl, sym, ap, ◌∙◌, arith, slice_get, ◌⊎◌, inl, inr}
+use Rattle.std.proofs.Common.{◌≡◌, ℕ, zero, suc, ◌+◌, ◌<◌, ◌≤◌, max, Bool, true, false, cond, ◌&&◌, nat_eq, List, [], ◌∷◌, ◌++◌, Option, Some, None, refl, sym, ap, ◌∙◌, arith, slice_get, ◌⊎◌, inl, inr}
 use Rattle.std.proofs.lemmas.Bool.{true≢false, or_parts, cond-true}
 use Rattle.std.proofs.lemmas.List.Folds.{find-append}
-use Rattle.std.proofs.lemmas.Option.{same_Some}
 use Rattle.std.proofs.lemmas.Slice.Eq.{bytes_eq-Decides}
-use Rattle.std.specs.Cmp.{nat_eq_equiv}
-use Rattle.std.specs.Cmp.Lexicographic.{nat_list_eq_equiv}
 use Rattle.std.specs.Option.{option_map_or, option_map, option_or}
 use Rattle.std.specs.Str.{bytes_eq}
 use Rattle.kind_core.specs.declared.shapes.Cell.{Cell}
 use Rattle.desk_model.specs.Rows.{Row}
 use Rattle.desk_model.specs.Named.{has_name, row_named, with_named}
 use Rattle.desk_model.specs.Trees.{parent_of, is_child, depth_in, height_in, is_above_in, greatest_child, ends_within, most_levels}
-use Rattle.desk_model.proofs.Hanging.{find-passes, LeavesNames, changed, row_named-map, LeavesNames-changed, row_named-changed_other, parent_in, parent_in-loose, HangsIn, HangsIn-from, HangsIn-child}
+use Rattle.desk_model.proofs.Hanging.{find-passes, LeavesNames, changed, row_named-map, LeavesNames-changed, row_named-changed_other, parent_in, parent_in-loose, HangsIn-from, HangsIn-child}
 use Rattle.desk_model.proofs.Cells.{hung_in, CanHang, spot_of_alone}
 
 -- the greatest child is no less than each, and no greater than what bounds them all

@@ -1,21 +1,20 @@
 -- What changes of rows leave of how widgets hang in one another.
-use Rattle.std.proofs.Common.{◌≡◌, ℕ, zero, suc, ◌+◌, ◌≤◌, Bool, true, false, cond, ◌&&◌, not, nat_eq, nat_lt, is_some, List, [], ◌∷◌, ◌++◌, map, Option, Some, None, refl, sym, ap, ◌∙◌, arith, slice_get, ◌⊎◌, inl, inr}
-use Rattle.std.proofs.lemmas.Bool.{true≢false, eq-eqb, eqb-true, ltb-false, or_parts, and_from, cond-true, not_from_false}
+use Rattle.std.proofs.Common.{◌≡◌, ℕ, zero, suc, ◌+◌, Bool, true, false, cond, ◌&&◌, not, nat_eq, is_some, List, [], ◌∷◌, ◌++◌, map, Option, Some, None, refl, sym, ap, ◌∙◌, slice_get, ◌⊎◌, inl, inr}
+use Rattle.std.proofs.lemmas.Bool.{eqb-true, ltb-false, or_parts, and_from}
 use Rattle.std.proofs.lemmas.List.Folds.{find-append, list_all-append, list_all-map}
 use Rattle.std.proofs.lemmas.Option.{some_pair_parts}
-use Rattle.std.specs.List.{find, filter, list_all, list_any}
-use Rattle.std.specs.Option.{option_map, option_map_or, option_and_then, option_or}
+use Rattle.std.specs.List.{filter, list_any}
+use Rattle.std.specs.Option.{option_map, option_map_or}
 use Rattle.std.specs.Str.{bytes_eq}
-use Rattle.kind_core.specs.declared.kinds.Kind.{Kind}
 use Rattle.kind_core.specs.declared.shapes.Cell.{Cell}
 use Rattle.desk_model.specs.Rows.{Row, with_spot}
 use Rattle.desk_model.specs.Named.{has_name, row_named, with_named, without_named, rows_of_others}
 use Rattle.desk_model.specs.Trees.{hangs, parent_of, is_child, depth_of, height_of, ends_within, root_in, is_used, links_to, most_levels}
-use Rattle.desk_model.specs.Planted.{hangs_right, has_cell, HaveOwnCells, IsPlanted}
+use Rattle.desk_model.specs.Planted.{hangs_right, IsPlanted}
 use Rattle.desk_model.specs.DeskFacts.{AreNamedApart}
-use Rattle.desk_model.proofs.Hanging.{find-passes, find-element, all_at, all_from, none_at, all-filter, IsNamed, IsNamed-row_named, LeavesNames, changed, row_named-map, row_named-only, row_named-changed_other, row_named-filter, LeavesNames-changed, parent_in, parent_in-loose, parent_in-same, HangsIn, HangsIn-from, IsHungRight, hangs_right-at, hangs_right-from}
+use Rattle.desk_model.proofs.Hanging.{find-element, all_at, all_from, none_at, all-filter, IsNamed-row_named, LeavesNames, changed, row_named-map, row_named-only, row_named-changed_other, row_named-filter, LeavesNames-changed, parent_in, parent_in-loose, parent_in-same, HangsIn-from, IsHungRight, hangs_right-at, hangs_right-from}
 use Rattle.desk_model.proofs.Levels.{ends_within-fewer, ends_within-hung, IsHung-attach, some_levels, ends_within-alone, parent_of-push, parent_of-push_alone}
-use Rattle.desk_model.proofs.Cells.{Lessens, HaveOwnCells-map, HaveOwnCells-filter, HaveOwnCells-push, HaveOwnCells-attach, hung_in, CanHang, spot_of_alone}
+use Rattle.desk_model.proofs.Cells.{Lessens, HaveOwnCells-map, HaveOwnCells-filter, HaveOwnCells-push, HaveOwnCells-attach, hung_in, CanHang}
 
 pub IsPlanted-push : (rows : List Row) (row : Row) → row.spot ≡ None → row_named rows row.client row.name ≡ None → IsPlanted rows → IsPlanted (rows ++ row ∷ [])
 IsPlanted-push rows row loose absent planted =
@@ -32,9 +31,9 @@ IsPlanted-push rows row loose absent planted =
     hangs i other there =
         hangs_right-from (rows ++ row ∷ []) other
         (λ name cell is.
-            let right = hangs_right-at rows other name cell (all_at (hangs_right rows) rows i other planted.hang there) is in
-            let found : row_named (rows ++ row ∷ []) other.client name ≡ Some right.upper = find-append (has_name other.client name) rows (row ∷ []) ∙ rw right.found refl in
-            record { upper = right.upper; can_be_child = right.can_be_child; found = found; has_cell = right.has_cell })
+        let right = hangs_right-at rows other name cell (all_at (hangs_right rows) rows i other planted.hang there) is in
+        let found : row_named (rows ++ row ∷ []) other.client name ≡ Some right.upper = find-append (has_name other.client name) rows (row ∷ []) ∙ rw right.found refl in
+        record { upper = right.upper; can_be_child = right.can_be_child; found = found; has_cell = right.has_cell })
 
     last : hangs_right (rows ++ row ∷ []) row ≡ true
     last = hangs_right-from (rows ++ row ∷ []) row (λ name cell is. absurd (cc (is, loose)))
@@ -89,7 +88,7 @@ IsPlanted-map rows change less planted =
     low i row there =
         rw (less.client row, less.name row)
         (ends_within-fewer rows (map change rows) row.client (λ name. Unit {0}) (λ name on. parents row.client name) (λ name parent on up. tt) most_levels row.name tt
-         (all_at (λ (r : Row). ends_within most_levels rows r.client r.name) rows i row planted.low there))
+        (all_at (λ (r : Row). ends_within most_levels rows r.client r.name) rows i row planted.low there))
 
 Lessens-changed : (client : ℕ) (name : List ℕ) (change : Row → Row) → Lessens change → Lessens (changed client name change)
 Lessens-changed client name change less =
@@ -149,9 +148,9 @@ IsPlanted-filter test rows closed planted =
     hang i row there kept =
         hangs_right-from (filter keeps rows) row
         (λ name cell is.
-            let right = hangs_right-at rows row name cell (all_at (hangs_right rows) rows i row planted.hang there) is in
-            let found : row_named (filter keeps rows) row.client name ≡ Some right.upper = row_named-filter test rows row.client name (closed i row name cell there kept is) ∙ right.found in
-            record { upper = right.upper; can_be_child = right.can_be_child; found = found; has_cell = right.has_cell })
+        let right = hangs_right-at rows row name cell (all_at (hangs_right rows) rows i row planted.hang there) is in
+        let found : row_named (filter keeps rows) row.client name ≡ Some right.upper = row_named-filter test rows row.client name (closed i row name cell there kept is) ∙ right.found in
+        record { upper = right.upper; can_be_child = right.can_be_child; found = found; has_cell = right.has_cell })
 
     goes_on : (client : ℕ) (name parent : List ℕ) → test client name ≡ true → parent_of rows client name ≡ Some parent → test client parent ≡ true
     goes_on client name parent kept up =
@@ -221,24 +220,24 @@ IsPlanted-attach rows client parent child cell upper lower apart can planted =
             let is = IsNamed-row_named rows client child lower can.lower_there in
             hangs_right-from others (hung_in parent cell row)
             (λ name spot where_is.
-                let place : (parent ≡ name) × (cell ≡ spot) = some_pair_parts parent name cell spot where_is in
-                let found : row_named others row.client name ≡ Some (hang_it upper) = rw (same, is.client_is, ← place.0) (found_still client parent upper can.upper_there) in
-                record {
-                  upper = hang_it upper;
-                  can_be_child = rw same can.can_be_child;
-                  found = found;
-                  has_cell = rw (kind upper, ← place.1) can.has_cell;
-                })
+            let place : (parent ≡ name) × (cell ≡ spot) = some_pair_parts parent name cell spot where_is in
+            let found : row_named others row.client name ≡ Some (hang_it upper) = rw (same, is.client_is, ← place.0) (found_still client parent upper can.upper_there) in
+            record {
+              upper = hang_it upper;
+              can_be_child = rw same can.can_be_child;
+              found = found;
+              has_cell = rw (kind upper, ← place.1) can.has_cell;
+            })
         by false named =
             hangs_right-from others row
             (λ name spot is.
-                let right = hangs_right-at rows row name spot (all_at (hangs_right rows) rows i row planted.hang there) is in
-                record {
-                  upper = hang_it right.upper;
-                  can_be_child = right.can_be_child;
-                  found = found_still row.client name right.upper right.found;
-                  has_cell = rw (kind right.upper) right.has_cell;
-                })
+            let right = hangs_right-at rows row name spot (all_at (hangs_right rows) rows i row planted.hang there) is in
+            record {
+              upper = hang_it right.upper;
+              can_be_child = right.can_be_child;
+              found = found_still row.client name right.upper right.found;
+              has_cell = rw (kind right.upper) right.has_cell;
+            })
 
     was_low : (i : ℕ) (row : Row) → slice_get rows i ≡ Some row → ends_within most_levels rows row.client row.name ≡ true
     was_low i row there = all_at (λ (r : Row). ends_within most_levels rows r.client r.name) rows i row planted.low there
