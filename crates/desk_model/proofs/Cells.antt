@@ -129,11 +129,11 @@ pub HaveOwnCells-push : (rows : List Row) (row : Row) → row.spot ≡ None → 
 HaveOwnCells-push [] row alone own = (is_alone-from [] row (λ name cell is. refl), tt)
 HaveOwnCells-push (first ∷ rows) row alone own = (is_alone-from (rows ++ row ∷ []) first (λ name cell is. find-push_none (stands_at first.client name cell.column cell.row) rows row (is_alone-at rows first name cell own.0 is) (stands_at-alone first.client name cell.column cell.row row alone)), HaveOwnCells-push rows row alone own.1)
 
--- Where no row stands in the cell, a row can be hung in it.
+-- the row, hung in that cell of the parent
 abbrev pub hung_in : List ℕ → Cell → Row → Row
 hung_in parent cell row = with_spot (Some (parent, cell)) row
 
--- the row hung there stands in no other cell
+-- a row hung there stands in no other cell
 stands_at-hung : (client : ℕ) (name : List ℕ) (column line : ℕ) (parent : List ℕ) (cell : Cell) (row : Row) → (StandsIn client name column line (hung_in parent cell row) → ⊥) → stands_at client name column line (hung_in parent cell row) ≡ false
 stands_at-hung client name column line parent cell row elsewhere = false_from_ne_true (stands_at client name column line (hung_in parent cell row)) (λ h. elsewhere (StandsIn-from client name column line (hung_in parent cell row) h))
 
@@ -144,6 +144,7 @@ stands_at-changed client name column line target child change row old new = by (
     by true named = new (IsNamed-from target child row named)
     by false named = old
 
+-- Where no row stands in the cell, a row can be hung in it.
 pub HaveOwnCells-attach : (rows : List Row) (client : ℕ) (parent child : List ℕ) (cell : Cell) → AreNamedApart rows → child_in rows client parent cell.column cell.row ≡ None → HaveOwnCells rows → HaveOwnCells (with_named client child (hung_in parent cell) rows)
 HaveOwnCells-attach [] client parent child cell apart free own = tt
 HaveOwnCells-attach (row ∷ rows) client parent child cell apart free own = (by (has_name client child row) refl, HaveOwnCells-attach rows client parent child cell apart.1 free_later own.1)
@@ -154,6 +155,7 @@ HaveOwnCells-attach (row ∷ rows) client parent child cell apart free own = (by
     free_later : child_in rows client parent cell.column cell.row ≡ None
     free_later = find_none_from (stands_at client parent cell.column cell.row) rows (λ i other there. find_none_at (stands_at client parent cell.column cell.row) (row ∷ rows) (suc i) other free there)
 
+    -- a row hung in the cell isn't in the one of this row
     elsewhere : (other : Row) (name : List ℕ) (spot : Cell) → row.spot ≡ Some (name, spot) → IsNamed client child other → StandsIn row.client name spot.column spot.row (hung_in parent cell other) → ⊥
     elsewhere other name spot is named stands =
         let place : (parent ≡ name) × (cell ≡ stands.cell) = some_pair_parts parent name cell stands.cell stands.spot in
@@ -166,26 +168,39 @@ HaveOwnCells-attach (row ∷ rows) client parent child cell apart free own = (by
         } in
         true≢false (sym (stands_at-from client parent cell.column cell.row row there) ∙ here)
 
+    -- no later row has this one's name
+    unlike : (i : ℕ) (other : Row) → slice_get rows i ≡ Some other → IsNamed client child row → IsNamed client child other → ⊥
+    unlike i other there is twice =
+        let same : has_name row.client row.name other ≡ true = rw (is.client_is, is.name_is, twice.client_is, twice.name_is) (and_from _ _ (nat_eq_equiv.refl client) (nat_list_eq_equiv.refl child)) in
+        true≢false (sym same ∙ none_at (has_name row.client row.name) rows i other apart.0 there)
+
+    -- no later row comes into the cell
+    free_still : IsNamed client child row → child_in (with_named client child (hung_in parent cell) rows) client parent cell.column cell.row ≡ None
+    free_still is = find-map_none (stands_at client parent cell.column cell.row) (changed client child (hung_in parent cell)) rows each
+      where
+        each : (i : ℕ) (other : Row) → slice_get rows i ≡ Some other → stands_at client parent cell.column cell.row (changed client child (hung_in parent cell) other) ≡ false
+        each i other there =
+            let old = find_none_at (stands_at client parent cell.column cell.row) rows i other free_later there in
+            stands_at-changed client parent cell.column cell.row client child (hung_in parent cell) other old (λ twice. absurd (unlike i other there is twice))
+
+    -- nor into one in which another row stands
+    own_still : (name : List ℕ) (spot : Cell) → row.spot ≡ Some (name, spot) → child_in (with_named client child (hung_in parent cell) rows) row.client name spot.column spot.row ≡ None
+    own_still name spot is = find-map_none (stands_at row.client name spot.column spot.row) (changed client child (hung_in parent cell)) rows each
+      where
+        each : (i : ℕ) (other : Row) → slice_get rows i ≡ Some other → stands_at row.client name spot.column spot.row (changed client child (hung_in parent cell) other) ≡ false
+        each i other there =
+            let old = find_none_at (stands_at row.client name spot.column spot.row) rows i other (is_alone-at rows row name spot own.0 is) there in
+            stands_at-changed row.client name spot.column spot.row client child (hung_in parent cell) other old (λ named. stands_at-hung row.client name spot.column spot.row parent cell other (elsewhere other name spot is named))
+
     by : (b : Bool) → has_name client child row ≡ b → is_alone (with_named client child (hung_in parent cell) rows) (cond b (hung_in parent cell row) row) ≡ true
-    by true named =
-        let is = IsNamed-from client child row named in
-        is_alone-from (with_named client child (hung_in parent cell) rows) (hung_in parent cell row)
-        (λ name spot where_is.
-        let place : (parent ≡ name) × (cell ≡ spot) = some_pair_parts parent name cell spot where_is in
-        rw (is.client_is, ← place.0, ← place.1)
-        (find-map_none (stands_at client parent cell.column cell.row) (changed client child (hung_in parent cell)) rows
-        (λ i other there. stands_at-changed client parent cell.column cell.row client child (hung_in parent cell) other
-        (find_none_at (stands_at client parent cell.column cell.row) rows i other free_later there)
-        (λ twice.
-        let same : has_name client child other ≡ true = rw (twice.client_is, twice.name_is) (and_from _ _ (nat_eq_equiv.refl client) (nat_list_eq_equiv.refl child)) in
-        let differs : has_name client child other ≡ false = rw (← is.client_is, ← is.name_is) (none_at (has_name row.client row.name) rows i other apart.0 there) in
-        absurd (true≢false (sym same ∙ differs))))))
-    by false named = is_alone-from (with_named client child (hung_in parent cell) rows) row
-        (λ name spot is.
-        find-map_none (stands_at row.client name spot.column spot.row) (changed client child (hung_in parent cell)) rows
-        (λ i other there. stands_at-changed row.client name spot.column spot.row client child (hung_in parent cell) other
-        (find_none_at (stands_at row.client name spot.column spot.row) rows i other (is_alone-at rows row name spot own.0 is) there)
-        (λ named. stands_at-hung row.client name spot.column spot.row parent cell other (elsewhere other name spot is named))))
+    by true named = is_alone-from (with_named client child (hung_in parent cell) rows) (hung_in parent cell row) each
+      where
+        each : (name : List ℕ) (spot : Cell) → (hung_in parent cell row).spot ≡ Some (name, spot) → child_in (with_named client child (hung_in parent cell) rows) row.client name spot.column spot.row ≡ None
+        each name spot where_is =
+            let is = IsNamed-from client child row named in
+            let place : (parent ≡ name) × (cell ≡ spot) = some_pair_parts parent name cell spot where_is in
+            rw (is.client_is, ← place.0, ← place.1) (free_still is)
+    by false named = is_alone-from (with_named client child (hung_in parent cell) rows) row own_still
 
 -- what `place` asks of the two widgets and the cell
 pub record CanHang (rows : List Row) (client : ℕ) (parent child : List ℕ) (cell : Cell) (upper lower : Row) : Type 0 where

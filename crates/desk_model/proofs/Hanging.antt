@@ -1,4 +1,4 @@
--- Elements found in lists, and rows under their names, after rows were put last, changed or left out.
+-- Elements found in lists, rows under their names, and what a row hangs in, after rows were changed or left out.
 use Rattle.std.proofs.Common.{◌≡◌, ℕ, zero, suc, Bool, true, false, cond, ◌&&◌, nat_eq, List, [], ◌∷◌, ◌++◌, map, Option, Some, None, refl, sym, ap, ◌∙◌, slice_get, ◌⊎◌, inl, inr}
 use Rattle.std.proofs.lemmas.Bool.{true≢false, eqb-true, and_parts, and_from, or_parts, cond-true, cond-false}
 use Rattle.std.proofs.lemmas.List.Folds.{find-append}
@@ -144,6 +144,22 @@ pub record LeavesNames (change : Row → Row) : Type 0 where
 abbrev pub changed : ℕ → List ℕ → (Row → Row) → Row → Row
 changed client name change row = cond (has_name client name row) (change row) row
 
+-- it leaves names where the change does
+pub LeavesNames-changed : (client : ℕ) (name : List ℕ) (change : Row → Row) → LeavesNames change → LeavesNames (changed client name change)
+LeavesNames-changed client name change leaves =
+    record {
+      client = λ row. by_client row (has_name client name row);
+      name = λ row. by_name row (has_name client name row);
+    }
+  where
+    by_client : (row : Row) (b : Bool) → (cond b (change row) row).client ≡ row.client
+    by_client row true = leaves.client row
+    by_client row false = refl
+
+    by_name : (row : Row) (b : Bool) → (cond b (change row) row).name ≡ row.name
+    by_name row true = leaves.name row
+    by_name row false = refl
+
 pub row_named-map : (rows : List Row) (change : Row → Row) (client : ℕ) (name : List ℕ) → LeavesNames change → row_named (map change rows) client name ≡ option_map change (row_named rows client name)
 row_named-map rows change client name leaves =
     let same = find-same (λ (row : Row). has_name client name (change row)) (has_name client name) rows (λ i row there. rw (leaves.client row, leaves.name row) refl) in
@@ -172,22 +188,6 @@ row_named-only rows i row named client name apart found there passes =
     let is = IsNamed-from client name row passes in
     let own : row_named rows client name ≡ Some row = rw (← is.client_is, ← is.name_is) (row_named-own rows i row apart there) in
     same_Some row named (sym own ∙ found)
-
--- so does such a change of the named row alone
-pub LeavesNames-changed : (client : ℕ) (name : List ℕ) (change : Row → Row) → LeavesNames change → LeavesNames (changed client name change)
-LeavesNames-changed client name change leaves =
-    record {
-      client = λ row. by_client row (has_name client name row);
-      name = λ row. by_name row (has_name client name row);
-    }
-  where
-    by_client : (row : Row) (b : Bool) → (cond b (change row) row).client ≡ row.client
-    by_client row true = leaves.client row
-    by_client row false = refl
-
-    by_name : (row : Row) (b : Bool) → (cond b (change row) row).name ≡ row.name
-    by_name row true = leaves.name row
-    by_name row false = refl
 
 -- rows of other names are found as they were
 pub row_named-changed_other : (rows : List Row) (client : ℕ) (name : List ℕ) (change : Row → Row) (owner : ℕ) (other : List ℕ) → LeavesNames change → (nat_eq client owner && bytes_eq name other) ≡ false → row_named (with_named client name change rows) owner other ≡ row_named rows owner other

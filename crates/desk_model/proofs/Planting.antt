@@ -28,12 +28,13 @@ IsPlanted-push rows row loose absent planted =
     low_enough other = ends_within most_levels (rows ++ row ∷ []) other.client other.name
 
     hangs : (i : ℕ) (other : Row) → slice_get rows i ≡ Some other → hangs_right (rows ++ row ∷ []) other ≡ true
-    hangs i other there =
-        hangs_right-from (rows ++ row ∷ []) other
-        (λ name cell is.
-        let right = hangs_right-at rows other name cell (all_at (hangs_right rows) rows i other planted.hang there) is in
-        let found : row_named (rows ++ row ∷ []) other.client name ≡ Some right.upper = find-append (has_name other.client name) rows (row ∷ []) ∙ rw right.found refl in
-        record { upper = right.upper; can_be_child = right.can_be_child; found = found; has_cell = right.has_cell })
+    hangs i other there = hangs_right-from (rows ++ row ∷ []) other each
+      where
+        each : (name : List ℕ) (cell : Cell) → other.spot ≡ Some (name, cell) → IsHungRight (rows ++ row ∷ []) other name cell
+        each name cell is =
+            let right = hangs_right-at rows other name cell (all_at (hangs_right rows) rows i other planted.hang there) is in
+            let found : row_named (rows ++ row ∷ []) other.client name ≡ Some right.upper = find-append (has_name other.client name) rows (row ∷ []) ∙ rw right.found refl in
+            record { upper = right.upper; can_be_child = right.can_be_child; found = found; has_cell = right.has_cell }
 
     last : hangs_right (rows ++ row ∷ []) row ≡ true
     last = hangs_right-from (rows ++ row ∷ []) row (λ name cell is. absurd (cc (is, loose)))
@@ -145,12 +146,13 @@ IsPlanted-filter test rows closed planted =
     keeps row = test row.client row.name
 
     hang : (i : ℕ) (row : Row) → slice_get rows i ≡ Some row → keeps row ≡ true → hangs_right (filter keeps rows) row ≡ true
-    hang i row there kept =
-        hangs_right-from (filter keeps rows) row
-        (λ name cell is.
-        let right = hangs_right-at rows row name cell (all_at (hangs_right rows) rows i row planted.hang there) is in
-        let found : row_named (filter keeps rows) row.client name ≡ Some right.upper = row_named-filter test rows row.client name (closed i row name cell there kept is) ∙ right.found in
-        record { upper = right.upper; can_be_child = right.can_be_child; found = found; has_cell = right.has_cell })
+    hang i row there kept = hangs_right-from (filter keeps rows) row each
+      where
+        each : (name : List ℕ) (cell : Cell) → row.spot ≡ Some (name, cell) → IsHungRight (filter keeps rows) row name cell
+        each name cell is =
+            let right = hangs_right-at rows row name cell (all_at (hangs_right rows) rows i row planted.hang there) is in
+            let found : row_named (filter keeps rows) row.client name ≡ Some right.upper = row_named-filter test rows row.client name (closed i row name cell there kept is) ∙ right.found in
+            record { upper = right.upper; can_be_child = right.can_be_child; found = found; has_cell = right.has_cell }
 
     goes_on : (client : ℕ) (name parent : List ℕ) → test client name ≡ true → parent_of rows client name ≡ Some parent → test client parent ≡ true
     goes_on client name parent kept up =
@@ -211,33 +213,25 @@ IsPlanted-attach rows client parent child cell upper lower apart can planted =
     found_still : (owner : ℕ) (name : List ℕ) (row : Row) → row_named rows owner name ≡ Some row → row_named others owner name ≡ Some (hang_it row)
     found_still owner name row found = row_named-map rows hang_it owner name leaves ∙ ap (option_map hang_it) found
 
+    right_old : (i : ℕ) (row : Row) → slice_get rows i ≡ Some row → (name : List ℕ) (spot : Cell) → row.spot ≡ Some (name, spot) → IsHungRight others row name spot
+    right_old i row there name spot is =
+        let right = hangs_right-at rows row name spot (all_at (hangs_right rows) rows i row planted.hang there) is in
+        let found = found_still row.client name right.upper right.found in
+        record { upper = hang_it right.upper; can_be_child = right.can_be_child; found = found; has_cell = rw (kind right.upper) right.has_cell }
+
+    right_new : (row : Row) → row ≡ lower → (name : List ℕ) (spot : Cell) → (hung_in parent cell row).spot ≡ Some (name, spot) → IsHungRight others (hung_in parent cell row) name spot
+    right_new row same name spot where_is =
+        let is = IsNamed-row_named rows client child lower can.lower_there in
+        let place : (parent ≡ name) × (cell ≡ spot) = some_pair_parts parent name cell spot where_is in
+        let found : row_named others row.client name ≡ Some (hang_it upper) = rw (same, is.client_is, ← place.0) (found_still client parent upper can.upper_there) in
+        record { upper = hang_it upper; can_be_child = rw same can.can_be_child; found = found; has_cell = rw (kind upper, ← place.1) can.has_cell }
+
     hang : (i : ℕ) (row : Row) → slice_get rows i ≡ Some row → hangs_right others (hang_it row) ≡ true
     hang i row there = by (has_name client child row) refl
       where
         by : (b : Bool) → has_name client child row ≡ b → hangs_right others (cond b (hung_in parent cell row) row) ≡ true
-        by true named =
-            let same = row_named-only rows i row lower client child apart can.lower_there there named in
-            let is = IsNamed-row_named rows client child lower can.lower_there in
-            hangs_right-from others (hung_in parent cell row)
-            (λ name spot where_is.
-            let place : (parent ≡ name) × (cell ≡ spot) = some_pair_parts parent name cell spot where_is in
-            let found : row_named others row.client name ≡ Some (hang_it upper) = rw (same, is.client_is, ← place.0) (found_still client parent upper can.upper_there) in
-            record {
-              upper = hang_it upper;
-              can_be_child = rw same can.can_be_child;
-              found = found;
-              has_cell = rw (kind upper, ← place.1) can.has_cell;
-            })
-        by false named =
-            hangs_right-from others row
-            (λ name spot is.
-            let right = hangs_right-at rows row name spot (all_at (hangs_right rows) rows i row planted.hang there) is in
-            record {
-              upper = hang_it right.upper;
-              can_be_child = right.can_be_child;
-              found = found_still row.client name right.upper right.found;
-              has_cell = rw (kind right.upper) right.has_cell;
-            })
+        by true named = hangs_right-from others (hung_in parent cell row) (right_new row (row_named-only rows i row lower client child apart can.lower_there there named))
+        by false named = hangs_right-from others row (right_old i row there)
 
     was_low : (i : ℕ) (row : Row) → slice_get rows i ≡ Some row → ends_within most_levels rows row.client row.name ≡ true
     was_low i row there = all_at (λ (r : Row). ends_within most_levels rows r.client r.name) rows i row planted.low there
