@@ -14,3 +14,7 @@ pub mod OthersRows
 pub mod OwnAnswers
 pub mod OwnPart
 pub mod Ample
+pub mod Hanging
+pub mod Cells
+pub mod Levels
+pub mod Planting
