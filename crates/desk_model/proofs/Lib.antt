@@ -8,6 +8,7 @@ pub mod Steps
 pub mod Ticks
 pub mod Progress
 pub mod Runs
+pub mod Naming
 pub mod Counting
 pub mod OwnRows
 pub mod OthersRows
