@@ -37,3 +37,28 @@ pub record IsMisread (client : ℕ) (said : List ℕ) : Type 0 where
 abbrev pub OthersAreMisread : Type 0
 OthersAreMisread =
     (client : ℕ) (said : List ℕ) → IsClient client → IsSayable said → ((command : Command) → ¬ command_line said command) → IsMisread client said
+
+-- what a client said in a line that asks for its command
+pub record WasSaid (line : List ℕ) (client : ℕ) (command : Command) : Type 0 where
+  pub said : List ℕ
+  pub is_line : line ≡ said_by client said
+  pub sayable : IsSayable said
+  pub stands : command_line said command
+
+-- a command that a line asks for is the one that its client said in it
+abbrev pub AskedWasSaid : Type 0
+AskedWasSaid =
+    (line : List ℕ) (client : ℕ) (command : Command) → line_order line ≡ Some (Ask client command) → WasSaid line client command
+
+-- what a client said in a line that is misread
+pub record WasMisread (line : List ℕ) (client place : ℕ) : Type 0 where
+  pub said : List ℕ
+  pub is_line : line ≡ said_by client said
+  pub sayable : IsSayable said
+  pub none : (command : Command) → ¬ command_line said command
+  pub is_place : IsPlace said place
+
+-- a misread line is one in which its client said no command, and the place is that of what it said
+abbrev pub MisreadWasSaid : Type 0
+MisreadWasSaid =
+    (line : List ℕ) (client place : ℕ) → line_order line ≡ Some (Misread client place) → WasMisread line client place
