@@ -12,7 +12,7 @@ use Rattle.desk_model.specs.State.{count_true}
 use Rattle.server_core.specs.Sweeping.{mark_at}
 use Rattle.server_core.specs.Marking.{MarkedTo, MarkedAll, shown_at, shows_at}
 
-or_false : (b : Bool) → b ≡ (b || false)
+pub or_false : (b : Bool) → b ≡ (b || false)
 or_false true = refl
 or_false false = refl
 

@@ -1,5 +1,5 @@
 -- From what a server's parts do to a step of the machine.
-use Rattle.std.proofs.Common.{◌≡◌, ℕ, ◌+◌, ◌-◌, ◌*◌, ◌/◌, ◌%◌, ◌<◌, ◌≤◌, ◌^◌, Bool, true, false, not, ◌&&◌, ◌||◌, cond, List, [], ◌∷◌, length, get_or, set, replicate, refl, sym, ap, ◌∙◌, subst, arith}
+use Rattle.std.proofs.Common.{◌≡◌, ℕ, ◌+◌, ◌-◌, ◌*◌, ◌/◌, ◌%◌, ◌<◌, Bool, true, false, not, ◌&&◌, ◌||◌, cond, List, [], ◌∷◌, length, get_or, set, replicate, refl, sym, ap, ◌∙◌, subst, arith}
 use Rattle.std.proofs.lemmas.Nat.{mul-add-lt, div-mul-add, mod-mul-add}
 use Rattle.cmd_words.specs.declared.inputs.Drew.{Drew}
 use Rattle.cmd_words.specs.declared.replies.Reply.{Reply}
@@ -10,7 +10,7 @@ use Rattle.desk_model.specs.Desk.{Desk, opening_desk}
 use Rattle.desk_model.specs.OpenWindows.{open_windows}
 use Rattle.desk_model.specs.Windows.{shown_by_any, top_at}
 use Rattle.desk_model.specs.Picture.{colour, colour_through}
-use Rattle.desk_model.specs.Reach.{IsTouched, ShowTheSame, is_shown, in_reach}
+use Rattle.desk_model.specs.Reach.{IsTouched, is_shown, in_reach}
 use Rattle.desk_model.specs.Refusing.{is_memory}
 use Rattle.desk_model.specs.Beat.{beat, in_band, band_count}
 use Rattle.desk_model.specs.State.{IsState, count_true, opening}
@@ -26,15 +26,12 @@ use Rattle.desk_model.proofs.Reach.{open_windows-same}
 use Rattle.desk_model.proofs.Telling.{IsTouched-told}
 use Rattle.desk_model.proofs.Steps.{IsState-changed, IsState-ticked}
 use Rattle.server_core.proofs.Sweeps.{SweptTo-count}
+use Rattle.server_core.proofs.Marks.{or_false}
 
 -- what a function of the place gives at the place of the pixel (x, y)
 at_pixel : {X : Type 0} (f : ℕ → ℕ → X) (w x y : ℕ) → x < w → f ((y * w + x) % w) ((y * w + x) / w) ≡ f x y
 at_pixel f w x y within =
     ap (λ m. f m ((y * w + x) / w)) (mod-mul-add y w x within) ∙ ap (λ m. f x m) (div-mul-add y w x within)
-
-or_none : (b : Bool) → b ≡ (b || false)
-or_none true = refl
-or_none false = refl
 
 -- after it has followed, the windows are the desk's open ones
 followed_windows : (before after : Standing) (windows new_windows : List Window) → windows ≡ open_windows before.desk → TellsChange before after → new_windows ≡ cond after.changed (open_windows after.desk) windows → new_windows ≡ open_windows after.desk
@@ -111,7 +108,7 @@ Ticked-from_sweep desk bytes dirt bands queue left new_bytes new_dirt is s none 
           let lost = mark_at dirt k && not (mark_at new_dirt k) in
           s.drawn k (omega (arith, mul-add-lt y desk.shape.width x desk.shape.height hy hx, is.dirt))
           ∙ ap (λ c. cond lost c (get_or bytes k 0)) (at_pixel (λ u v. colour desk u v) desk.shape.width x y hx)
-          ∙ ap (λ b. cond b (colour desk x y) (get_or bytes k 0)) (or_none lost);
+          ∙ ap (λ b. cond b (colour desk x y) (get_or bytes k 0)) (or_false lost);
       dirt = λ x y hx hy on. s.cleans (y * desk.shape.width + x) on;
       bands = none;
       queue = SweptTo-count (colour_under (open_windows desk) desk.shape.width) (desk.shape.budget - bands) bytes dirt queue new_bytes new_dirt s;
