@@ -61,3 +61,17 @@ fn an_event_is_bound(rt: HostRuntime) -> Result<(), Fail> {
     assert_eq!(rt; tree.binding(id, EventKind::Move), Some(tag));
     Ok(())
 }
+
+/// A widget of client 1, under the name.
+fn added(tree: &mut Tree, name: &[u8], kind: Kind) -> Result<Id, Fail>
+    requires { is_joined tree.old.clients 1 ≡ true }
+    ensures joined { is_joined tree.new.clients 1 ≡ true }
+    ensures kept { KeepsLive tree.old tree.new }
+    ensures live { IfOk result (λ id. IsLive tree.new id.key) }
+{
+    let name = name_from(name).ok_or("a name")?;
+    match tree.add(1, name, kind) {
+        Ok(id) => Ok(id),
+        Err(_) => Err(Fail::from("adds")),
+    }
+}
