@@ -1,3 +1,10 @@
 pub mod ShownLemmas
 pub mod ForestLemmas
 pub mod Planting
+pub mod Listed
+pub mod Children
+pub mod Moves
+pub mod Groves
+pub mod Parents
+pub mod Ways
+pub mod Downward

@@ -18,12 +18,11 @@ same_key key other = nat_eq key.0 other.0 && bytes_eq key.1 other.1
 pub record IsIndexed (names : List ((ℕ × List ℕ) × ℕ)) (entries : List (ℕ × Node)) : Type 0 where
   pub finds : (client : ℕ) (name : List ℕ) → lookup (same_key (client, name)) names ≡ id_named entries client name
 
--- what the ways down a tree stand on
-pub record HangTogether (entries : List (ℕ × Row)) (cells : List (Option ℕ)) : Type 0 where
+-- The rows have their own numbers and names and hang right in one another.
+pub record IsGrove (entries : List (ℕ × Row)) : Type 0 where
   pub own_numbers : HaveOwnNumbers (nodes entries)
   pub own_names : HaveOwnNames (nodes entries)
   pub planted : IsPlanted (rows_in entries)
-  pub children : HasChildren entries cells
 
 -- What the parts of a tree keep together. The table of children has places for all numbers of joined clients.
 pub record IsTree (clients : List ℕ) (names : List ((ℕ × List ℕ) × ℕ)) (entries : List (ℕ × Row)) (cells : List (Option ℕ)) : Type 0 where

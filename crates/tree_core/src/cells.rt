@@ -99,7 +99,7 @@ fn lengthen(children: &mut Vec<Option<u32>>, len: usize) -> Result<(), AllocErro
     ensures longer { length children.old.items ≤ length children.new.items }
     ensures reach { OnOk result (len ≤ length children.new.items) }
 {
-    for _place in children.len()..len {
+    for place in children.len()..len {
         children.push(None)?;
     }
     Ok(())

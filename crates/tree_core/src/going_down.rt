@@ -3,8 +3,8 @@ ghost use Rattle.std.specs.Option.{option_map};
 ghost use Rattle.std.specs.List.{list_any};
 ghost use Rattle.desk_model.specs.Trees.{height_in, is_child};
 ghost use Rattle.desk_model.specs.Widgets.{row_at};
-ghost use Rattle.tree_core.specs.Cells.{cells_of, rows_in};
-ghost use Rattle.tree_core.specs.Indexed.{HangTogether};
+ghost use Rattle.tree_core.specs.Cells.{cells_of, rows_in, HasChildren};
+ghost use Rattle.tree_core.specs.Indexed.{IsGrove};
 
 use crate::cells::Cells;
 use crate::store::Store;
@@ -24,7 +24,8 @@ fn cells_of(kind: Kind) -> u32
 
 /// How many levels there are from the live widget down, at most `most`.
 pub(crate) fn height_in(store: &Store, cells: &Cells, most: u32, id: u32) -> u32
-    requires hang { HangTogether store.now cells.now }
+    requires grove { IsGrove store.now }
+    requires children { HasChildren store.now cells.now }
     requires live { IsSome (row_at store.now id) }
     ensures height { option_map (λ row. height_in most (rows_in store.now) row.client row.name) (row_at store.now id) ≡ Some result }
     ensures within { result ≤ most }
@@ -44,7 +45,8 @@ pub(crate) fn height_in(store: &Store, cells: &Cells, most: u32, id: u32) -> u32
 
 /// Whether a widget hangs in the live one.
 pub(crate) fn has_child(store: &Store, cells: &Cells, id: u32) -> bool
-    requires hang { HangTogether store.now cells.now }
+    requires grove { IsGrove store.now }
+    requires children { HasChildren store.now cells.now }
     requires live { IsSome (row_at store.now id) }
     ensures { option_map (λ row. list_any (is_child row.client row.name) (rows_in store.now)) (row_at store.now id) ≡ Some result }
 {

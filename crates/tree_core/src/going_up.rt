@@ -1,13 +1,9 @@
 ghost use Rattle.std.specs.Prelude.{◌≡◌, ◌≤◌, Some, IsSome};
-ghost use Rattle.std.specs.Option.{option_and_then};
-ghost use Rattle.desk_model.specs.Nodes.{id_named};
 ghost use Rattle.desk_model.specs.Trees.{parent_of, depth_in, is_above_in, root_in, most_levels};
 ghost use Rattle.desk_model.specs.Places.{parent_id, root_id};
-ghost use Rattle.desk_model.specs.Planted.{IsPlanted};
-ghost use Rattle.desk_model.specs.Forest.{HaveOwnNumbers};
 ghost use Rattle.desk_model.specs.Widgets.{row_at, nodes};
 ghost use Rattle.tree_core.specs.Cells.{rows_in, widgets_in};
-ghost use Rattle.tree_core.specs.Indexed.{IsIndexed};
+ghost use Rattle.tree_core.specs.Indexed.{IsIndexed, IsGrove};
 
 use crate::names::{Names, number_of};
 use crate::store::Store;
@@ -27,7 +23,7 @@ pub(crate) fn most_levels() -> u32
 /// The name of the named widget's parent.
 fn parent_of(names: &Names, store: &Store, client: u32, name: &Name) -> Option<Name>
     requires indexed { IsIndexed names.now.entries (nodes store.now) }
-    requires numbered { HaveOwnNumbers (nodes store.now) }
+    requires grove { IsGrove store.now }
     ensures { result ≡ parent_of (rows_in store.now) client name.now }
 {
     match number_of(names, store, client, name) {
@@ -42,7 +38,7 @@ fn parent_of(names: &Names, store: &Store, client: u32, name: &Name) -> Option<N
 /// On which level the named widget is, of at most `most`.
 pub(crate) fn depth_in(names: &Names, store: &Store, most: u32, client: u32, name: &Name) -> u32
     requires indexed { IsIndexed names.now.entries (nodes store.now) }
-    requires numbered { HaveOwnNumbers (nodes store.now) }
+    requires grove { IsGrove store.now }
     ensures depth { result ≡ depth_in most (rows_in store.now) client name.now }
     ensures within { result ≤ most }
 {
@@ -65,7 +61,7 @@ pub(crate) fn is_above_in(
     name: &Name,
 ) -> bool
     requires indexed { IsIndexed names.now.entries (nodes store.now) }
-    requires numbered { HaveOwnNumbers (nodes store.now) }
+    requires grove { IsGrove store.now }
     ensures { result ≡ is_above_in most (rows_in store.now) client upper.now name.now }
 {
     if most == 0 {
@@ -83,7 +79,7 @@ pub(crate) fn is_above_in(
 /// The name of the widget that is above the named one and hangs in none, after at most `most` levels.
 fn root_in(names: &Names, store: &Store, most: u32, client: u32, name: &Name) -> Name
     requires indexed { IsIndexed names.now.entries (nodes store.now) }
-    requires numbered { HaveOwnNumbers (nodes store.now) }
+    requires grove { IsGrove store.now }
     ensures { result ≡ root_in most (rows_in store.now) client name.now }
 {
     if most == 0 {
@@ -111,8 +107,7 @@ pub(crate) fn parent_number(names: &Names, store: &Store, id: u32) -> Option<u32
 /// The number of the live widget's root.
 pub(crate) fn root_number(names: &Names, store: &Store, id: u32) -> u32
     requires indexed { IsIndexed names.now.entries (nodes store.now) }
-    requires numbered { HaveOwnNumbers (nodes store.now) }
-    requires planted { IsPlanted (rows_in store.now) }
+    requires grove { IsGrove store.now }
     requires live { IsSome (row_at store.now id) }
     ensures { root_id (widgets_in store.now) id ≡ Some result }
 {

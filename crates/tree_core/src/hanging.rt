@@ -7,7 +7,7 @@ ghost use Rattle.desk_model.specs.Planted.{takes_cell};
 ghost use Rattle.desk_model.specs.Links.{name_at};
 ghost use Rattle.desk_model.specs.Widgets.{row_at, row_kind, row_client, nodes, with_row};
 ghost use Rattle.tree_core.specs.Cells.{cell_place, widgets_in, HasChildren};
-ghost use Rattle.tree_core.specs.Indexed.{IsIndexed, HangTogether};
+ghost use Rattle.tree_core.specs.Indexed.{IsIndexed, IsGrove};
 ghost use Rattle.tree_core.specs.Refusals.{attach_refusal, attach_answer};
 
 use crate::cells::Cells;
@@ -51,7 +51,8 @@ pub(crate) fn attach_refusal(
     cell: Cell,
 ) -> Option<AttachRefusal>
     requires indexed { IsIndexed names.now.entries (nodes store.now) }
-    requires hang { HangTogether store.now cells.now }
+    requires grove { IsGrove store.now }
+    requires children { HasChildren store.now cells.now }
     requires parent { IsSome (row_at store.now parent) }
     requires child { IsSome (row_at store.now child) }
     requires owner { row_client store.now parent ≡ row_client store.now child }
@@ -83,7 +84,8 @@ pub(crate) fn attach_refusal(
 
 /// Hangs the child into that cell of the parent.
 pub(crate) fn hang(store: &mut Store, cells: &mut Cells, parent: u32, child: u32, cell: Cell)
-    requires hang { HangTogether store.old cells.old }
+    requires grove { IsGrove store.old }
+    requires children { HasChildren store.old cells.old }
     requires parent { IsSome (row_at store.old parent) }
     requires child { IsSome (row_at store.old child) }
     requires owner { row_client store.old parent ≡ row_client store.old child }
@@ -91,6 +93,7 @@ pub(crate) fn hang(store: &mut Store, cells: &mut Cells, parent: u32, child: u32
     requires answer { attach_answer (widgets_in store.old) parent child cell ≡ Some None }
     requires within { cell_place parent cell.column cell.row < length cells.old }
     ensures rows { store.new ≡ with_row child (with_spot (option_map (λ name. (name, cell)) (name_at store.old parent))) store.old }
+    ensures grove { IsGrove store.new }
     ensures children { HasChildren store.new cells.new }
     ensures length { length cells.new ≡ length cells.old }
 {
@@ -103,7 +106,8 @@ pub(crate) fn hang(store: &mut Store, cells: &mut Cells, parent: u32, child: u32
 /// Takes the number of the live widget out of the cell in which it hangs.
 fn empty_cell(names: &Names, store: &Store, cells: &mut Cells, child: u32)
     requires indexed { IsIndexed names.now.entries (nodes store.now) }
-    requires hang { HangTogether store.now cells.old }
+    requires grove { IsGrove store.now }
+    requires children { HasChildren store.now cells.old }
     requires child { IsSome (row_at store.now child) }
     ensures children { HasChildren (with_row child (with_spot None) store.now) cells.new }
     ensures length { length cells.new ≡ length cells.old }
@@ -120,9 +124,11 @@ fn empty_cell(names: &Names, store: &Store, cells: &mut Cells, child: u32)
 /// Takes the live widget out of the one in which it hangs.
 pub(crate) fn unhang(names: &Names, store: &mut Store, cells: &mut Cells, child: u32)
     requires indexed { IsIndexed names.now.entries (nodes store.old) }
-    requires hang { HangTogether store.old cells.old }
+    requires grove { IsGrove store.old }
+    requires children { HasChildren store.old cells.old }
     requires child { IsSome (row_at store.old child) }
     ensures rows { store.new ≡ with_row child (with_spot None) store.old }
+    ensures grove { IsGrove store.new }
     ensures children { HasChildren store.new cells.new }
     ensures length { length cells.new ≡ length cells.old }
 {
@@ -132,7 +138,8 @@ pub(crate) fn unhang(names: &Names, store: &mut Store, cells: &mut Cells, child:
 
 /// The number of the child in that column and row of the live widget.
 pub(crate) fn child_number(store: &Store, cells: &Cells, id: u32, column: u32, line: u32) -> Option<u32>
-    requires hang { HangTogether store.now cells.now }
+    requires grove { IsGrove store.now }
+    requires children { HasChildren store.now cells.now }
     requires live { IsSome (row_at store.now id) }
     ensures { result ≡ child_id (widgets_in store.now) id column line }
 {

@@ -3,10 +3,9 @@ ghost use Rattle.std.specs.Option.{option_map};
 ghost use Rattle.std.specs.List.{list_any, filter};
 ghost use Rattle.desk_model.specs.Trees.{links_to, is_used};
 ghost use Rattle.desk_model.specs.Nodes.{is_number_of};
-ghost use Rattle.desk_model.specs.Forest.{HaveOwnNumbers, HaveOwnNames};
 ghost use Rattle.desk_model.specs.Widgets.{row_at, nodes, without_row};
-ghost use Rattle.tree_core.specs.Cells.{rows_in};
-ghost use Rattle.tree_core.specs.Indexed.{IsIndexed, HangTogether};
+ghost use Rattle.tree_core.specs.Cells.{rows_in, HasChildren};
+ghost use Rattle.tree_core.specs.Indexed.{IsIndexed, IsGrove};
 
 use crate::cells::Cells;
 use crate::going_down::has_child;
@@ -42,7 +41,8 @@ fn is_linked(store: &Store, client: u32, name: &Name) -> bool
 
 /// Whether the live widget hangs in another, or has a child, or is linked by another.
 pub(crate) fn is_used(store: &Store, cells: &Cells, id: u32) -> bool
-    requires hang { HangTogether store.now cells.now }
+    requires grove { IsGrove store.now }
+    requires children { HasChildren store.now cells.now }
     requires live { IsSome (row_at store.now id) }
     ensures { option_map (is_used (rows_in store.now)) (row_at store.now id) ≡ Some result }
 {
@@ -53,8 +53,7 @@ pub(crate) fn is_used(store: &Store, cells: &Cells, id: u32) -> bool
 /// Takes out a live row, and its name.
 pub(crate) fn take_out(names: &mut Names, store: &mut Store, id: u32)
     requires indexed { IsIndexed names.old.entries (nodes store.old) }
-    requires numbered { HaveOwnNumbers (nodes store.old) }
-    requires named { HaveOwnNames (nodes store.old) }
+    requires grove { IsGrove store.old }
     requires live { IsSome (row_at store.old id) }
     ensures rows { store.new ≡ without_row id store.old }
     ensures indexed { IsIndexed names.new.entries (nodes store.new) }
