@@ -83,6 +83,16 @@ hangs-child_id es below above column line grove h =
     let number : id_named (nodes es) h.lower.client h.lower.name ≡ Some below = id_named-row es below h.lower grove.own_names h.lower_there in
     rw (h.upper_there, found) number
 
+-- a cell without a number is free
+pub child_in-free : (es : List (ℕ × Row)) (above column line : ℕ) (upper : Row) → IsGrove es → row_at es above ≡ Some upper → child_id (widgets_in es) above column line ≡ None → child_in (rows_in es) upper.client upper.name column line ≡ None
+child_in-free es above column line upper grove there empty =
+    by (child_in (rows_in es) upper.client upper.name column line) refl
+    (sym (ap (option_and_then (λ (row : Row). option_and_then (λ (child : Row). id_named (nodes es) child.client child.name) (child_in (rows_in es) row.client row.name column line))) there) ∙ empty)
+  where
+    by : (o : Option Row) → child_in (rows_in es) upper.client upper.name column line ≡ o → option_and_then (λ (child : Row). id_named (nodes es) child.client child.name) o ≡ None → o ≡ None
+    by None q k = refl
+    by (Some child) q k = let number = child_in-number es upper.client upper.name column line child grove q in absurd (cc)
+
 -- two numbers that are there together or not at all are the same
 pub option_same : (a b : Option ℕ) → ((n : ℕ) → a ≡ Some n → b ≡ Some n) → ((n : ℕ) → b ≡ Some n → a ≡ Some n) → a ≡ b
 option_same None None f g = refl

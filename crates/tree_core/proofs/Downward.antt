@@ -1,13 +1,14 @@
 -- The ways down a tree: the widgets in the cells of one are its children, and their heights make its own.
-use Rattle.std.proofs.Common.{◌≡◌, ℕ, zero, suc, ◌+◌, ◌-◌, ◌*◌, ◌/◌, ◌%◌, ◌<◌, ◌≤◌, ◌⊎◌, inl, inr, max, Bool, true, false, cond, ◌&&◌, nat_eq, List, get_or, Option, Some, None, is_some, refl, sym, ap, ◌∙◌, subst, slice_get, arith}
-use Rattle.std.proofs.lemmas.Bool.{true≢false, eqb-true, eq-eqb, and_parts, and_from, cases_lt}
+use Rattle.std.proofs.Common.{◌≡◌, ℕ, zero, suc, ◌+◌, ◌-◌, ◌*◌, ◌/◌, ◌%◌, ◌<◌, ◌≤◌, ◌⊎◌, inl, inr, max, nat_lt, Bool, true, false, cond, ◌&&◌, nat_eq, List, get_or, Option, Some, None, is_some, refl, sym, ap, ◌∙◌, subst, slice_get, arith, is_lt}
+use Rattle.std.proofs.lemmas.Bool.{true≢false, eqb-true, eq-eqb, and_parts, and_from, cases_lt, ltb-true, ltb-false}
 use Rattle.std.proofs.lemmas.Slice.Eq.{bytes_eq-Decides}
 use Rattle.std.specs.Cmp.{nat_eq_equiv}
 use Rattle.std.specs.Cmp.Lexicographic.{nat_list_eq_equiv}
 use Rattle.std.specs.List.{list_any}
 use Rattle.std.specs.Option.{option_map_or, option_map}
+use Rattle.std.specs.Ordering.{ord_max, nat_cmp}
 use Rattle.std.specs.Str.{bytes_eq}
-use Rattle.kind_core.specs.declared.kinds.Kind.{Kind}
+use Rattle.std.specs.declared.cmp.Ordering.TheVariants.{Less, Equal, Greater}
 use Rattle.kind_core.specs.declared.shapes.Cell.{Cell}
 use Rattle.desk_model.specs.Rows.{Row}
 use Rattle.desk_model.specs.Trees.{is_child, height_in, greatest_child}
@@ -83,7 +84,7 @@ child-cell es cells above place upper lower grove children there placed is =
     record {
       index = index;
       below = number.0;
-      within = rw one h.cell_is.within;
+      within = let kinds : cells_of h.upper.kind ≡ cells_of upper.kind = ap (λ (row : Row). cells_of row.kind) (sym one) in omega (arith, h.cell_is.within, kinds);
       there = ap (λ (n : ℕ). get_or cells n None) at ∙ found;
       lower_there = number.1;
     }
@@ -147,6 +148,15 @@ IsGreatest-child es cells most above index greatest child height grove children 
         let number : child ≡ below = cc in
         let height_is = own lower (ap (row_at es) number ∙ at) in
         omega (arith, height_is)
+
+-- the greater of two numbers, as `max` of an order gives it
+pub ord_max-nat : (a b : ℕ) → ord_max nat_cmp a b ≡ max a b
+ord_max-nat a b = by (nat_lt b a) (nat_eq b a) refl
+  where
+    by : (t e : Bool) → nat_lt b a ≡ t → cond (is_lt (cond t Less (cond e Equal Greater))) a b ≡ max a b
+    by true e q = omega (arith, ltb-true b a q)
+    by false true q = omega (arith, ltb-false b a q)
+    by false false q = omega (arith, ltb-false b a q)
 
 -- all cells give the height
 pub IsGreatest-height : (es : List (ℕ × Row)) (cells : List (Option ℕ)) (most above greatest : ℕ) (upper : Row) → IsGrove es → HasChildren es cells → row_at es above ≡ Some upper → IsGreatest es cells most above (cells_of upper.kind) greatest → height_in (suc most) (rows_in es) upper.client upper.name ≡ 1 + greatest

@@ -48,7 +48,7 @@ pub IsGrove-unhang : (es : List (ℕ × Row)) (id : ℕ) (row : Row) → IsGrove
 IsGrove-unhang es id row grove there = IsGrove-with_row es id (with_spot None) row (λ row. refl) grove there (IsPlanted-detach (rows_in es) row.client row.name grove.planted)
 
 -- the tests behind a refusal, where there is none
-is_none_of : {X : Type 0} (o : Option X) → is_some o ≡ false → o ≡ None
+pub is_none_of : {X : Type 0} (o : Option X) → is_some o ≡ false → o ≡ None
 is_none_of None h = refl
 is_none_of (Some x) h = absurd (true≢false h)
 
@@ -75,6 +75,10 @@ no_attach_refusal rows upper lower cell owner takes upper_there lower_there h =
           not_deep = ap (λ (client : ℕ). nat_lt most_levels (depth_of rows upper.client upper.name + height_of rows client lower.name)) (sym owner) ∙ s;
           cell_free = is_none_of (child_in rows upper.client upper.name cell.column cell.row) t;
         }
+
+-- no refusal is the answer where all tests are passed
+pub attach_answer-none : (es : List (ℕ × Row)) (parent child : ℕ) (cell : Cell) (upper lower : Row) → row_at es parent ≡ Some upper → row_at es child ≡ Some lower → (has_children upper.kind && can_be_child lower.kind) ≡ true → hangs lower ≡ false → is_above (rows_in es) upper.client lower.name upper.name ≡ false → nat_lt most_levels (depth_of (rows_in es) upper.client upper.name + height_of (rows_in es) lower.client lower.name) ≡ false → child_in (rows_in es) upper.client upper.name cell.column cell.row ≡ None → attach_answer (widgets_in es) parent child cell ≡ Some None
+attach_answer-none es parent child cell upper lower upper_there lower_there kinds alone above deep free = rw (upper_there, lower_there, kinds, alone, above, deep, free) refl
 
 -- what the numbered rows are where a child can be hung in a parent
 pub record MayHang (es : List (ℕ × Row)) (parent child : ℕ) (cell : Cell) (upper lower : Row) : Type 0 where
