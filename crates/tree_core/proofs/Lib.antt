@@ -8,3 +8,5 @@ pub mod Groves
 pub mod Parents
 pub mod Ways
 pub mod Downward
+pub mod Taken
+pub mod TakenInTurn

@@ -81,7 +81,11 @@ pub(crate) fn drop_rows(store: &mut Store, client: u32)
 pub(crate) fn drop_names(names: &mut Names, client: u32)
     ensures { names.new.entries ≡ filter (λ entry. not (nat_eq client entry.0.0)) names.old.entries }
 {
-    names.retain(|key, _| client != key.0);
+    names.retain(
+        |key: &(u32, Name), id: &mut u32| -> bool
+            ensures { (result ≡ not (nat_eq client key.now.0)) × (id.new ≡ id.old) }
+        { client != key.0 },
+    );
 }
 
 /// Takes the client out of the joined ones.
