@@ -129,7 +129,7 @@ HaveOwnNames-push (e ∷ es) id node own absent =
     by true p h = absurd (cc)
     by false p h = (p, h)
 
-list_all-push : {X : Type 0} (p : X → Bool) (xs : List X) (x : X) → list_all p xs ≡ true → p x ≡ true → list_all p (xs ++ x ∷ []) ≡ true
+pub list_all-push : {X : Type 0} (p : X → Bool) (xs : List X) (x : X) → list_all p xs ≡ true → p x ≡ true → list_all p (xs ++ x ∷ []) ≡ true
 list_all-push p xs x old new = list_all-append p xs (x ∷ []) ∙ rw (old, new) refl
 
 alike : (a b : Kind) → counts_with a b ≡ true → counts_with a ≡ counts_with b
@@ -406,7 +406,7 @@ kind_named-row (e ∷ es) id row own there = by (kind_named-row es id row own.1)
         rw (← same) (rw own refl)
     by rest false h = other h (is_named row.client row.name (node_of e.1)) refl (rest h)
 
-with_row_absent : (es : List (ℕ × Row)) (id : ℕ) (change : Row → Row) → node_at (nodes es) id ≡ None → with_row id change es ≡ es
+pub with_row_absent : (es : List (ℕ × Row)) (id : ℕ) (change : Row → Row) → node_at (nodes es) id ≡ None → with_row id change es ≡ es
 with_row_absent [] id change absent = refl
 with_row_absent (e ∷ es) id change absent = by (with_row_absent es id change) (nat_eq id e.0) absent
   where

@@ -10,3 +10,6 @@ pub mod Ways
 pub mod Downward
 pub mod Taken
 pub mod TakenInTurn
+pub mod Newcomer
+pub mod Fits
+pub mod TreeKept

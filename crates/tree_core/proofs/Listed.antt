@@ -156,7 +156,7 @@ rows_in-at [] i id row there = absurd (cc)
 rows_in-at (e ∷ es) zero id row there = let same : e ≡ (id, row) = cc in ap (λ (x : ℕ × Row). Some x.1) same
 rows_in-at (e ∷ es) (suc i) id row there = rows_in-at es i id row there
 
-rows_in-push : (es : List (ℕ × Row)) (e : ℕ × Row) → rows_in (es ++ e ∷ []) ≡ rows_in es ++ e.1 ∷ []
+pub rows_in-push : (es : List (ℕ × Row)) (e : ℕ × Row) → rows_in (es ++ e ∷ []) ≡ rows_in es ++ e.1 ∷ []
 rows_in-push [] e = refl
 rows_in-push (f ∷ fs) e = rw (rows_in-push fs e) refl
 
