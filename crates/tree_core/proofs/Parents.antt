@@ -7,12 +7,14 @@ use Rattle.std.specs.Option.{option_map, option_and_then}
 use Rattle.kind_core.specs.declared.shapes.Cell.{Cell}
 use Rattle.desk_model.specs.Rows.{Row, with_spot}
 use Rattle.desk_model.specs.Nodes.{id_named}
-use Rattle.desk_model.specs.Places.{parent_id}
+use Rattle.desk_model.specs.Trees.{root_of}
+use Rattle.desk_model.specs.Places.{parent_id, child_id, root_id}
 use Rattle.desk_model.specs.Widgets.{row_at, nodes, with_row}
 use Rattle.tree_core.specs.Changes.{IsIndex}
-use Rattle.tree_core.specs.Cells.{cell_place, widgets_in, HasChildren}
+use Rattle.tree_core.specs.Cells.{cell_place, rows_in, widgets_in, HasChildren}
 use Rattle.tree_core.specs.Indexed.{IsGrove}
-use Rattle.tree_core.proofs.Children.{HangsIn, spot-hangs, HangsIn-HangsAt, hangs-child_id}
+use Rattle.tree_core.proofs.ForestLemmas.{named-live, row_live}
+use Rattle.tree_core.proofs.Children.{HangsIn, child_id-hangs, spot-hangs, HangsIn-HangsAt, hangs-child_id}
 use Rattle.tree_core.proofs.Moves.{HasChildren-unhang, HasChildren-still}
 use Rattle.tree_core.proofs.Groves.{IsGrove-unhang}
 
@@ -66,3 +68,25 @@ HasChildren-alone es cells id row grove children there alone =
         let same : row ≡ r = cc in
         sym alone ∙ ap (λ (x : Row). x.spot) same
     by other r at false q = refl
+
+-- the number of a parent, a child or a root is live
+pub parent_id-live : (es : List (ℕ × Row)) (id key : ℕ) → parent_id (widgets_in es) id ≡ Some key → is_some (row_at es key) ≡ true
+parent_id-live es id key h = by (row_at es id) h
+  where
+    at : (row : Row) (spot : Option (List ℕ × Cell)) → option_and_then (λ (s : List ℕ × Cell). id_named (nodes es) row.client s.0) spot ≡ Some key → is_some (row_at es key) ≡ true
+    at row None k = absurd (cc)
+    at row (Some s) k = row_live es key ∙ named-live (nodes es) row.client s.0 key k
+
+    by : (o : Option Row) → option_and_then (λ (row : Row). option_and_then (λ (s : List ℕ × Cell). id_named (nodes es) row.client s.0) row.spot) o ≡ Some key → is_some (row_at es key) ≡ true
+    by None k = absurd (cc)
+    by (Some row) k = at row row.spot k
+
+pub child_id-live : (es : List (ℕ × Row)) (id column line key : ℕ) → IsGrove es → child_id (widgets_in es) id column line ≡ Some key → is_some (row_at es key) ≡ true
+child_id-live es id column line key grove h = ap is_some (child_id-hangs es key id column line grove h).lower_there
+
+pub root_id-live : (es : List (ℕ × Row)) (id key : ℕ) → root_id (widgets_in es) id ≡ Some key → is_some (row_at es key) ≡ true
+root_id-live es id key h = by (row_at es id) h
+  where
+    by : (o : Option Row) → option_and_then (λ (row : Row). id_named (nodes es) row.client (root_of (rows_in es) row.client row.name)) o ≡ Some key → is_some (row_at es key) ≡ true
+    by None k = absurd (cc)
+    by (Some row) k = row_live es key ∙ named-live (nodes es) row.client (root_of (rows_in es) row.client row.name) key k

@@ -1,17 +1,19 @@
 -- What the calls leave of the facts on the parts of a tree.
-use Rattle.std.proofs.Common.{◌≡◌, ◌≤◌, ◌*◌, ◌||◌, ℕ, Bool, true, false, cond, nat_eq, is_some, length, get_or, List, [], ◌∷◌, ◌++◌, Option, Some, None, refl, sym, ap, ◌∙◌, subst, arith}
-use Rattle.std.proofs.lemmas.Bool.{true≢false, eqb-true}
+use Rattle.std.proofs.Common.{◌≡◌, ◌≤◌, ◌<◌, ◌+◌, ◌-◌, ◌*◌, ◌||◌, ◌&&◌, nat_le, nat_lt, ℕ, Bool, true, false, cond, nat_eq, is_some, length, get_or, List, [], ◌∷◌, ◌++◌, Option, Some, None, refl, sym, ap, ◌∙◌, subst, arith}
+use Rattle.std.proofs.lemmas.Bool.{true≢false, eqb-true, and_parts, leb-true, ltb-true}
 use Rattle.std.specs.List.{list_all}
 use Rattle.std.specs.Option.{option_map}
 use Rattle.kind_core.specs.declared.kinds.Kind.{Kind}
 use Rattle.kind_core.specs.declared.kinds.Kind.TheVariants.{Grid}
-use Rattle.desk_model.specs.Rows.{Row, with_link, new_row}
-use Rattle.desk_model.specs.Nodes.{Node, node_of, node_at, is_number_of}
+use Rattle.kind_core.specs.declared.shapes.Cell.{Cell}
+use Rattle.desk_model.specs.Rows.{Row, with_link, with_spot, new_row}
+use Rattle.desk_model.specs.Nodes.{Node, node_of, node_at, is_number_of, first_number}
 use Rattle.desk_model.specs.Planted.{IsPlanted}
 use Rattle.desk_model.specs.Fitting.{fits_table}
 use Rattle.desk_model.specs.Links.{ties, leads, all_lead}
 use Rattle.desk_model.specs.Widgets.{Widgets, row_at, nodes, with_row, is_joined, IsLive, IsGrid}
 use Rattle.desk_model.specs.Forest.{IsForest, IsWidgets}
+use Rattle.tree_core.specs.Changes.{IsIndex}
 use Rattle.tree_core.specs.Cells.{cell_place, rows_in, HasChildren}
 use Rattle.tree_core.specs.Indexed.{IsIndexed, IsGrove, IsTree}
 use Rattle.tree_core.specs.Refusals.{add_refusal}
@@ -161,3 +163,53 @@ IsTree-push clients names new_names es cells id client name kind absent allowed 
       children = HasChildren-push es id row absent cells (IsGrove-tree clients names es cells tree) grove refl checks.0 tree.children;
       reach = tree.reach;
     }
+
+-- a widget that is hung in another, or taken out of one
+pub IsTree-spot : (clients : List ℕ) (names : List ((ℕ × List ℕ) × ℕ)) (es : List (ℕ × Row)) (cells new_cells : List (Option ℕ)) (id : ℕ) (spot : Option (List ℕ × Cell)) (row : Row) → row_at es id ≡ Some row → IsGrove (with_row id (with_spot spot) es) → HasChildren (with_row id (with_spot spot) es) new_cells → length new_cells ≡ length cells → IsTree clients names es cells → IsTree clients names (with_row id (with_spot spot) es) new_cells
+IsTree-spot clients names es cells new_cells id spot row there grove children len tree =
+    IsTree-with_row clients names es cells new_cells id (with_spot spot) (λ r. refl)
+    (ap (all_lead (nodes es)) (ties-with_row es id (with_spot spot) (λ r. (refl, refl))) ∙ tree.linked)
+    grove.planted
+    (fitting-with_row es id (with_spot spot) row tree.forest.own_numbers there (fits_at es id row tree.fitting there) tree.fitting)
+    children len tree
+
+-- what holds of all nodes holds of a numbered row's
+pub nodes-all : (p : ℕ × Node → Bool) (es : List (ℕ × Row)) (id : ℕ) (row : Row) → list_all p (nodes es) ≡ true → row_at es id ≡ Some row → p (id, node_of row) ≡ true
+nodes-all p [] id row h there = absurd (cc)
+nodes-all p (e ∷ es) id row h there = by (nodes-all p es id row) (nat_eq id e.0) refl there
+  where
+    parts : (p (e.0, node_of e.1) ≡ true) × (list_all p (nodes es) ≡ true)
+    parts = and_parts (p (e.0, node_of e.1)) (list_all p (nodes es)) h
+
+    by : (list_all p (nodes es) ≡ true → row_at es id ≡ Some row → p (id, node_of row) ≡ true) → (b : Bool) → nat_eq id e.0 ≡ b → cond b (Some e.1) (row_at es id) ≡ Some row → p (id, node_of row) ≡ true
+    by rest true q k =
+        let same : e.1 ≡ row = cc in
+        ap (λ (n : ℕ). p (n, node_of row)) (eqb-true id e.0 q) ∙ ap (λ (r : Row). p (e.0, node_of r)) (sym same) ∙ parts.0
+    by rest false q k = rest parts.1 k
+
+-- whose number a live one is
+pub record IsOwned (clients : List ℕ) (id : ℕ) (row : Row) : Type 0 where
+  pub low : 1 ≤ row.client
+  pub from : 128 * (row.client - 1) ≤ id
+  pub to : id < 128 * row.client
+  pub joined : is_joined clients row.client ≡ true
+
+pub row-owned : (clients : List ℕ) (es : List (ℕ × Row)) (id : ℕ) (row : Row) → IsForest clients (nodes es) → row_at es id ≡ Some row → IsOwned clients id row
+row-owned clients es id row forest there =
+    let own : is_number_of row.client id ≡ true = nodes-all (λ (e : ℕ × Node). is_number_of e.1.client e.0) es id row forest.numbers there in
+    let parts = and_parts (nat_le 1 row.client) (nat_le (first_number row.client) id && nat_lt id (first_number row.client + 128)) own in
+    let ends = and_parts (nat_le (first_number row.client) id) (nat_lt id (first_number row.client + 128)) parts.1 in
+    let low : 1 ≤ row.client = leb-true 1 row.client parts.0 in
+    record {
+      low = low;
+      from = leb-true (first_number row.client) id ends.0;
+      to = omega (arith, ltb-true id (first_number row.client + 128) ends.1);
+      joined = nodes-all (λ (e : ℕ × Node). is_joined clients e.1.client) es id row forest.owners there;
+    }
+
+-- so the table has its places
+pub place_within : (clients : List ℕ) (names : List ((ℕ × List ℕ) × ℕ)) (es : List (ℕ × Row)) (cells : List (Option ℕ)) (id : ℕ) (row : Row) (column line : ℕ) → IsTree clients names es cells → row_at es id ≡ Some row → IsIndex column → IsIndex line → cell_place id column line < length cells
+place_within clients names es cells id row column line tree there c l =
+    let own = row-owned clients es id row tree.forest there in
+    let reach = tree.reach row.client own.joined in
+    omega (arith, c, l, own.to, reach)
