@@ -13,3 +13,5 @@ pub mod TakenInTurn
 pub mod Newcomer
 pub mod Fits
 pub mod TreeKept
+pub mod TakenLinks
+pub mod TreeTaken
