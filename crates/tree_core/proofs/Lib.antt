@@ -15,3 +15,4 @@ pub mod Fits
 pub mod TreeKept
 pub mod TakenLinks
 pub mod TreeTaken
+pub mod Departures
