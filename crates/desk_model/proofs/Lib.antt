@@ -8,3 +8,7 @@ pub mod Ticks
 pub mod Progress
 pub mod Runs
 pub mod Naming
+pub mod Hanging
+pub mod Cells
+pub mod Levels
+pub mod Planting

@@ -20,7 +20,7 @@ use Rattle.tree_core.specs.Changes.{IsIndex}
 use Rattle.tree_core.specs.Cells.{cells_of, rows_in, widgets_in}
 use Rattle.tree_core.specs.Indexed.{IsGrove}
 use Rattle.tree_core.proofs.Listed.{find_place, all_at, listed_number, numbered_place, row_named-row}
-use Rattle.tree_core.proofs.Planting.{child_in-stands, child_in-own}
+use Rattle.desk_model.proofs.Cells.{child_in-stands, child_in-own}
 
 -- the lower of two numbered rows hangs in the upper, in that column and row
 pub record HangsAt (es : List (ℕ × Row)) (below above column line : ℕ) : Type 0 where
@@ -143,7 +143,7 @@ takes_cell-index Frame cell h = let i = one_cell cell h in (i.0, i.1)
 takes_cell-index _ cell h = is_cell-index cell h
 
 -- what a row that hangs says of the one that it hangs in
-pub record HangsIn (es : List (ℕ × Row)) (lower : Row) (name : List ℕ) (cell : Cell) : Type 0 where
+pub record HangsUnder (es : List (ℕ × Row)) (lower : Row) (name : List ℕ) (cell : Cell) : Type 0 where
   pub number : ℕ
   pub upper : Row
   pub upper_there : row_at es number ≡ Some upper
@@ -152,7 +152,7 @@ pub record HangsIn (es : List (ℕ × Row)) (lower : Row) (name : List ℕ) (cel
   pub numbered : id_named (nodes es) lower.client name ≡ Some number
   pub cell_is : IsCellOf upper.kind cell
 
-pub spot-hangs : (es : List (ℕ × Row)) (id : ℕ) (lower : Row) (name : List ℕ) (cell : Cell) → IsGrove es → row_at es id ≡ Some lower → lower.spot ≡ Some (name, cell) → HangsIn es lower name cell
+pub spot-hangs : (es : List (ℕ × Row)) (id : ℕ) (lower : Row) (name : List ℕ) (cell : Cell) → IsGrove es → row_at es id ≡ Some lower → lower.spot ≡ Some (name, cell) → HangsUnder es lower name cell
 spot-hangs es id lower name cell grove there spot =
     let place = numbered_place es id lower there in
     let right : hangs_right (rows_in es) lower ≡ true = all_at (hangs_right (rows_in es)) (rows_in es) place.0 lower grove.planted.hang place.1 in
@@ -160,7 +160,7 @@ spot-hangs es id lower name cell grove there spot =
     let parts = and_parts (can_be_child lower.kind) (option_map_or (λ (parent : Row). has_cell parent.kind cell) (row_named (rows_in es) lower.client name) false) test in
     by (row_named (rows_in es) lower.client name) refl (id_named (nodes es) lower.client name) refl parts.1
   where
-    by : (o : Option Row) → row_named (rows_in es) lower.client name ≡ o → (n : Option ℕ) → id_named (nodes es) lower.client name ≡ n → option_map_or (λ (parent : Row). has_cell parent.kind cell) o false ≡ true → HangsIn es lower name cell
+    by : (o : Option Row) → row_named (rows_in es) lower.client name ≡ o → (n : Option ℕ) → id_named (nodes es) lower.client name ≡ n → option_map_or (λ (parent : Row). has_cell parent.kind cell) o false ≡ true → HangsUnder es lower name cell
     by None q n r h = absurd (true≢false (sym h))
     by (Some upper) q None r h = absurd (let none = row_named-none es lower.client name r in cc)
     by (Some upper) q (Some n) r h =
@@ -176,8 +176,8 @@ spot-hangs es id lower name cell grove there spot =
         }
 
 -- so it hangs there
-pub HangsIn-HangsAt : (es : List (ℕ × Row)) (id : ℕ) (lower : Row) (name : List ℕ) (cell : Cell) → row_at es id ≡ Some lower → lower.spot ≡ Some (name, cell) → (h : HangsIn es lower name cell) → HangsAt es id h.number cell.column cell.row
-HangsIn-HangsAt es id lower name cell there spot h =
+pub HangsUnder-HangsAt : (es : List (ℕ × Row)) (id : ℕ) (lower : Row) (name : List ℕ) (cell : Cell) → row_at es id ≡ Some lower → lower.spot ≡ Some (name, cell) → (h : HangsUnder es lower name cell) → HangsAt es id h.number cell.column cell.row
+HangsUnder-HangsAt es id lower name cell there spot h =
     record {
       upper = h.upper;
       lower = lower;

@@ -19,7 +19,7 @@ use Rattle.tree_core.specs.Cells.{cell_place, rows_in, widgets_in, HasChildren}
 use Rattle.tree_core.specs.Indexed.{same_key, IsIndexed, IsGrove, IsTree}
 use Rattle.tree_core.proofs.ShownLemmas.{none_or_some}
 use Rattle.tree_core.proofs.Children.{HangsAt}
-use Rattle.tree_core.proofs.Planting.{IsPlanted-others}
+use Rattle.desk_model.proofs.Planting.{IsPlanted-others}
 use Rattle.tree_core.proofs.Taken.{kept, nodes-kept, id_named-numbered, id_named-kept, id_named-gone}
 use Rattle.tree_core.proofs.TakenLinks.{linked-kept, HasChildren-kept, row_at-kept}
 use Rattle.tree_core.proofs.TreeKept.{IsGrove-tree, nodes-all}

@@ -18,8 +18,8 @@ use Rattle.tree_core.specs.Cells.{cells_of, cell_place, rows_in, widgets_in, Has
 use Rattle.tree_core.specs.Changes.{IsIndex}
 use Rattle.tree_core.specs.Indexed.{IsGrove}
 use Rattle.tree_core.proofs.Listed.{listed_number, numbered_place, any_at, any_place}
-use Rattle.tree_core.proofs.Children.{HangsAt, child_id-hangs, hangs-child_id, spot-hangs, HangsIn-HangsAt, own_number}
-use Rattle.tree_core.proofs.Planting.{greatest_child-each, greatest_child-most}
+use Rattle.tree_core.proofs.Children.{HangsAt, child_id-hangs, hangs-child_id, spot-hangs, HangsUnder-HangsAt, own_number}
+use Rattle.desk_model.proofs.Levels.{greatest_child-each, greatest_child-most}
 
 -- a numbered row that is a child of another
 pub record IsChildRow (es : List (ℕ × Row)) (upper : Row) (below : ℕ) : Type 0 where
@@ -79,7 +79,7 @@ child-cell es cells above place upper lower grove children there placed is =
     let same : above ≡ h.number = own_number es above h.number upper h.upper grove there h.upper_there (sym spot.2 ∙ h.owner) (sym h.named) in
     let one : upper ≡ h.upper = let q : Some upper ≡ Some h.upper = sym there ∙ ap (row_at es) same ∙ h.upper_there in cc in
     let index : ℕ = (spot.0.column - 1) * 16 + (spot.0.row - 1) in
-    let found = children.each h.number spot.0.column spot.0.row h.cell_is.column h.cell_is.line ∙ hangs-child_id es number.0 h.number spot.0.column spot.0.row grove (HangsIn-HangsAt es number.0 lower upper.name spot.0 number.1 spot.1 h) in
+    let found = children.each h.number spot.0.column spot.0.row h.cell_is.column h.cell_is.line ∙ hangs-child_id es number.0 h.number spot.0.column spot.0.row grove (HangsUnder-HangsAt es number.0 lower upper.name spot.0 number.1 spot.1 h) in
     let at : above * 256 + index ≡ cell_place h.number spot.0.column spot.0.row = rw same (omega arith) in
     record {
       index = index;

@@ -19,7 +19,8 @@ use Rattle.tree_core.specs.Indexed.{IsGrove}
 use Rattle.tree_core.specs.Refusals.{attach_refusal, attach_answer}
 use Rattle.tree_core.proofs.Listed.{AreNamedApart-rows, row_named-row}
 use Rattle.tree_core.proofs.ForestLemmas.{nodes-with_row}
-use Rattle.tree_core.proofs.Planting.{LeavesPlace, CanHang, IsPlanted-change, IsPlanted-attach, IsPlanted-detach}
+use Rattle.desk_model.proofs.Planting.{LeavesPlace, IsPlanted-change, IsPlanted-attach, IsPlanted-detach}
+use Rattle.desk_model.proofs.Cells.{CanHang}
 
 -- a change of the numbered row is a change of the row so named
 pub rows_in-with_row : (es : List (ℕ × Row)) (id : ℕ) (change : Row → Row) (row : Row) → IsGrove es → row_at es id ≡ Some row → rows_in (with_row id change es) ≡ with_named row.client row.name change (rows_in es)

@@ -1,6 +1,5 @@
 pub mod ShownLemmas
 pub mod ForestLemmas
-pub mod Planting
 pub mod Listed
 pub mod Children
 pub mod Moves

@@ -14,7 +14,7 @@ use Rattle.tree_core.specs.Changes.{IsIndex}
 use Rattle.tree_core.specs.Cells.{cell_place, widgets_in, HasChildren}
 use Rattle.tree_core.specs.Indexed.{IsGrove}
 use Rattle.tree_core.proofs.Listed.{row_at-with_row}
-use Rattle.tree_core.proofs.Children.{HangsAt, HangsIn, child_id-hangs, hangs-child_id, option_same, own_number, HangsIn-HangsAt}
+use Rattle.tree_core.proofs.Children.{HangsAt, HangsUnder, child_id-hangs, hangs-child_id, option_same, own_number, HangsUnder-HangsAt}
 
 -- one place is one cell
 pub cell_place-same : (id other column other_column line other_line : ℕ) → IsIndex column → IsIndex other_column → IsIndex line → IsIndex other_line → cell_place id column line ≡ cell_place other other_column other_line → (id ≡ other) × (column ≡ other_column) × (line ≡ other_line)

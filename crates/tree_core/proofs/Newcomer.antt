@@ -13,7 +13,7 @@ use Rattle.tree_core.specs.Cells.{rows_in, widgets_in, HasChildren}
 use Rattle.tree_core.specs.Indexed.{IsGrove}
 use Rattle.tree_core.proofs.Listed.{row_at-push, row_at-last}
 use Rattle.tree_core.proofs.Children.{HangsAt, child_id-hangs, hangs-child_id, option_same, spot-hangs}
-use Rattle.tree_core.proofs.Planting.{IsPlanted-push}
+use Rattle.desk_model.proofs.Planting.{IsPlanted-push}
 
 pub planted-push : (es : List (ℕ × Row)) (id : ℕ) (row : Row) → row.spot ≡ None → id_named (nodes es) row.client row.name ≡ None → IsPlanted (rows_in es) → IsPlanted (rows_in (es ++ (id, row) ∷ []))
 planted-push es id row alone unnamed planted =

@@ -14,7 +14,7 @@ use Rattle.tree_core.specs.Changes.{IsIndex}
 use Rattle.tree_core.specs.Cells.{cell_place, rows_in, widgets_in, HasChildren}
 use Rattle.tree_core.specs.Indexed.{IsGrove}
 use Rattle.tree_core.proofs.ForestLemmas.{named-live, row_live}
-use Rattle.tree_core.proofs.Children.{HangsIn, child_id-hangs, spot-hangs, HangsIn-HangsAt, hangs-child_id}
+use Rattle.tree_core.proofs.Children.{HangsUnder, child_id-hangs, spot-hangs, HangsUnder-HangsAt, hangs-child_id}
 use Rattle.tree_core.proofs.Moves.{HasChildren-unhang, HasChildren-still}
 use Rattle.tree_core.proofs.Groves.{IsGrove-unhang}
 
@@ -47,7 +47,7 @@ pub TakesOut-parent : (es : List (ℕ × Row)) (cells : List (Option ℕ)) (id :
 TakesOut-parent es cells id row name cell parent grove children there spot found =
     let h = spot-hangs es id row name cell grove there spot in
     let same : parent ≡ h.number = let one : Some parent ≡ Some h.number = sym found ∙ parent_id-row es id row name cell there spot ∙ h.numbered in cc in
-    let here = children.each h.number cell.column cell.row h.cell_is.column h.cell_is.line ∙ hangs-child_id es id h.number cell.column cell.row grove (HangsIn-HangsAt es id row name cell there spot h) in
+    let here = children.each h.number cell.column cell.row h.cell_is.column h.cell_is.line ∙ hangs-child_id es id h.number cell.column cell.row grove (HangsUnder-HangsAt es id row name cell there spot h) in
     let within = there_within cells (cell_place h.number cell.column cell.row) id here in
     let own : row.spot ≡ Some (h.upper.name, cell) = spot ∙ ap (λ (n : List ℕ). Some (n, cell)) (sym h.named) in
     record {

@@ -24,7 +24,7 @@ use Rattle.tree_core.specs.Cells.{cell_place, rows_in, widgets_in, HasChildren}
 use Rattle.tree_core.specs.Indexed.{IsIndexed, IsGrove, IsTree}
 use Rattle.tree_core.proofs.Listed.{any_at, numbered_place, row_named-row}
 use Rattle.tree_core.proofs.Children.{HangsAt, child_id-hangs, own_number}
-use Rattle.tree_core.proofs.Planting.{IsPlanted-remove}
+use Rattle.desk_model.proofs.Planting.{IsPlanted-remove}
 use Rattle.tree_core.proofs.Taken.{kept, nodes-kept, list_all-kept, own_numbers-kept, own_names-kept, IsForest-kept, without_row-kept}
 use Rattle.tree_core.proofs.TakenLinks.{linked-kept, HasChildren-kept}
 use Rattle.tree_core.proofs.TreeKept.{IsGrove-tree}

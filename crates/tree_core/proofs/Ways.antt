@@ -14,7 +14,7 @@ use Rattle.desk_model.proofs.Naming.{row_named-found, row_named-none}
 use Rattle.tree_core.specs.Cells.{rows_in, widgets_in}
 use Rattle.tree_core.specs.Indexed.{IsGrove}
 use Rattle.tree_core.proofs.Listed.{row_named-row}
-use Rattle.tree_core.proofs.Planting.{row_named-root}
+use Rattle.desk_model.proofs.Planting.{row_named-root}
 
 -- the parent of a name is what the row under the name's number says
 pub parent_of-found : (es : List (ℕ × Row)) (client : ℕ) (name : List ℕ) (id : ℕ) (row : Row) → IsGrove es → id_named (nodes es) client name ≡ Some id → row_at es id ≡ Some row → parent_of (rows_in es) client name ≡ option_map (λ (spot : List ℕ × Cell). spot.0) row.spot
