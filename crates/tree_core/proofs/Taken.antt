@@ -128,11 +128,11 @@ pub id_named-kept : (test : ℕ → Bool) (es : List (ℕ × Row)) (client : ℕ
 id_named-kept test es client name numbers names still =
     option_same (id_named (nodes (kept test es)) client name) (id_named (nodes es) client name)
     (λ id k.
-      let h = id_named-numbered (kept test es) client name id (own_numbers-kept test es numbers) k in
-      numbered-id_named es client name id names (was h.row id h.there h.client_is h.name_is (test id) refl))
+    let h = id_named-numbered (kept test es) client name id (own_numbers-kept test es numbers) k in
+    numbered-id_named es client name id names (was h.row id h.there h.client_is h.name_is (test id) refl))
     (λ id k.
-      let h = id_named-numbered es client name id numbers k in
-      numbered-id_named (kept test es) client name id (own_names-kept test es names) (record { row = h.row; there = row_at-filter es test id ∙ ap (λ (b : Bool). cond b (row_at es id) None) (still id k) ∙ h.there; client_is = h.client_is; name_is = h.name_is }))
+    let h = id_named-numbered es client name id numbers k in
+    numbered-id_named (kept test es) client name id (own_names-kept test es names) (record { row = h.row; there = row_at-filter es test id ∙ ap (λ (b : Bool). cond b (row_at es id) None) (still id k) ∙ h.there; client_is = h.client_is; name_is = h.name_is }))
   where
     was : (row : Row) (id : ℕ) → row_at (kept test es) id ≡ Some row → row.client ≡ client → row.name ≡ name → (b : Bool) → test id ≡ b → IsNumbered es client name id
     was row id there client_is name_is true q = record { row = row; there = sym (row_at-filter es test id ∙ ap (λ (b : Bool). cond b (row_at es id) None) q) ∙ there; client_is = client_is; name_is = name_is }

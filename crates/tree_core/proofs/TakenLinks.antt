@@ -97,8 +97,8 @@ linked-kept test es numbers names stays h =
     all_lead-rows (nodes (kept test es)) (kept test es)
     ∙ list_all-from (λ (e : ℕ × Row). leads (nodes (kept test es)) e.1.client e.1.link) (kept test es)
     (λ i e there.
-      let was = row_at-was_kept test es e.0 e.1 (row_at-entry (kept test es) i e.0 e.1 (own_numbers-kept test es numbers) there) in
-      by e.0 e.1 was.0 was.1 e.1.link refl (row-leads es e.0 e.1 h was.1))
+    let was = row_at-was_kept test es e.0 e.1 (row_at-entry (kept test es) i e.0 e.1 (own_numbers-kept test es numbers) there) in
+    by e.0 e.1 was.0 was.1 e.1.link refl (row-leads es e.0 e.1 h was.1))
   where
     by : (id : ℕ) (row : Row) → test id ≡ true → row_at es id ≡ Some row → (link : Option (List ℕ)) → row.link ≡ link → leads (nodes es) row.client link ≡ true → leads (nodes (kept test es)) row.client link ≡ true
     by id row pass there None q k = refl

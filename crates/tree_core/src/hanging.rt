@@ -137,7 +137,13 @@ pub(crate) fn unhang(names: &Names, store: &mut Store, cells: &mut Cells, child:
 }
 
 /// The number of the child in that column and row of the live widget.
-pub(crate) fn child_number(store: &Store, cells: &Cells, id: u32, column: u32, line: u32) -> Option<u32>
+pub(crate) fn child_number(
+    store: &Store,
+    cells: &Cells,
+    id: u32,
+    column: u32,
+    line: u32,
+) -> Option<u32>
     requires grove { IsGrove store.now }
     requires children { HasChildren store.now cells.now }
     requires live { IsSome (row_at store.now id) }

@@ -293,11 +293,24 @@ impl Tree {
         ensures kept { KeepsLive self.old self.new }
         ensures valid { IsWidgets self.new }
     {
-        match attach_refusal(&self.names, &self.store, &self.cells, parent.key, child.key, cell) {
+        match attach_refusal(
+            &self.names,
+            &self.store,
+            &self.cells,
+            parent.key,
+            child.key,
+            cell,
+        ) {
             Some(refusal) => return Err(refusal),
             None => {}
         }
-        hang(&mut self.store, &mut self.cells, parent.key, child.key, cell);
+        hang(
+            &mut self.store,
+            &mut self.cells,
+            parent.key,
+            child.key,
+            cell,
+        );
         Ok(())
     }
 
