@@ -7,3 +7,4 @@ pub mod Steps
 pub mod Ticks
 pub mod Progress
 pub mod Runs
+pub mod Naming
