@@ -1,0 +1,1 @@
+-- What a command did that leaves the order of the open windows.

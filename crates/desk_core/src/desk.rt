@@ -1,0 +1,98 @@
+ghost use Rattle.std.specs.Prelude.{◌≡◌, ◌≤◌, false, length};
+ghost use Rattle.desk_model.specs.Desk.{opening_desk};
+ghost use Rattle.desk_model.specs.Clients.{step_connect, step_hello};
+ghost use Rattle.desk_core.specs.Standing.{is_memory};
+
+use crate::clients::Clients;
+use cmd_words::{Refusal, Reply};
+use kind_core::Shape;
+use stack_core::Stack;
+use std::alloc::Global;
+use std::marker::Model;
+use tree_core::Tree;
+
+/// The desk: the connected clients, their widgets and the order of the open windows. It answers each client's
+/// command. Contracts see the record `Standing`: the desk of desk_model, and whether the last call changed it.
+/// See docs/MACHINE.md, "The desk".
+#[derive(Drop)]
+pub struct Desk {
+    shape: Shape,
+    clients: Clients,
+    tree: Tree,
+    windows: Stack,
+    changed: bool,
+}
+
+impl Model for Desk {
+    ghost use Rattle.desk_core.specs.Standing.{Standing, desk_of, IsStanding};
+
+    ghost Value = { Standing };
+
+    ghost view = { λ d. record { desk = desk_of d.shape d.tree d.windows; changed = d.changed } };
+
+    ghost invariant = { λ d. IsStanding d.clients d.tree d.windows };
+}
+
+impl Desk {
+    /// A desk with no clients. See docs/MACHINE.md, "The desk".
+    pub fn new(alloc: Global, shape: Shape) -> Desk
+        ensures opening { result.desk ≡ opening_desk shape }
+        ensures changed { result.changed ≡ false }
+    {
+        Desk {
+            shape,
+            clients: Clients::new(),
+            tree: Tree::new(alloc),
+            windows: Stack::new(),
+            changed: false,
+        }
+    }
+
+    /// Connects a client, 1 to 16. Refuses Connected where it is connected, and Memory. See docs/GUIDE.md,
+    /// "Commands".
+    #[tactic(auto, unfolding(desk_model::specs::Clients::step_connect))]
+    pub fn connect(&mut self, client: u32) -> Reply
+        requires low { 1 ≤ client }
+        requires high { client ≤ 16 }
+        ensures step { (result, self.new.desk) ≡ step_connect self.old.desk client (is_memory result) }
+        ensures changed { self.new.changed ≡ false }
+    {
+        self.changed = false;
+        if self.clients.has(client) {
+            return Reply::Refused(Refusal::Connected);
+        }
+        match self.tree.join_client(client) {
+            Ok(()) => {}
+            Err(_) => return Reply::Refused(Refusal::Memory),
+        }
+        self.clients.join(client);
+        Reply::Done
+    }
+
+    /// Connects the least client, 1 to 16, that isn't connected, and answers its number. Refuses Full where
+    /// 16 are connected, and Memory. See docs/GUIDE.md, "Commands".
+    #[tactic(auto, unfolding(desk_model::specs::Clients::step_hello))]
+    pub fn hello(&mut self) -> Reply
+        ensures step { (result, self.new.desk) ≡ step_hello self.old.desk (is_memory result) }
+        ensures changed { self.new.changed ≡ false }
+    {
+        self.changed = false;
+        let client = match self.clients.free() {
+            Some(client) => client,
+            None => return Reply::Refused(Refusal::Full { limit: 16 }),
+        };
+        match self.tree.join_client(client) {
+            Ok(()) => {}
+            Err(_) => return Reply::Refused(Refusal::Memory),
+        }
+        self.clients.join(client);
+        Reply::Number(client as i32)
+    }
+
+    /// The number of connected clients.
+    pub fn live(&self) -> u32
+        ensures { result ≡ length self.now.desk.clients }
+    {
+        self.clients.len()
+    }
+}
