@@ -1,2 +1,4 @@
 pub mod Counting
 pub mod Joins
+pub mod Dids
+pub mod LinkSteps

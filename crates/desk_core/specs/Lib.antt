@@ -1,3 +1,4 @@
 pub mod Joined
 pub mod Standing
 pub mod Did
+pub mod Finding

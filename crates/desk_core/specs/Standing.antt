@@ -1,13 +1,14 @@
 -- What contracts see of the desk: the desk itself, and whether the last call changed it.
-use Rattle.std.specs.Prelude.{ℕ, ◌≡◌, ◌↔◌, Bool, true, false, IsTrue, List, [], map, Option, Some, None}
+use Rattle.std.specs.Prelude.{ℕ, ◌≡◌, ◌↔◌, Bool, true, false, ◌&&◌, nat_le, IsTrue, List, [], map, Option}
 use Rattle.std.specs.List.{list_all}
-use Rattle.std.specs.Option.{option_map, option_map_or}
+use Rattle.std.specs.Option.{option_map_or}
 use Rattle.kind_core.specs.declared.kinds.Kind.{Kind}
 use Rattle.kind_core.specs.declared.shapes.Shape.{Shape}
 use Rattle.cmd_words.specs.declared.replies.Reply.{Reply}
 use Rattle.cmd_words.specs.declared.replies.Reply.TheVariants.{Refused}
 use Rattle.cmd_words.specs.declared.replies.Refusal.TheVariants.{Memory}
 use Rattle.stack_core.specs.Stack.{IsStack}
+use Rattle.desk_model.specs.Rows.{Row}
 use Rattle.desk_model.specs.Nodes.{Node, node_at}
 use Rattle.desk_model.specs.Widgets.{Widgets, nodes, rows_of}
 use Rattle.desk_model.specs.Forest.{IsWidgets}
@@ -50,12 +51,20 @@ desk_of shape widgets keys =
 abbrev pub names_window : List (ℕ × Node) → ℕ → Bool
 names_window entries key = option_map_or (λ node. is_window_kind node.kind) (node_at entries key) false
 
+-- A rule has a size of at most 1,024 pixels and a weight of at most 1,000.
+abbrev pub fits_rule : ℕ × ℕ → Bool
+fits_rule rule = nat_le rule.0 1024 && nat_le rule.1 1000
+
+abbrev pub fits_rules : Row → Bool
+fits_rules row = list_all fits_rule row.column_rules && list_all fits_rule row.row_rules
+
 -- what the parts of a desk keep together
 pub record IsStanding (joined : List ℕ) (widgets : Widgets) (keys : List ℕ) : Type 0 where
   pub clients : joined ≡ widgets.clients
   pub tree : IsWidgets widgets
   pub stack : IsStack keys
   pub windows : list_all (names_window (nodes widgets.entries)) keys ≡ true
+  pub rules : list_all fits_rules (rows_of widgets) ≡ true
 
 -- whether the call says rightly that it changed the rows, the open windows or their order
 abbrev pub TellsChange : Standing → Standing → Type 0

@@ -1,7 +1,10 @@
 //! The desk: the sequential server, which answers each client's command.
 #![tactic(auto)]
 
+mod answer;
 mod clients;
 mod desk;
+mod finding;
+mod linking;
 
 pub use desk::Desk;
