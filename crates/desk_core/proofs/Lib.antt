@@ -2,3 +2,5 @@ pub mod Counting
 pub mod Joins
 pub mod Dids
 pub mod LinkSteps
+pub mod Edits
+pub mod AttrSteps

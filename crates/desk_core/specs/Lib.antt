@@ -2,3 +2,4 @@ pub mod Joined
 pub mod Standing
 pub mod Did
 pub mod Finding
+pub mod Told

@@ -6,5 +6,6 @@ mod clients;
 mod desk;
 mod finding;
 mod linking;
+mod making;
 
 pub use desk::Desk;
