@@ -4,3 +4,4 @@ pub mod Dids
 pub mod LinkSteps
 pub mod Edits
 pub mod AttrSteps
+pub mod MakeSteps
