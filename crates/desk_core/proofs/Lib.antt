@@ -5,3 +5,5 @@ pub mod LinkSteps
 pub mod Edits
 pub mod AttrSteps
 pub mod MakeSteps
+pub mod RuleSteps
+pub mod OpenSteps

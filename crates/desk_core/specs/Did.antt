@@ -4,13 +4,12 @@ use Rattle.std.specs.List.{list_all}
 use Rattle.kind_core.specs.declared.kinds.Kind.{Kind}
 use Rattle.kind_core.specs.declared.shapes.Shape.{Shape}
 use Rattle.cmd_words.specs.declared.replies.Reply.{Reply}
-use Rattle.stack_core.specs.Stack.{IsStack}
 use Rattle.desk_model.specs.Rows.{Row}
 use Rattle.desk_model.specs.Nodes.{node_at, id_named}
 use Rattle.desk_model.specs.Named.{row_named}
 use Rattle.desk_model.specs.Widgets.{Widgets, nodes, rows_of, row_at}
 use Rattle.desk_model.specs.Desk.{Desk}
-use Rattle.desk_core.specs.Standing.{desk_of, names_window, fits_rules}
+use Rattle.desk_core.specs.Standing.{desk_of, fits_rules, IsStanding}
 
 -- the desk with other rows
 abbrev pub with_rows : List Row → Desk → Desk
@@ -24,13 +23,12 @@ pub record Did (step : Desk → Reply × Desk) (old new : Widgets) (reply : Repl
   pub kept : (id : ℕ) → is_some (node_at (nodes old.entries) id) ≡ true → node_at (nodes new.entries) id ≡ node_at (nodes old.entries) id
   pub rules : list_all fits_rules (rows_of old) ≡ true → list_all fits_rules (rows_of new) ≡ true
 
--- The same of the widgets and the open windows.
+-- On the desk of the old widgets and open windows the step gives that reply, and the desk of the new ones, which
+-- keep what holds of them.
 pub record DidAll (step : Desk → Reply × Desk) (old new : Widgets) (keys keys' : List ℕ) (reply : Reply) : Type 0 where
   pub answer : (shape : Shape) → (reply, desk_of shape new keys') ≡ step (desk_of shape old keys)
   pub clients : new.clients ≡ old.clients
-  pub rules : list_all fits_rules (rows_of new) ≡ true
-  pub stack : IsStack keys'
-  pub windows : list_all (names_window (nodes new.entries)) keys' ≡ true
+  pub kept : IsStanding new.clients new keys'
 
 -- The client's widget of that name has that number and kind.
 pub record IsFound (widgets : Widgets) (client : ℕ) (name : List ℕ) (key : ℕ) (kind : Kind) : Type 0 where

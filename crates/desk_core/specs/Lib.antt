@@ -3,3 +3,4 @@ pub mod Standing
 pub mod Did
 pub mod Finding
 pub mod Told
+pub mod Ruling

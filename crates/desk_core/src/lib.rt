@@ -7,5 +7,7 @@ mod desk;
 mod finding;
 mod linking;
 mod making;
+mod opening;
+mod rules;
 
 pub use desk::Desk;

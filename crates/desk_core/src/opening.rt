@@ -1,0 +1,59 @@
+//! The command that opens a window.
+
+ghost use Rattle.std.specs.Prelude.{◌≡◌};
+ghost use Rattle.stack_core.specs.Stack.{holds_key};
+ghost use Rattle.desk_model.specs.Linking.{is_window_kind, step_open};
+ghost use Rattle.desk_core.specs.Standing.{IsStanding};
+ghost use Rattle.desk_core.specs.Did.{DidAll};
+
+use crate::answer::Answer;
+use crate::finding::find;
+use cmd_words::Refusal;
+use kind_core::{Kind, Name};
+use stack_core::Stack;
+use tree_core::Tree;
+
+/// Whether the kind is Window.
+fn is_window(kind: Kind) -> bool
+    ensures { result ≡ is_window_kind kind }
+{
+    matches!(kind, Kind::Window)
+}
+
+/// Whether the window with that number is open.
+pub(crate) fn is_open(windows: &Stack, key: u32) -> bool
+    ensures { result ≡ holds_key windows.now key }
+{
+    for i in 0..windows.len() {
+        match windows.at(i) {
+            Some(other) => {
+                if other == key {
+                    return true;
+                }
+            }
+            None => {}
+        }
+    }
+    false
+}
+
+/// `w.open()`
+pub(crate) fn open_window(tree: &Tree, windows: &mut Stack, client: u32, name: &Name) -> Answer
+    requires { IsStanding tree.now.clients tree.now windows.old }
+    ensures { DidAll (λ desk. step_open desk client name.now) tree.now tree.now windows.old windows.new result.reply }
+{
+    let found = match find(tree, client, name) {
+        Some(found) => found,
+        None => return Answer::refused(Refusal::NoSuchName),
+    };
+    if !is_window(found.kind) {
+        return Answer::refused(Refusal::WrongKind);
+    }
+    if is_open(windows, found.id.key) {
+        return Answer::refused(Refusal::AlreadyOpen);
+    }
+    match windows.push_top(found.id.key) {
+        Ok(()) => Answer::done(true),
+        Err(_) => unreachable!(),
+    }
+}
