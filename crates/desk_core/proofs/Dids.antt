@@ -1,8 +1,8 @@
 -- What a command did: it found its widget or not, it refused, or it changed one row.
-use Rattle.std.proofs.Common.{◌≡◌, ℕ, Bool, true, false, cond, ◌&&◌, nat_eq, List, [], ◌∷◌, Option, Some, None, is_some, refl, sym, ap, ◌∙◌, subst}
-use Rattle.std.proofs.lemmas.Bool.{and_parts, and_from}
+use Rattle.std.proofs.Common.{◌≡◌, ℕ, Bool, true, false, cond, ◌&&◌, nat_eq, List, [], ◌∷◌, Option, Some, None, is_some, refl, sym, ap, ap₂, ◌∙◌, subst}
+use Rattle.std.proofs.lemmas.Bool.{true≢false, and_parts, and_from}
 use Rattle.std.specs.List.{list_all}
-use Rattle.std.specs.Option.{option_map}
+use Rattle.std.specs.Option.{option_map, option_map_or}
 use Rattle.kind_core.specs.declared.kinds.Kind.{Kind}
 use Rattle.cmd_words.specs.declared.replies.Reply.{Reply}
 use Rattle.cmd_words.specs.declared.replies.Reply.TheVariants.{Refused}
@@ -15,8 +15,9 @@ use Rattle.desk_model.specs.Forest.{IsWidgets}
 use Rattle.desk_model.specs.Desk.{Desk}
 use Rattle.desk_model.proofs.Naming.{rows, row_named-found, row_named-parts, rows-with_row}
 use Rattle.tree_core.proofs.ForestLemmas.{nodes-with_row}
-use Rattle.desk_core.specs.Standing.{fits_rules}
-use Rattle.desk_core.specs.Did.{Did, IsFound, with_rows}
+use Rattle.desk_model.specs.Linking.{is_window_kind}
+use Rattle.desk_core.specs.Standing.{windows_at, desk_of, names_window, fits_rules, IsStanding}
+use Rattle.desk_core.specs.Did.{Did, DidAll, IsFound, with_rows}
 
 -- the widget that has the name's number
 pub is_found : (w : Widgets) (client : ℕ) (name : List ℕ) (key : ℕ) (kind : Kind) → IsWidgets w → id_named (nodes w.entries) client name ≡ Some key → option_map (λ (row : Row). row.kind) (row_at w.entries key) ≡ Some kind → IsFound w client name key kind
@@ -64,3 +65,35 @@ done_did step w new client name key change reply is replied left kept id same fi
     let P : Widgets → Type 0 = λ v. Did step w v reply in
     subst P (sym left)
     (edited_did step w client name key change reply kept id same fits (λ desk. answer desk ∙ ap (λ (r : Reply). (r, with_rows (with_named client name change (rows_of w)) desk)) (sym replied)))
+
+-- what was done to the widgets leaves the open windows
+named_windows : (old new : List (ℕ × Node)) (key : ℕ) → ((id : ℕ) → is_some (node_at old id) ≡ true → node_at new id ≡ node_at old id) → names_window old key ≡ true → node_at new key ≡ node_at old key
+named_windows old new key kept window = by (node_at old key) refl window
+  where
+    by : (o : Option Node) → node_at old key ≡ o → option_map_or (λ (node : Node). is_window_kind node.kind) o false ≡ true → node_at new key ≡ node_at old key
+    by None p h = absurd (true≢false (sym h))
+    by (Some node) p h = kept key (ap is_some p)
+
+titles_kept : (old new : List (ℕ × Node)) (keys : List ℕ) → ((id : ℕ) → is_some (node_at old id) ≡ true → node_at new id ≡ node_at old id) → list_all (names_window old) keys ≡ true → windows_at new keys ≡ windows_at old keys
+titles_kept old new [] kept windows = refl
+titles_kept old new (k ∷ ks) kept windows =
+    let parts = and_parts (names_window old k) (list_all (names_window old) ks) windows in
+    rw (named_windows old new k kept parts.0, titles_kept old new ks kept parts.1) refl
+
+windows_kept : (old new : List (ℕ × Node)) (keys : List ℕ) → ((id : ℕ) → is_some (node_at old id) ≡ true → node_at new id ≡ node_at old id) → list_all (names_window old) keys ≡ true → list_all (names_window new) keys ≡ true
+windows_kept old new [] kept windows = refl
+windows_kept old new (k ∷ ks) kept windows =
+    let parts = and_parts (names_window old k) (list_all (names_window old) ks) windows in
+    let here : names_window new k ≡ true = rw (named_windows old new k kept parts.0) parts.0 in
+    and_from _ _ here (windows_kept old new ks kept parts.1)
+
+pub did_all : (step : Desk → Reply × Desk) (old new : Widgets) (keys : List ℕ) (reply : Reply) → Did step old new reply → IsStanding old.clients old keys → IsWidgets new → DidAll step old new keys keys reply
+did_all step old new keys reply did standing valid =
+    let titles = titles_kept (nodes old.entries) (nodes new.entries) keys did.kept standing.windows in
+    record {
+      answer = λ shape.
+          ap₂ (λ (clients : List ℕ) (windows : List (ℕ × List ℕ)). (reply, record (desk_of shape old keys) { clients = clients; rows = rows_of new; windows = windows })) did.clients titles
+          ∙ did.answer (desk_of shape old keys);
+      clients = did.clients;
+      kept = record { clients = refl; tree = valid; stack = standing.stack; windows = windows_kept (nodes old.entries) (nodes new.entries) keys did.kept standing.windows; rules = did.rules standing.rules };
+    }

@@ -7,3 +7,4 @@ pub mod AttrSteps
 pub mod MakeSteps
 pub mod RuleSteps
 pub mod OpenSteps
+pub mod Obeying

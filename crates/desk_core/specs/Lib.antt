@@ -4,3 +4,4 @@ pub mod Did
 pub mod Finding
 pub mod Told
 pub mod Ruling
+pub mod Ready

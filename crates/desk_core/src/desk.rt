@@ -1,10 +1,13 @@
-ghost use Rattle.std.specs.Prelude.{◌≡◌, ◌≤◌, false, length};
+ghost use Rattle.std.specs.Prelude.{◌≡◌, ◌≤◌, true, false, [], length};
 ghost use Rattle.desk_model.specs.Desk.{opening_desk};
 ghost use Rattle.desk_model.specs.Clients.{step_connect, step_hello};
+ghost use Rattle.desk_model.specs.Commands.{is_built, step};
 ghost use Rattle.desk_core.specs.Standing.{is_memory};
+ghost use Rattle.desk_core.specs.Ready.{is_ready};
 
 use crate::clients::Clients;
-use cmd_words::{Refusal, Reply};
+use crate::commands::obey;
+use cmd_words::{Command, Refusal, Reply};
 use kind_core::Shape;
 use stack_core::Stack;
 use std::alloc::Global;
@@ -87,6 +90,34 @@ impl Desk {
         }
         self.clients.join(client);
         Reply::Number(client as i32)
+    }
+
+    /// Answers a client's command, of a client from 1 to 16. Refuses NotConnected where the client isn't
+    /// connected; else each command has its own refusals. See docs/GUIDE.md, "Commands".
+    #[tactic(auto, unfolding(desk_model::specs::Commands::step))]
+    pub fn step(&mut self, client: u32, command: &Command, payload: &[u8]) -> Reply
+        requires low { 1 ≤ client }
+        requires high { client ≤ 16 }
+        requires built { is_built command.now ≡ true }
+        requires ready { is_ready command.now ≡ true }
+        requires bare { payload.now ≡ [] }
+        ensures step { (result, self.new.desk) ≡ step self.old.desk client command.now (is_memory result) }
+    {
+        self.changed = false;
+        if !self.clients.has(client) {
+            return Reply::Refused(Refusal::NotConnected);
+        }
+        let answer = obey(&mut self.tree, &mut self.windows, client, command);
+        self.changed = answer.changed;
+        answer.reply
+    }
+
+    /// Whether the last call that connects a client or answers one changed the rows, the open windows or
+    /// their order.
+    pub fn changed(&self) -> bool
+        ensures { result ≡ self.now.changed }
+    {
+        self.changed
     }
 
     /// The number of connected clients.

@@ -3,6 +3,7 @@
 
 mod answer;
 mod clients;
+mod commands;
 mod desk;
 mod finding;
 mod linking;
