@@ -74,7 +74,7 @@ named_windows old new key kept window = by (node_at old key) refl window
     by None p h = absurd (true≢false (sym h))
     by (Some node) p h = kept key (ap is_some p)
 
-titles_kept : (old new : List (ℕ × Node)) (keys : List ℕ) → ((id : ℕ) → is_some (node_at old id) ≡ true → node_at new id ≡ node_at old id) → list_all (names_window old) keys ≡ true → windows_at new keys ≡ windows_at old keys
+pub titles_kept : (old new : List (ℕ × Node)) (keys : List ℕ) → ((id : ℕ) → is_some (node_at old id) ≡ true → node_at new id ≡ node_at old id) → list_all (names_window old) keys ≡ true → windows_at new keys ≡ windows_at old keys
 titles_kept old new [] kept windows = refl
 titles_kept old new (k ∷ ks) kept windows =
     let parts = and_parts (names_window old k) (list_all (names_window old) ks) windows in

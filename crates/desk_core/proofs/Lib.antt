@@ -8,3 +8,5 @@ pub mod MakeSteps
 pub mod RuleSteps
 pub mod OpenSteps
 pub mod Obeying
+pub mod Tells
+pub mod LinkTells

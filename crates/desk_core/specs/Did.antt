@@ -1,5 +1,5 @@
 -- What a command did.
-use Rattle.std.specs.Prelude.{ℕ, ◌≡◌, true, is_some, List, Option, Some, None}
+use Rattle.std.specs.Prelude.{ℕ, ◌≡◌, ◌↔◌, IsTrue, Bool, true, is_some, List, Option, Some, None}
 use Rattle.std.specs.List.{list_all}
 use Rattle.kind_core.specs.declared.kinds.Kind.{Kind}
 use Rattle.kind_core.specs.declared.shapes.Shape.{Shape}
@@ -9,7 +9,7 @@ use Rattle.desk_model.specs.Nodes.{node_at, id_named}
 use Rattle.desk_model.specs.Named.{row_named}
 use Rattle.desk_model.specs.Widgets.{Widgets, nodes, rows_of, row_at}
 use Rattle.desk_model.specs.Desk.{Desk}
-use Rattle.desk_core.specs.Standing.{desk_of, fits_rules, IsStanding}
+use Rattle.desk_core.specs.Standing.{windows_at, desk_of, fits_rules, IsStanding}
 
 -- the desk with other rows
 abbrev pub with_rows : List Row → Desk → Desk
@@ -22,6 +22,15 @@ pub record Did (step : Desk → Reply × Desk) (old new : Widgets) (reply : Repl
   pub clients : new.clients ≡ old.clients
   pub kept : (id : ℕ) → is_some (node_at (nodes old.entries) id) ≡ true → node_at (nodes new.entries) id ≡ node_at (nodes old.entries) id
   pub rules : list_all fits_rules (rows_of old) ≡ true → list_all fits_rules (rows_of new) ≡ true
+
+-- whether it is told rightly that the rows changed
+abbrev pub TellsRows : Widgets → Widgets → Bool → Type 0
+TellsRows old new changed = IsTrue changed ↔ ¬ (rows_of new ≡ rows_of old)
+
+-- the same of the rows and the open windows
+abbrev pub TellsAll : Widgets → Widgets → List ℕ → List ℕ → Bool → Type 0
+TellsAll old new keys keys' changed =
+    IsTrue changed ↔ ¬ ((rows_of new ≡ rows_of old) × (windows_at (nodes new.entries) keys' ≡ windows_at (nodes old.entries) keys))
 
 -- On the desk of the old widgets and open windows the step gives that reply, and the desk of the new ones, which
 -- keep what holds of them.

@@ -4,7 +4,7 @@ ghost use Rattle.std.specs.Prelude.{◌≡◌, true};
 ghost use Rattle.desk_model.specs.Widgets.{is_joined};
 ghost use Rattle.desk_model.specs.Commands.{row_step};
 ghost use Rattle.desk_core.specs.Standing.{IsStanding, is_memory};
-ghost use Rattle.desk_core.specs.Did.{DidAll};
+ghost use Rattle.desk_core.specs.Did.{DidAll, TellsAll};
 ghost use Rattle.desk_core.specs.Ready.{is_ready};
 
 use crate::answer::Answer;
@@ -21,7 +21,8 @@ pub(crate) fn obey(tree: &mut Tree, windows: &mut Stack, client: u32, command: &
     requires standing { IsStanding tree.old.clients tree.old windows.old }
     requires connected { is_joined tree.old.clients client ≡ true }
     requires ready { is_ready command.now ≡ true }
-    ensures { DidAll (λ desk. row_step desk client command.now (is_memory result.reply)) tree.old tree.new windows.old windows.new result.reply }
+    ensures tells { TellsAll tree.old tree.new windows.old windows.new result.changed }
+    ensures did { DidAll (λ desk. row_step desk client command.now (is_memory result.reply)) tree.old tree.new windows.old windows.new result.reply }
 {
     match command {
         Command::New { name, kind } => make(tree, client, name, *kind),

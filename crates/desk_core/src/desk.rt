@@ -2,7 +2,7 @@ ghost use Rattle.std.specs.Prelude.{◌≡◌, ◌≤◌, true, false, [], lengt
 ghost use Rattle.desk_model.specs.Desk.{opening_desk};
 ghost use Rattle.desk_model.specs.Clients.{step_connect, step_hello};
 ghost use Rattle.desk_model.specs.Commands.{is_built, step};
-ghost use Rattle.desk_core.specs.Standing.{is_memory};
+ghost use Rattle.desk_core.specs.Standing.{is_memory, TellsChange};
 ghost use Rattle.desk_core.specs.Ready.{is_ready};
 
 use crate::clients::Clients;
@@ -101,6 +101,7 @@ impl Desk {
         requires built { is_built command.now ≡ true }
         requires ready { is_ready command.now ≡ true }
         requires bare { payload.now ≡ [] }
+        ensures changed { TellsChange self.old self.new }
         ensures step { (result, self.new.desk) ≡ step self.old.desk client command.now (is_memory result) }
     {
         self.changed = false;

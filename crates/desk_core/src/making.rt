@@ -7,7 +7,7 @@ ghost use Rattle.desk_model.specs.Making.{step_new, step_set, step_get, reply_wi
 ghost use Rattle.desk_model.specs.Widgets.{is_joined, row_kind, edited};
 ghost use Rattle.desk_model.specs.Forest.{IsWidgets};
 ghost use Rattle.desk_core.specs.Standing.{is_memory};
-ghost use Rattle.desk_core.specs.Did.{Did};
+ghost use Rattle.desk_core.specs.Did.{Did, TellsRows};
 ghost use Rattle.desk_core.specs.Told.{told_add};
 
 use crate::answer::Answer;
@@ -31,6 +31,7 @@ fn told_add(refusal: AddRefusal) -> Refusal
 pub(crate) fn make(tree: &mut Tree, client: u32, name: &Name, kind: Kind) -> Answer
     requires { is_joined tree.old.clients client ≡ true }
     ensures did { Did (λ desk. step_new desk client name.now kind (is_memory result.reply)) tree.old tree.new result.reply }
+    ensures tells { TellsRows tree.old tree.new result.changed }
     ensures valid { IsWidgets tree.new }
 {
     match tree.add(client, *name, kind) {
@@ -82,6 +83,7 @@ fn set_attrs(tree: &mut Tree, id: Id, kind: Kind, options: &[(Attr, Value)])
 /// `n.set(options)`
 pub(crate) fn set(tree: &mut Tree, client: u32, name: &Name, options: &[(Attr, Value)]) -> Answer
     ensures did { Did (λ desk. step_set desk client name.now options.now) tree.old tree.new result.reply }
+    ensures tells { TellsRows tree.old tree.new result.changed }
     ensures valid { IsWidgets tree.new }
 {
     let found = match find(tree, client, name) {

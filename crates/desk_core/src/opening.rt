@@ -4,7 +4,7 @@ ghost use Rattle.std.specs.Prelude.{◌≡◌};
 ghost use Rattle.stack_core.specs.Stack.{holds_key};
 ghost use Rattle.desk_model.specs.Linking.{is_window_kind, step_open};
 ghost use Rattle.desk_core.specs.Standing.{IsStanding};
-ghost use Rattle.desk_core.specs.Did.{DidAll};
+ghost use Rattle.desk_core.specs.Did.{DidAll, TellsAll};
 
 use crate::answer::Answer;
 use crate::finding::find;
@@ -40,7 +40,8 @@ pub(crate) fn is_open(windows: &Stack, key: u32) -> bool
 /// `w.open()`
 pub(crate) fn open_window(tree: &Tree, windows: &mut Stack, client: u32, name: &Name) -> Answer
     requires { IsStanding tree.now.clients tree.now windows.old }
-    ensures { DidAll (λ desk. step_open desk client name.now) tree.now tree.now windows.old windows.new result.reply }
+    ensures tells { TellsAll tree.now tree.now windows.old windows.new result.changed }
+    ensures did { DidAll (λ desk. step_open desk client name.now) tree.now tree.now windows.old windows.new result.reply }
 {
     let found = match find(tree, client, name) {
         Some(found) => found,

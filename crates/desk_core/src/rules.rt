@@ -8,7 +8,7 @@ ghost use Rattle.desk_model.specs.Widgets.{rows_of};
 ghost use Rattle.desk_model.specs.Forest.{IsWidgets};
 ghost use Rattle.std.specs.List.{list_all};
 ghost use Rattle.desk_core.specs.Standing.{fits_rules};
-ghost use Rattle.desk_core.specs.Did.{Did};
+ghost use Rattle.desk_core.specs.Did.{Did, TellsRows};
 ghost use Rattle.desk_core.specs.Ruling.{AnswersRuled};
 
 use crate::answer::Answer;
@@ -128,6 +128,7 @@ pub(crate) fn rule_column(
 ) -> Answer
     requires { list_all fits_rules (rows_of tree.old) ≡ true }
     ensures did { Did (λ desk. step_column desk client name.now index options.now) tree.old tree.new result.reply }
+    ensures tells { TellsRows tree.old tree.new result.changed }
     ensures valid { IsWidgets tree.new }
 {
     let ruled = match grid_to_rule(tree, client, name, index, options) {
@@ -150,6 +151,7 @@ pub(crate) fn rule_row(
 ) -> Answer
     requires { list_all fits_rules (rows_of tree.old) ≡ true }
     ensures did { Did (λ desk. step_line desk client name.now index options.now) tree.old tree.new result.reply }
+    ensures tells { TellsRows tree.old tree.new result.changed }
     ensures valid { IsWidgets tree.new }
 {
     let ruled = match grid_to_rule(tree, client, name, index, options) {
