@@ -10,3 +10,4 @@ pub mod OpenSteps
 pub mod Obeying
 pub mod Tells
 pub mod LinkTells
+pub mod SetTells

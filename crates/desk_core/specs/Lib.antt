@@ -5,3 +5,4 @@ pub mod Finding
 pub mod Told
 pub mod Ruling
 pub mod Ready
+pub mod Given

@@ -58,7 +58,8 @@ impl Desk {
         requires low { 1 ≤ client }
         requires high { client ≤ 16 }
         ensures step { (result, self.new.desk) ≡ step_connect self.old.desk client (is_memory result) }
-        ensures changed { self.new.changed ≡ false }
+        ensures changed { TellsChange self.old self.new }
+        ensures unchanged { self.new.changed ≡ false }
     {
         self.changed = false;
         if self.clients.has(client) {
@@ -77,7 +78,8 @@ impl Desk {
     #[tactic(auto, unfolding(desk_model::specs::Clients::step_hello))]
     pub fn hello(&mut self) -> Reply
         ensures step { (result, self.new.desk) ≡ step_hello self.old.desk (is_memory result) }
-        ensures changed { self.new.changed ≡ false }
+        ensures changed { TellsChange self.old self.new }
+        ensures unchanged { self.new.changed ≡ false }
     {
         self.changed = false;
         let client = match self.clients.free() {

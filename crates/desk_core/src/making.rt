@@ -1,16 +1,19 @@
 //! The commands that make, change and read one widget.
 
-ghost use Rattle.std.specs.Prelude.{◌≡◌, true, false, Some, None};
+ghost use Rattle.std.specs.Prelude.{◌≡◌, ◌↔◌, ◌≤◌, true, false, length, Some, None, IsTrue};
 ghost use Rattle.cmd_words.specs.declared.replies.Reply.TheVariants.{Done};
 ghost use Rattle.desk_model.specs.AttrOptions.{attr_refusal, attrs_refusal, with_attrs, told};
 ghost use Rattle.desk_model.specs.Making.{step_new, step_set, step_get, reply_with};
-ghost use Rattle.desk_model.specs.Widgets.{is_joined, row_kind, edited};
+ghost use Rattle.std.specs.Option.{option_map};
+ghost use Rattle.desk_model.specs.Widgets.{is_joined, IsLive, row_at, row_kind, edited};
 ghost use Rattle.desk_model.specs.Forest.{IsWidgets};
 ghost use Rattle.desk_core.specs.Standing.{is_memory};
 ghost use Rattle.desk_core.specs.Did.{Did, TellsRows};
 ghost use Rattle.desk_core.specs.Told.{told_add};
+ghost use Rattle.desk_core.specs.Given.{values_given};
 
 use crate::answer::Answer;
+use arrayvec::ArrayVec;
 use crate::finding::find;
 use cmd_words::{Refusal, Reply};
 use kind_core::{Attr, AttrRefusal, Kind, Name, Value, check};
@@ -80,8 +83,29 @@ fn set_attrs(tree: &mut Tree, id: Id, kind: Kind, options: &[(Attr, Value)])
     }
 }
 
+/// The values that the widget has for the attributes of the options.
+fn values_of(tree: &Tree, id: Id, options: &[(Attr, Value)]) -> ArrayVec<Option<Value>, 8>
+    requires live { IsLive tree.now id.key }
+    requires few { length options.now ≤ 8 }
+    ensures { option_map (λ row. values_given row options.now) (row_at tree.now.entries id.key) ≡ Some result.items }
+{
+    let mut values = ArrayVec::new();
+    for option in options {
+        values.push(tree.attr(id, option.0));
+    }
+    values
+}
+
+/// Whether the values are the same.
+fn same_values(before: &[Option<Value>], after: &[Option<Value>]) -> bool
+    ensures { IsTrue result ↔ (before.now ≡ after.now) }
+{
+    before == after
+}
+
 /// `n.set(options)`
 pub(crate) fn set(tree: &mut Tree, client: u32, name: &Name, options: &[(Attr, Value)]) -> Answer
+    requires { length options.now ≤ 8 }
     ensures did { Did (λ desk. step_set desk client name.now options.now) tree.old tree.new result.reply }
     ensures tells { TellsRows tree.old tree.new result.changed }
     ensures valid { IsWidgets tree.new }
@@ -94,8 +118,10 @@ pub(crate) fn set(tree: &mut Tree, client: u32, name: &Name, options: &[(Attr, V
         Some(refusal) => return Answer::refused(refusal),
         None => {}
     }
+    let before = values_of(tree, found.id, options);
     set_attrs(tree, found.id, found.kind, options);
-    Answer::done(true)
+    let after = values_of(tree, found.id, options);
+    Answer::done(!same_values(before.as_slice(), after.as_slice()))
 }
 
 /// The reply with a value that was read.
