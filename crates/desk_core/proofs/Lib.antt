@@ -11,3 +11,4 @@ pub mod Obeying
 pub mod Tells
 pub mod LinkTells
 pub mod SetTells
+pub mod WindowPlaces

@@ -6,3 +6,4 @@ pub mod Told
 pub mod Ruling
 pub mod Ready
 pub mod Given
+pub mod Open

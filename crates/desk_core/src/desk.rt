@@ -1,18 +1,20 @@
-ghost use Rattle.std.specs.Prelude.{◌≡◌, ◌≤◌, true, false, [], length};
+ghost use Rattle.std.specs.Prelude.{◌≡◌, ◌<◌, ◌≤◌, ◌↔◌, IsSome, true, false, [], length};
 ghost use Rattle.desk_model.specs.Desk.{opening_desk};
 ghost use Rattle.desk_model.specs.Clients.{step_connect, step_hello};
 ghost use Rattle.desk_model.specs.Commands.{is_built, step};
 ghost use Rattle.desk_core.specs.Standing.{is_memory, TellsChange};
+ghost use Rattle.desk_core.specs.Open.{window_at};
 ghost use Rattle.desk_core.specs.Ready.{is_ready};
 
 use crate::clients::Clients;
 use crate::commands::obey;
+use crate::opening::place_of;
 use cmd_words::{Command, Refusal, Reply};
 use kind_core::Shape;
 use stack_core::Stack;
 use std::alloc::Global;
 use std::marker::Model;
-use tree_core::Tree;
+use tree_core::{Id, Tree};
 
 /// The desk: the connected clients, their widgets and the order of the open windows. It answers each client's
 /// command. Contracts see the record `Standing`: the desk of desk_model, and whether the last call changed it.
@@ -113,6 +115,18 @@ impl Desk {
         let answer = obey(&mut self.tree, &mut self.windows, client, command);
         self.changed = answer.changed;
         answer.reply
+    }
+
+    /// The place of the open window with that index, counted from 0 at the top: x, y, width and height in
+    /// pixels. None exactly at and past the number of open windows. See docs/MACHINE.md, "Windows".
+    pub fn window_at(&self, index: usize) -> Option<(i32, i32, u32, u32)>
+        ensures place { result ≡ window_at self.now.desk index }
+        ensures some { IsSome result ↔ (index < length self.now.desk.windows) }
+    {
+        match self.windows.at(index) {
+            Some(key) => Some(place_of(&self.tree, Id { key })),
+            None => None,
+        }
     }
 
     /// Whether the last call that connects a client or answers one changed the rows, the open windows or

@@ -1,17 +1,20 @@
 //! The command that opens a window.
 
-ghost use Rattle.std.specs.Prelude.{◌≡◌};
+ghost use Rattle.std.specs.Prelude.{◌≡◌, Some};
+ghost use Rattle.std.specs.Option.{option_map};
 ghost use Rattle.stack_core.specs.Stack.{holds_key};
 ghost use Rattle.desk_model.specs.Linking.{is_window_kind, step_open};
+ghost use Rattle.desk_model.specs.Widgets.{IsLive, row_at};
+ghost use Rattle.desk_core.specs.Open.{number_in, place_in};
 ghost use Rattle.desk_core.specs.Standing.{IsStanding};
 ghost use Rattle.desk_core.specs.Did.{DidAll, TellsAll};
 
 use crate::answer::Answer;
 use crate::finding::find;
 use cmd_words::Refusal;
-use kind_core::{Kind, Name};
+use kind_core::{Attr, Kind, Name, Value};
 use stack_core::Stack;
-use tree_core::Tree;
+use tree_core::{Id, Tree};
 
 /// Whether the kind is Window.
 fn is_window(kind: Kind) -> bool
@@ -57,4 +60,26 @@ pub(crate) fn open_window(tree: &Tree, windows: &mut Stack, client: u32, name: &
         Ok(()) => Answer::done(true),
         Err(_) => unreachable!(),
     }
+}
+
+/// The number that is the value, 0 where there is none.
+fn number_in(value: Option<Value>) -> i32
+    ensures { result ≡ number_in value }
+{
+    match value {
+        Some(Value::Number(n)) => n,
+        _ => 0,
+    }
+}
+
+/// The window's x, y, width and height.
+pub(crate) fn place_of(tree: &Tree, id: Id) -> (i32, i32, u32, u32)
+    requires { IsLive tree.now id.key }
+    ensures { option_map place_in (row_at tree.now.entries id.key) ≡ Some result }
+{
+    let x = number_in(tree.attr(id, Attr::X));
+    let y = number_in(tree.attr(id, Attr::Y));
+    let w = number_in(tree.attr(id, Attr::W));
+    let h = number_in(tree.attr(id, Attr::H));
+    (x, y, w.unsigned_abs(), h.unsigned_abs())
 }
