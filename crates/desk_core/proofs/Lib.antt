@@ -12,3 +12,4 @@ pub mod Tells
 pub mod LinkTells
 pub mod SetTells
 pub mod WindowPlaces
+pub mod Leaving

@@ -36,8 +36,8 @@ slice_get-window ns (k ∷ ks) zero key windows there =
     ap (names_window ns) (sym same) ∙ (and_parts (names_window ns k) (list_all (names_window ns) ks) windows).0
 slice_get-window ns (k ∷ ks) (suc i) key windows there = slice_get-window ns ks i key (and_parts (names_window ns k) (list_all (names_window ns) ks) windows).1 there
 
-pub window_live : (clients : List ℕ) (w : Widgets) (keys : List ℕ) (i key : ℕ) → IsStanding clients w keys → slice_get keys i ≡ Some key → is_some (row_at w.entries key) ≡ true
-window_live clients w keys i key kept there = by (row_at w.entries key) refl (node_at-nodes w.entries key) (slice_get-window (nodes w.entries) keys i key kept.windows there)
+pub window_live : (w : Widgets) (keys : List ℕ) (i key : ℕ) → list_all (names_window (nodes w.entries)) keys ≡ true → slice_get keys i ≡ Some key → is_some (row_at w.entries key) ≡ true
+window_live w keys i key windows there = by (row_at w.entries key) refl (node_at-nodes w.entries key) (slice_get-window (nodes w.entries) keys i key windows there)
   where
     by : (o : Option Row) → row_at w.entries key ≡ o → node_at (nodes w.entries) key ≡ option_map node_of (row_at w.entries key) → names_window (nodes w.entries) key ≡ true → is_some o ≡ true
     by None p q h =
@@ -59,7 +59,7 @@ pub window_at-key : (shape : Shape) (w : Widgets) (clients : List ℕ) (keys : L
 window_at-key shape w clients keys i key kept there =
     let ns = nodes w.entries in
     let found : slice_get (windows_at ns keys) i ≡ Some (title_at ns key) = slice_get-map (title_at ns) keys i ∙ ap (option_map (title_at ns)) there in
-    ap (option_and_then (λ (window : ℕ × List ℕ). option_map place_in (row_named (rows_of w) window.0 window.1))) found ∙ ap (option_map place_in) (title_row w clients keys key kept (window_live clients w keys i key kept there))
+    ap (option_and_then (λ (window : ℕ × List ℕ). option_map place_in (row_named (rows_of w) window.0 window.1))) found ∙ ap (option_map place_in) (title_row w clients keys key kept (window_live w keys i key kept.windows there))
 
 pub window_at-past : (shape : Shape) (w : Widgets) (keys : List ℕ) (i : ℕ) → slice_get keys i ≡ None → window_at (desk_of shape w keys) i ≡ None
 window_at-past shape w keys i past =

@@ -1,5 +1,5 @@
 -- What contracts see of the desk: the desk itself, and whether the last call changed it.
-use Rattle.std.specs.Prelude.{ℕ, ◌≡◌, ◌↔◌, Bool, true, false, ◌&&◌, nat_le, IsTrue, List, [], map, Option}
+use Rattle.std.specs.Prelude.{ℕ, ◌≡◌, ◌↔◌, Bool, true, false, ◌&&◌, not, nat_eq, nat_le, IsTrue, List, [], map, Option}
 use Rattle.std.specs.List.{list_all}
 use Rattle.std.specs.Option.{option_map_or}
 use Rattle.kind_core.specs.declared.kinds.Kind.{Kind}
@@ -57,6 +57,10 @@ fits_rule rule = nat_le rule.0 1024 && nat_le rule.1 1000
 
 abbrev pub fits_rules : Row → Bool
 fits_rules row = list_all fits_rule row.column_rules && list_all fits_rule row.row_rules
+
+-- the number names a widget of another client
+abbrev pub is_others : List (ℕ × Node) → ℕ → ℕ → Bool
+is_others entries client key = not (nat_eq client (title_at entries key).0)
 
 -- what the parts of a desk keep together
 pub record IsStanding (joined : List ℕ) (widgets : Widgets) (keys : List ℕ) : Type 0 where

@@ -1,4 +1,6 @@
-ghost use Rattle.std.specs.Prelude.{◌≡◌, ◌≤◌, ◌+◌, ◌∷◌, ◌++◌, [], length, false, IfSome};
+ghost use Rattle.std.specs.Prelude.{◌≡◌, ◌≤◌, ◌+◌, ◌∷◌, ◌++◌, [], length, false, not, nat_eq, slice_get, Some, IfSome, MatchOption};
+ghost use Rattle.std.specs.List.{filter};
+ghost use Rattle.stack_core.specs.Stack.{holds_key};
 ghost use Rattle.desk_model.specs.Clients.{free_client};
 ghost use Rattle.desk_model.specs.Widgets.{is_joined};
 
@@ -66,6 +68,18 @@ impl Clients {
         self.numbers.push(client);
     }
 
+    /// Takes the client out; the others keep their order.
+    pub(crate) fn leave(&mut self, client: u32)
+        ensures { self.new ≡ filter (λ other. not (nat_eq client other)) self.old }
+    {
+        match place_of(self.numbers.as_slice(), client) {
+            Some(place) => {
+                self.numbers.remove(place);
+            }
+            None => {}
+        }
+    }
+
     /// How many there are, at most 16.
     pub(crate) fn len(&self) -> u32
         ensures { result ≡ length self.now }
@@ -79,4 +93,17 @@ fn is_joined(numbers: &[u32], client: u32) -> bool
     ensures { result ≡ is_joined numbers.now client }
 {
     numbers.iter().any(|other| client == *other)
+}
+
+/// The index of the client, or None where it isn't there.
+fn place_of(numbers: &[u32], client: u32) -> Option<usize>
+    ensures { MatchOption result (holds_key numbers.now client ≡ false)
+        (λ place. slice_get numbers.now place ≡ Some client) }
+{
+    for (place, other) in numbers.iter().enumerate() {
+        if *other == client {
+            return Some(place);
+        }
+    }
+    None
 }

@@ -1,12 +1,13 @@
 //! The command that opens a window.
 
-ghost use Rattle.std.specs.Prelude.{◌≡◌, Some};
+ghost use Rattle.std.specs.Prelude.{◌≡◌, Some, true, false, MatchOption};
 ghost use Rattle.std.specs.Option.{option_map};
-ghost use Rattle.stack_core.specs.Stack.{holds_key};
+ghost use Rattle.std.specs.List.{list_all, filter};
+ghost use Rattle.stack_core.specs.Stack.{holds_key, IsStack};
 ghost use Rattle.desk_model.specs.Linking.{is_window_kind, step_open};
-ghost use Rattle.desk_model.specs.Widgets.{IsLive, row_at};
+ghost use Rattle.desk_model.specs.Widgets.{IsLive, row_at, nodes};
 ghost use Rattle.desk_core.specs.Open.{number_in, place_in};
-ghost use Rattle.desk_core.specs.Standing.{IsStanding};
+ghost use Rattle.desk_core.specs.Standing.{IsStanding, names_window, is_others};
 ghost use Rattle.desk_core.specs.Did.{DidAll, TellsAll};
 
 use crate::answer::Answer;
@@ -59,6 +60,36 @@ pub(crate) fn open_window(tree: &Tree, windows: &mut Stack, client: u32, name: &
     match windows.push_top(found.id.key) {
         Ok(()) => Answer::done(true),
         Err(_) => unreachable!(),
+    }
+}
+
+/// An open window of the client.
+fn window_of(tree: &Tree, windows: &Stack, client: u32) -> Option<u32>
+    requires { list_all (names_window (nodes tree.now.entries)) windows.now ≡ true }
+    ensures { MatchOption result (list_all (is_others (nodes tree.now.entries) client) windows.now ≡ true)
+        (λ key. (holds_key windows.now key ≡ true) × (is_others (nodes tree.now.entries) client key ≡ false)) }
+{
+    for i in 0..windows.len() {
+        match windows.at(i) {
+            Some(key) => {
+                if tree.owner(Id { key }) == client {
+                    return Some(key);
+                }
+            }
+            None => {}
+        }
+    }
+    None
+}
+
+/// Closes the client's windows. The others keep their order.
+pub(crate) fn close_windows(tree: &Tree, windows: &mut Stack, client: u32)
+    requires { IsStanding tree.now.clients tree.now windows.old }
+    ensures closed { windows.new ≡ filter (is_others (nodes tree.now.entries) client) windows.old }
+    ensures valid { IsStack windows.new }
+{
+    while let Some(key) = window_of(tree, windows, client) {
+        windows.remove(key);
     }
 }
 

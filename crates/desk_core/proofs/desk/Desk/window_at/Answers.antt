@@ -6,7 +6,7 @@ use Rattle.desk_core.proofs.WindowPlaces.{window_live, window_at-key, window_at-
 use Rattle.desk_core.proofs.desk.Desk.window_at.Goals as goal
 
 pub place_of-requires : goal.place_of-requires
-place_of-requires c = window_live c.self.inside.clients c.self.inside.tree c.self.inside.windows c.args.index c.in-Some.key c.self.invariant (sym c.in-Some.ensures.key)
+place_of-requires c = window_live c.self.inside.tree c.self.inside.windows c.args.index c.in-Some.key c.self.invariant.windows (sym c.in-Some.ensures.key)
 
 pub returns-in-Some-clause-place : goal.returns-in-Some-clause-place
 returns-in-Some-clause-place c =
