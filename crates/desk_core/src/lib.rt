@@ -9,6 +9,7 @@ mod finding;
 mod linking;
 mod making;
 mod opening;
+mod places;
 mod rules;
 
 pub use desk::Desk;
