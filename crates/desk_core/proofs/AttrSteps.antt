@@ -1,5 +1,5 @@
 -- The options of `set`: which of them are refused, and what they make of a row.
-use Rattle.std.proofs.Common.{◌≡◌, ℕ, zero, suc, ◌+◌, ◌<◌, Bool, true, false, ◌&&◌, List, [], ◌∷◌, ◌++◌, length, get_or, take, map, Option, Some, None, Ok, Err, refl, sym, ap, ◌∙◌, arith}
+use Rattle.std.proofs.Common.{◌≡◌, ℕ, zero, suc, ◌+◌, ◌<◌, List, [], ◌∷◌, ◌++◌, length, get_or, take, map, Option, Some, None, Err, refl, sym, ap, ◌∙◌, arith}
 use Rattle.std.proofs.lemmas.List.{take_more}
 use Rattle.std.specs.Option.{option_map}
 use Rattle.kind_core.specs.declared.kinds.Kind.{Kind}
@@ -12,7 +12,7 @@ use Rattle.cmd_words.specs.declared.replies.Refusal.{Refusal}
 use Rattle.desk_model.specs.Rows.{Row, with_attr}
 use Rattle.desk_model.specs.Nodes.{node_of}
 use Rattle.desk_model.specs.Refusing.{first_refusal}
-use Rattle.desk_model.specs.AttrOptions.{told, attr_refusal, attrs_refusal, with_attrs}
+use Rattle.desk_model.specs.AttrOptions.{told, attr_refusal, with_attrs}
 use Rattle.desk_model.specs.Widgets.{Widgets, edited}
 use Rattle.desk_core.specs.Standing.{fits_rules}
 use Rattle.desk_core.proofs.Edits.{edited-edited}

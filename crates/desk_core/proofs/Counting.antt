@@ -1,6 +1,6 @@
 -- A list of keys, none of them twice, is no longer than a list that holds them all.
-use Rattle.std.proofs.Common.{◌≡◌, ℕ, zero, suc, ◌+◌, ◌<◌, ◌≤◌, Bool, true, false, cond, not, ◌&&◌, ◌||◌, nat_eq, List, [], ◌∷◌, length, refl, sym, ap, ◌∙◌, arith}
-use Rattle.std.proofs.lemmas.Bool.{true≢false, eq-eqb, ne_eqb, eqb-true, eqb-false, and_parts, and_from, or_parts, or_right}
+use Rattle.std.proofs.Common.{◌≡◌, ℕ, zero, suc, ◌+◌, ◌<◌, ◌≤◌, Bool, true, false, cond, ◌||◌, nat_eq, List, [], ◌∷◌, length, refl, sym, ◌∙◌, arith}
+use Rattle.std.proofs.lemmas.Bool.{true≢false, ne_eqb, eqb-false, and_parts, and_from, or_parts}
 use Rattle.std.specs.List.{list_all, range_with_len}
 use Rattle.stack_core.specs.Stack.{holds_key, without, AreDistinct}
 use Rattle.stack_core.proofs.Keys.{holds_key-without, length-without-le}

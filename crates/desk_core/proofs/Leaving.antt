@@ -1,11 +1,11 @@
 -- What is left where a client leaves.
-use Rattle.std.proofs.Common.{◌≡◌, ℕ, zero, suc, ◌+◌, ◌<◌, Bool, true, false, cond, not, ◌&&◌, ◌||◌, nat_eq, List, [], ◌∷◌, map, drop, slice_get, Option, Some, None, is_some, MatchOption, refl, sym, ap, ◌∙◌, arith, add-one}
-use Rattle.std.proofs.lemmas.Bool.{true≢false, eqb-true, eq-eqb, and_parts, and_from, or_parts}
+use Rattle.std.proofs.Common.{◌≡◌, ℕ, zero, suc, ◌+◌, Bool, true, false, cond, not, ◌&&◌, nat_eq, List, [], ◌∷◌, drop, slice_get, Option, Some, None, MatchOption, refl, sym, ap, ◌∙◌, add-one}
+use Rattle.std.proofs.lemmas.Bool.{true≢false, eqb-true, and_parts, and_from}
 use Rattle.std.specs.Cmp.{nat_eq_equiv}
 use Rattle.std.specs.List.{list_all, filter}
-use Rattle.std.specs.Option.{option_map, option_map_or}
-use Rattle.stack_core.specs.Stack.{holds_key, without}
-use Rattle.stack_core.proofs.Keys.{without-absent, AreDistinct-without}
+use Rattle.std.specs.Option.{option_map}
+use Rattle.stack_core.specs.Stack.{without}
+use Rattle.stack_core.proofs.Keys.{AreDistinct-without}
 use Rattle.desk_model.specs.Rows.{Row}
 use Rattle.desk_model.specs.Nodes.{Node, node_of, node_at}
 use Rattle.desk_model.specs.Widgets.{nodes, row_at}

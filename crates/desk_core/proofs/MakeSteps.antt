@@ -2,8 +2,7 @@
 use Rattle.std.proofs.Common.{◌≡◌, ℕ, Bool, true, false, cond, nat_eq, nat_le, List, [], ◌∷◌, ◌++◌, Option, Some, None, is_some, is_none, refl, sym, ap, ap₂, ◌∙◌, subst}
 use Rattle.std.proofs.lemmas.Bool.{true≢false}
 use Rattle.std.proofs.lemmas.List.Folds.{list_all-append}
-use Rattle.std.specs.List.{list_all}
-use Rattle.std.specs.Option.{option_map, option_and_then}
+use Rattle.std.specs.Option.{option_and_then}
 use Rattle.kind_core.specs.declared.kinds.Kind.{Kind}
 use Rattle.kind_core.specs.declared.kinds.Attr.{Attr}
 use Rattle.kind_core.specs.declared.values.Value as value
@@ -15,10 +14,9 @@ use Rattle.tree_core.specs.declared.refusal.AddRefusal.{AddRefusal}
 use Rattle.tree_core.specs.declared.refusal.AddRefusal.TheVariants as add
 use Rattle.tree_core.specs.Refusals.{add_refusal, AnswersRefusal}
 use Rattle.desk_model.specs.Rows.{Row, new_row, attr_of}
-use Rattle.desk_model.specs.Nodes.{Node, node_of, node_at, id_named, count_of, any_kind, counts_with}
+use Rattle.desk_model.specs.Nodes.{node_of, node_at, id_named, any_kind, counts_with}
 use Rattle.desk_model.specs.Named.{has_name, row_named, rows_counted}
-use Rattle.desk_model.specs.Widgets.{Widgets, nodes, rows_of, row_at, with_new}
-use Rattle.desk_model.specs.Forest.{IsWidgets}
+use Rattle.desk_model.specs.Widgets.{Widgets, nodes, rows_of, with_new}
 use Rattle.desk_model.specs.Desk.{Desk}
 use Rattle.desk_model.specs.Refusing.{when, first_refusal, outcome, unless_there}
 use Rattle.desk_model.specs.AttrOptions.{attrs_refusal}

@@ -1,5 +1,5 @@
 -- Windows that are open: by number as by name, and there is always room for one more.
-use Rattle.std.proofs.Common.{◌≡◌, ℕ, zero, suc, ◌+◌, ◌*◌, ◌≤◌, ◌<◌, Bool, true, false, cond, not, ◌&&◌, ◌||◌, nat_eq, nat_le, nat_lt, List, [], ◌∷◌, length, map, drop, slice_get, Option, Some, None, is_some, refl, sym, ap, ap₂, ◌∙◌, subst, arith, add-one}
+use Rattle.std.proofs.Common.{◌≡◌, ℕ, zero, suc, ◌+◌, ◌*◌, ◌≤◌, ◌<◌, Bool, true, false, cond, ◌&&◌, ◌||◌, nat_eq, nat_le, nat_lt, List, [], ◌∷◌, length, drop, slice_get, Option, Some, None, refl, sym, ap, ap₂, ◌∙◌, subst, arith, add-one}
 use Rattle.std.proofs.lemmas.Bool.{true≢false, eqb-true, eq-eqb, ne_eqb, eqb-false, leb-true, ltb-true, le-leb, lt-ltb, and_parts, and_from, and_right, or_right, false_from_ne_true}
 use Rattle.std.proofs.lemmas.List.Sums.{sum_by-cons}
 use Rattle.std.specs.List.{list_all, list_any, count_by}
@@ -11,12 +11,12 @@ use Rattle.cmd_words.specs.declared.replies.Reply.{Reply}
 use Rattle.cmd_words.specs.declared.replies.Reply.TheVariants.{Done, Refused}
 use Rattle.cmd_words.specs.declared.replies.Refusal.{Refusal}
 use Rattle.cmd_words.specs.declared.replies.Refusal.TheVariants.{AlreadyOpen}
-use Rattle.stack_core.specs.Stack.{holds_key, AreDistinct, IsStack}
+use Rattle.stack_core.specs.Stack.{holds_key, IsStack}
 use Rattle.desk_model.specs.Rows.{Row}
-use Rattle.desk_model.specs.Nodes.{Node, node_of, is_named, id_named, node_at, count_of, counts_with}
-use Rattle.desk_model.specs.Named.{has_name, row_named, is_kind_of}
-use Rattle.desk_model.specs.Widgets.{Widgets, nodes, rows_of, row_at, is_joined}
-use Rattle.desk_model.specs.Forest.{HaveOwnNames, IsForest, is_client}
+use Rattle.desk_model.specs.Nodes.{Node, node_of, id_named, node_at, count_of, counts_with}
+use Rattle.desk_model.specs.Named.{has_name, row_named}
+use Rattle.desk_model.specs.Widgets.{Widgets, nodes, row_at, is_joined}
+use Rattle.desk_model.specs.Forest.{HaveOwnNames, is_client}
 use Rattle.desk_model.specs.Desk.{Desk, is_window, is_open}
 use Rattle.desk_model.specs.Refusing.{when, first_refusal, outcome, unless_there, unless_kind}
 use Rattle.desk_model.specs.Linking.{is_window_kind, open_effect, step_open}
@@ -103,10 +103,14 @@ count_in-more : (first n : ℕ) (ns : List (ℕ × Node)) → count_in first (su
 unfolding count_in
 count_in-more first n [] = omega arith
 count_in-more first n (e ∷ es) =
-    omega (arith, one_more first n e.1.client e.1.kind, count_in-more first n es,
-    sum_by-cons (λ (e : ℕ × Node). cond (is_window_kind e.1.kind && within first (suc n) e.1.client) 1 0) e es,
-    sum_by-cons (λ (e : ℕ × Node). cond (nat_eq first e.1.client && counts_with Window e.1.kind) 1 0) e es,
-    sum_by-cons (λ (e : ℕ × Node). cond (is_window_kind e.1.kind && within (first + 1) n e.1.client) 1 0) e es)
+    omega (
+      arith,
+      one_more first n e.1.client e.1.kind,
+      count_in-more first n es,
+      sum_by-cons (λ (e : ℕ × Node). cond (is_window_kind e.1.kind && within first (suc n) e.1.client) 1 0) e es,
+      sum_by-cons (λ (e : ℕ × Node). cond (nat_eq first e.1.client && counts_with Window e.1.kind) 1 0) e es,
+      sum_by-cons (λ (e : ℕ × Node). cond (is_window_kind e.1.kind && within (first + 1) n e.1.client) 1 0) e es,
+    )
 
 count_in-le : (n first : ℕ) (ns : List (ℕ × Node)) → ((client : ℕ) → count_of client (counts_with Window) ns ≤ 8) → count_in first n ns ≤ 8 * n
 count_in-le zero first ns few = omega (arith, count_in-none first ns)

@@ -1,10 +1,8 @@
 -- The rules of columns and rows: they stay within their ranges, and what a ruling does.
-use Rattle.std.proofs.Common.{◌≡◌, ℕ, zero, suc, ◌-◌, ◌≤◌, ◌<◌, ℤ, pos, negsuc, unsigned_abs, Bool, true, false, cond, not, ◌&&◌, nat_eq, nat_le, List, [], ◌∷◌, length, map, slice_index_or, slice_set, Option, Some, None, refl, sym, ap, ◌∙◌, subst, arith}
-use Rattle.std.proofs.lemmas.Bool.{true≢false, eqb-true, leb-true, and_parts, and_from}
+use Rattle.std.proofs.Common.{◌≡◌, ℕ, zero, suc, ◌-◌, ℤ, pos, negsuc, unsigned_abs, Bool, true, false, cond, not, ◌&&◌, nat_eq, nat_le, List, [], ◌∷◌, map, slice_index_or, slice_set, Option, Some, None, refl, sym, ap, ◌∙◌}
+use Rattle.std.proofs.lemmas.Bool.{eqb-true, and_parts, and_from}
 use Rattle.std.specs.List.{list_all}
 use Rattle.std.specs.Option.{option_map}
-use Rattle.kind_core.specs.declared.kinds.Kind.TheVariants.{Grid}
-use Rattle.kind_core.specs.Attributes.{in_range}
 use Rattle.cmd_words.specs.declared.commands.ConfigOption.{ConfigOption}
 use Rattle.cmd_words.specs.declared.commands.ConfigOption.TheVariants.{Size, Weight}
 use Rattle.cmd_words.specs.declared.replies.Reply.{Reply}
@@ -23,7 +21,7 @@ use Rattle.desk_model.specs.ConfigOptions.{config_refusal, configs_refusal, with
 use Rattle.desk_model.specs.Hanging.{config_refusal as ruling_refusal, with_column, with_line, column_effect, line_effect, step_column, step_line}
 use Rattle.desk_model.proofs.Naming.{rows}
 use Rattle.desk_core.specs.Standing.{fits_rule, fits_rules}
-use Rattle.desk_core.specs.Did.{Did, IsFound, with_rows}
+use Rattle.desk_core.specs.Did.{Did, with_rows}
 use Rattle.desk_core.specs.Ruling.{IsRuled}
 use Rattle.desk_core.proofs.Dids.{done_did}
 use Rattle.desk_core.proofs.Edits.{row_kind-with_row}

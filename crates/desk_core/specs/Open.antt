@@ -1,5 +1,5 @@
 -- Where an open window stands.
-use Rattle.std.specs.Prelude.{ℕ, ℤ, pos, unsigned_abs, List, Option, Some, None, slice_get}
+use Rattle.std.specs.Prelude.{ℕ, ℤ, pos, unsigned_abs, Option, Some, slice_get}
 use Rattle.std.specs.Option.{option_map, option_and_then}
 use Rattle.kind_core.specs.declared.kinds.Attr.TheVariants.{X, Y, W, H}
 use Rattle.kind_core.specs.declared.values.Value as value

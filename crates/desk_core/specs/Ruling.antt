@@ -1,5 +1,5 @@
 -- What ruling a Grid's column or row is allowed to do, and what is answered where it isn't.
-use Rattle.std.specs.Prelude.{ℕ, ℤ, ◌≡◌, List, Option, Some, None, Result, Ok, Err, unsigned_abs}
+use Rattle.std.specs.Prelude.{ℕ, ℤ, ◌≡◌, List, Some, None, Result, Ok, Err, unsigned_abs}
 use Rattle.kind_core.specs.declared.kinds.Kind.TheVariants.{Grid}
 use Rattle.cmd_words.specs.declared.commands.ConfigOption.{ConfigOption}
 use Rattle.cmd_words.specs.declared.replies.Refusal.{Refusal}

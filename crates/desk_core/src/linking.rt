@@ -87,7 +87,13 @@ pub(crate) fn unlink(tree: &mut Tree, client: u32, name: &Name) -> Answer
 }
 
 /// `n.bind(event, tag)`, and `n.unbind(event)` with no tag
-pub(crate) fn bind(tree: &mut Tree, client: u32, name: &Name, event: EventKind, tag: Option<Name>) -> Answer
+pub(crate) fn bind(
+    tree: &mut Tree,
+    client: u32,
+    name: &Name,
+    event: EventKind,
+    tag: Option<Name>,
+) -> Answer
     ensures did { Did (λ desk. step_bind desk client name.now event tag) tree.old tree.new result.reply }
     ensures tells { TellsRows tree.old tree.new result.changed }
     ensures valid { IsWidgets tree.new }

@@ -13,8 +13,8 @@ ghost use Rattle.desk_core.specs.Told.{told_add};
 ghost use Rattle.desk_core.specs.Given.{values_given};
 
 use crate::answer::Answer;
-use arrayvec::ArrayVec;
 use crate::finding::find;
+use arrayvec::ArrayVec;
 use cmd_words::{Refusal, Reply};
 use kind_core::{Attr, AttrRefusal, Kind, Name, Value, check};
 use tree_core::{AddRefusal, Id, Tree};
@@ -50,7 +50,10 @@ fn attr_refusal(kind: Kind, option: &(Attr, Value)) -> Option<Refusal>
     match check(kind, option.0, &option.1) {
         Ok(()) => None,
         Err(AttrRefusal::NotOfKind) => Some(Refusal::WrongKind),
-        Err(AttrRefusal::OutOfRange { least, greatest }) => Some(Refusal::BadValue { least, greatest }),
+        Err(AttrRefusal::OutOfRange { least, greatest }) => Some(Refusal::BadValue {
+            least,
+            greatest,
+        }),
     }
 }
 

@@ -1,7 +1,6 @@
 use Rattle.std.proofs.Common.{◌≡◌, ℕ, Some, None, true, false, not, ◌&&◌, List, Option, refl, sym, ap, ◌∙◌}
 use Rattle.std.proofs.lemmas.Bool.{true≢false, not-false, and_parts}
 use Rattle.std.specs.Option.{option_map}
-use Rattle.kind_core.specs.declared.kinds.Kind.{Kind}
 use Rattle.cmd_words.specs.declared.replies.Reply.TheVariants.{Done}
 use Rattle.cmd_words.specs.declared.replies.Refusal.TheVariants.{NoSuchName, WrongKind}
 use Rattle.desk_model.specs.Rows.{Row, with_link}
@@ -10,7 +9,7 @@ use Rattle.desk_core.proofs.Dids.{refused_did, done_did, found-parts}
 use Rattle.desk_core.proofs.LinkSteps.{step_link-by, variable_kind}
 use Rattle.desk_core.specs.Did.{with_rows}
 use Rattle.desk_model.specs.Named.{row_named}
-use Rattle.desk_model.specs.Widgets.{rows_of, row_client, edited}
+use Rattle.desk_model.specs.Widgets.{rows_of, edited}
 use Rattle.desk_model.specs.Links.{name_at}
 use Rattle.desk_core.proofs.Tells.{tells_edit}
 use Rattle.desk_core.proofs.LinkTells.{link_was, link_is}

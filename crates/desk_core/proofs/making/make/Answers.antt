@@ -1,4 +1,4 @@
-use Rattle.std.proofs.Common.{◌≡◌, sym, ap, ◌∙◌}
+use Rattle.std.proofs.Common.{ap, ◌∙◌}
 use Rattle.cmd_words.specs.declared.replies.Reply.TheVariants.{Refused}
 use Rattle.desk_core.proofs.MakeSteps.{make_did, make_refused}
 use Rattle.desk_core.proofs.making.make.Goals as goal

@@ -1,6 +1,5 @@
-use Rattle.std.proofs.Common.{◌≡◌, ◌||◌, ◌+◌, nat_eq, drop, true, false, refl, sym, ap, ◌∙◌}
+use Rattle.std.proofs.Common.{◌≡◌, nat_eq, true, false, refl, sym, ◌∙◌}
 use Rattle.std.proofs.lemmas.Bool.{eq-eqb, ne_eqb}
-use Rattle.stack_core.specs.Stack.{holds_key}
 use Rattle.desk_core.proofs.OpenSteps.{holds_key-further, holds_key-past}
 use Rattle.desk_core.proofs.opening.is_open.Goals as goal
 use Rattle.desk_core.proofs.opening.is_open.Goals.{in-Some+else-other-key, in-None}

@@ -1,4 +1,4 @@
-use Rattle.std.proofs.Common.{◌≡◌, ◌<◌, length, Some, None, true, false, refl, sym, ap, ◌∙◌, subst, arith}
+use Rattle.std.proofs.Common.{◌≡◌, length, Some, None, true, false, refl, sym, ap, ◌∙◌, arith}
 use Rattle.cmd_words.specs.declared.replies.Refusal.TheVariants.{NoSuchName, WrongKind, AlreadyOpen}
 use Rattle.desk_model.specs.Linking.{is_window_kind, step_open}
 use Rattle.desk_model.specs.Desk.{is_open}

@@ -1,4 +1,4 @@
-use Rattle.std.proofs.Common.{◌≡◌, not, nat_eq, true, false, refl, sym, ap, ◌∙◌}
+use Rattle.std.proofs.Common.{◌≡◌, not, true, refl, sym, ap, ◌∙◌}
 use Rattle.std.proofs.lemmas.Bool.{eq-eqb, ne_eqb}
 use Rattle.stack_core.proofs.Keys.{holds_key-at}
 use Rattle.desk_model.specs.Widgets.{nodes}

@@ -1,4 +1,4 @@
-use Rattle.std.proofs.Common.{◌≡◌, ℕ, ◌-◌, ℤ, ◌&&◌, nat_eq, List, ◌≤◌, nat_le, Some, refl, ap, ◌∙◌, subst, to_z, of_z, w32}
+use Rattle.std.proofs.Common.{◌≡◌, ℕ, ◌-◌, ℤ, ◌&&◌, nat_eq, List, nat_le, Some, refl, ap, ◌∙◌, subst, to_z, of_z, w32}
 use Rattle.std.proofs.lemmas.Int.{to_z-of_z}
 use Rattle.std.proofs.lemmas.Bool.{leb-true, and_parts}
 use Rattle.kind_core.specs.declared.kinds.Kind.TheVariants.{Grid}

@@ -1,5 +1,4 @@
-use Rattle.std.proofs.Common.{◌≡◌, ◌<◌, true, arith, sym, ap, ◌∙◌}
-use Rattle.desk_model.specs.Widgets.{is_joined}
+use Rattle.std.proofs.Common.{sym, ◌∙◌}
 use Rattle.desk_core.proofs.Joins.{free_further}
 use Rattle.desk_core.proofs.clients.Clients.free.Goals as goal
 

@@ -1,4 +1,4 @@
-use Rattle.std.proofs.Common.{◌≡◌, ◌∷◌, ◌++◌, [], false, ℕ, List, sym, ap, ◌∙◌, subst, lit<}
+use Rattle.std.proofs.Common.{ℕ, List, sym, ap, ◌∙◌, subst, lit<}
 use Rattle.desk_model.specs.Widgets.{is_joined}
 use Rattle.desk_core.specs.Joined.{IsJoined}
 use Rattle.desk_core.proofs.Joins.{room_for_one, IsJoined-push}

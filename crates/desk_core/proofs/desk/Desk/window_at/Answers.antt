@@ -1,6 +1,6 @@
-use Rattle.std.proofs.Common.{◌≡◌, ◌<◌, ◌≤◌, true, false, length, refl, sym, ap, ◌∙◌, subst, arith}
+use Rattle.std.proofs.Common.{◌<◌, ◌≤◌, length, refl, sym, ap, ◌∙◌, subst, arith}
 use Rattle.desk_model.specs.Widgets.{nodes}
-use Rattle.desk_core.specs.Standing.{Standing, desk_of}
+use Rattle.desk_core.specs.Standing.{Standing}
 use Rattle.desk_core.specs.Open.{window_at}
 use Rattle.desk_core.proofs.WindowPlaces.{window_live, window_at-key, window_at-past, index_within, index_past}
 use Rattle.desk_core.proofs.desk.Desk.window_at.Goals as goal
