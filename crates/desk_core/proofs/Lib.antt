@@ -1,0 +1,15 @@
+pub mod Counting
+pub mod Joins
+pub mod Dids
+pub mod LinkSteps
+pub mod Edits
+pub mod AttrSteps
+pub mod MakeSteps
+pub mod RuleSteps
+pub mod OpenSteps
+pub mod Obeying
+pub mod Tells
+pub mod LinkTells
+pub mod SetTells
+pub mod WindowPlaces
+pub mod Leaving

@@ -1,0 +1,74 @@
+-- Where the open windows stand, by number as by name.
+use Rattle.std.proofs.Common.{◌≡◌, ℕ, zero, suc, ◌<◌, ◌≤◌, true, List, [], ◌∷◌, length, map, slice_get, Option, Some, None, is_some, refl, sym, ap, ◌∙◌, arith}
+use Rattle.std.proofs.lemmas.Bool.{true≢false, and_parts}
+use Rattle.std.specs.List.{list_all}
+use Rattle.std.specs.Option.{option_map, option_and_then}
+use Rattle.kind_core.specs.declared.shapes.Shape.{Shape}
+use Rattle.desk_model.specs.Rows.{Row}
+use Rattle.desk_model.specs.Nodes.{Node, node_of, node_at}
+use Rattle.desk_model.specs.Named.{row_named}
+use Rattle.desk_model.specs.Widgets.{Widgets, nodes, rows_of, row_at}
+use Rattle.desk_model.proofs.Naming.{row_named-found, id_named-row}
+use Rattle.tree_core.proofs.ForestLemmas.{node_at-nodes}
+use Rattle.desk_core.specs.Standing.{title_at, windows_at, desk_of, names_window, IsStanding}
+use Rattle.desk_core.specs.Open.{place_in, window_at}
+
+slice_get-map : {X Y : Type 0} (f : X → Y) (xs : List X) (i : ℕ) → slice_get (map f xs) i ≡ option_map f (slice_get xs i)
+slice_get-map f [] i = refl
+slice_get-map f (x ∷ xs) zero = refl
+slice_get-map f (x ∷ xs) (suc i) = slice_get-map f xs i
+
+slice_get-within : {X : Type 0} (xs : List X) (i : ℕ) (x : X) → slice_get xs i ≡ Some x → i < length xs
+slice_get-within [] i x h = absurd (cc)
+slice_get-within (y ∷ ys) zero x h = omega arith
+slice_get-within (y ∷ ys) (suc i) x h = omega (arith, slice_get-within ys i x h)
+
+slice_get-past : {X : Type 0} (xs : List X) (i : ℕ) → slice_get xs i ≡ None → length xs ≤ i
+slice_get-past [] i h = omega arith
+slice_get-past (y ∷ ys) zero h = absurd (cc)
+slice_get-past (y ∷ ys) (suc i) h = omega (arith, slice_get-past ys i h)
+
+-- a key at an index names a Window, which has a row
+slice_get-window : (ns : List (ℕ × Node)) (keys : List ℕ) (i key : ℕ) → list_all (names_window ns) keys ≡ true → slice_get keys i ≡ Some key → names_window ns key ≡ true
+slice_get-window ns [] i key windows there = absurd (cc)
+slice_get-window ns (k ∷ ks) zero key windows there =
+    let same : k ≡ key = cc in
+    ap (names_window ns) (sym same) ∙ (and_parts (names_window ns k) (list_all (names_window ns) ks) windows).0
+slice_get-window ns (k ∷ ks) (suc i) key windows there = slice_get-window ns ks i key (and_parts (names_window ns k) (list_all (names_window ns) ks) windows).1 there
+
+pub window_live : (w : Widgets) (keys : List ℕ) (i key : ℕ) → list_all (names_window (nodes w.entries)) keys ≡ true → slice_get keys i ≡ Some key → is_some (row_at w.entries key) ≡ true
+window_live w keys i key windows there = by (row_at w.entries key) refl (node_at-nodes w.entries key) (slice_get-window (nodes w.entries) keys i key windows there)
+  where
+    by : (o : Option Row) → row_at w.entries key ≡ o → node_at (nodes w.entries) key ≡ option_map node_of (row_at w.entries key) → names_window (nodes w.entries) key ≡ true → is_some o ≡ true
+    by None p q h =
+        let absent : node_at (nodes w.entries) key ≡ None = q ∙ ap (option_map node_of) p in
+        absurd (true≢false (sym h ∙ rw absent refl))
+    by (Some row) p q h = refl
+
+-- the row of the title is the row of the number
+title_row : (w : Widgets) (clients : List ℕ) (keys : List ℕ) (key : ℕ) → IsStanding clients w keys → is_some (row_at w.entries key) ≡ true → row_named (rows_of w) (title_at (nodes w.entries) key).0 (title_at (nodes w.entries) key).1 ≡ row_at w.entries key
+title_row w clients keys key kept live = by (row_at w.entries key) refl (node_at-nodes w.entries key) live
+  where
+    by : (o : Option Row) → row_at w.entries key ≡ o → node_at (nodes w.entries) key ≡ option_map node_of (row_at w.entries key) → is_some o ≡ true → row_named (rows_of w) (title_at (nodes w.entries) key).0 (title_at (nodes w.entries) key).1 ≡ row_at w.entries key
+    by None p q h = absurd (true≢false (sym h))
+    by (Some row) p q h =
+        let there : node_at (nodes w.entries) key ≡ Some (node_of row) = q ∙ ap (option_map node_of) p in
+        rw there (row_named-found w.entries row.client row.name key kept.tree.forest.own_numbers (id_named-row w.entries key row kept.tree.forest.own_names p))
+
+pub window_at-key : (shape : Shape) (w : Widgets) (clients : List ℕ) (keys : List ℕ) (i key : ℕ) → IsStanding clients w keys → slice_get keys i ≡ Some key → window_at (desk_of shape w keys) i ≡ option_map place_in (row_at w.entries key)
+window_at-key shape w clients keys i key kept there =
+    let ns = nodes w.entries in
+    let found : slice_get (windows_at ns keys) i ≡ Some (title_at ns key) = slice_get-map (title_at ns) keys i ∙ ap (option_map (title_at ns)) there in
+    ap (option_and_then (λ (window : ℕ × List ℕ). option_map place_in (row_named (rows_of w) window.0 window.1))) found ∙ ap (option_map place_in) (title_row w clients keys key kept (window_live w keys i key kept.windows there))
+
+pub window_at-past : (shape : Shape) (w : Widgets) (keys : List ℕ) (i : ℕ) → slice_get keys i ≡ None → window_at (desk_of shape w keys) i ≡ None
+window_at-past shape w keys i past =
+    let ns = nodes w.entries in
+    let none : slice_get (windows_at ns keys) i ≡ None = slice_get-map (title_at ns) keys i ∙ ap (option_map (title_at ns)) past in
+    ap (option_and_then (λ (window : ℕ × List ℕ). option_map place_in (row_named (rows_of w) window.0 window.1))) none
+
+pub index_within : (ns : List (ℕ × Node)) (keys : List ℕ) (i key : ℕ) → slice_get keys i ≡ Some key → i < length (windows_at ns keys)
+index_within ns keys i key there = slice_get-within (windows_at ns keys) i (title_at ns key) (slice_get-map (title_at ns) keys i ∙ ap (option_map (title_at ns)) there)
+
+pub index_past : (ns : List (ℕ × Node)) (keys : List ℕ) (i : ℕ) → slice_get keys i ≡ None → length (windows_at ns keys) ≤ i
+index_past ns keys i past = slice_get-past (windows_at ns keys) i (slice_get-map (title_at ns) keys i ∙ ap (option_map (title_at ns)) past)

@@ -1,0 +1,132 @@
+use Rattle.std.proofs.Common.{◌≡◌, ℤ, List, Some, None, sym, ap, ◌∙◌, subst, rules, to_z, of_z, SFits, w32}
+use Rattle.std.proofs.lemmas.Int.{to_z-of_z}
+use Rattle.kind_core.specs.declared.kinds.Attr.{Attr}
+use Rattle.kind_core.specs.declared.values.Value as value
+use Rattle.cmd_words.specs.declared.commands.Command.{Command}
+use Rattle.cmd_words.specs.declared.commands.ConfigOption.{ConfigOption}
+use Rattle.cmd_words.specs.declared.replies.Reply.TheVariants.{NoEvent}
+use Rattle.desk_model.specs.Commands.{row_step}
+use Rattle.desk_model.specs.Making.{step_new, step_set, step_get}
+use Rattle.desk_model.specs.Hanging.{step_column, step_line}
+use Rattle.desk_model.specs.Linking.{step_link, step_unlink, step_bind, step_open}
+use Rattle.desk_core.specs.Standing.{is_memory}
+use Rattle.desk_core.specs.Did.{Did}
+use Rattle.desk_core.proofs.Obeying.{row_did, obeyed, rest_step, nothing_all}
+use Rattle.desk_core.proofs.Tells.{tells_all}
+use Rattle.desk_core.proofs.commands.obey.Goals as goal
+
+pub returns-in-New-clause-did : goal.returns-in-New-clause-did
+unfolding row_step
+returns-in-New-clause-did c =
+    obeyed c.args.client c.args.command.now (λ desk. step_new desk c.args.client c.in-New.name c.in-New.kind (is_memory c.make.result.reply)) c.args.tree.now c.make.new.tree c.args.windows.now c.make.result.reply
+    (λ desk. ap (λ (command : Command). row_step desk c.args.client command (is_memory c.make.result.reply)) (sym c.in-New.is))
+    c.make.ensures.did c.requires.standing c.make.ensures.valid
+
+pub returns-in-Set-clause-did : goal.returns-in-Set-clause-did
+unfolding row_step
+returns-in-Set-clause-did c =
+    obeyed c.args.client c.args.command.now (λ desk. step_set desk c.args.client c.in-Set.name c.as_slice.result.now) c.args.tree.now c.set.new.tree c.args.windows.now c.set.result.reply
+    (λ desk. ap (λ (options : List (Attr × value.Value)). step_set desk c.args.client c.in-Set.name options) c.as_slice.ensures.items ∙ ap (λ (command : Command). row_step desk c.args.client command (is_memory c.set.result.reply)) (sym c.in-Set.is))
+    c.set.ensures.did c.requires.standing c.set.ensures.valid
+
+pub returns-in-Get-clause-did : goal.returns-in-Get-clause-did
+unfolding row_step
+returns-in-Get-clause-did c =
+    obeyed c.args.client c.args.command.now (λ desk. step_get desk c.args.client c.in-Get.name c.in-Get.attr) c.args.tree.now c.args.tree.now c.args.windows.now c.get.result.reply
+    (λ desk. ap (λ (command : Command). row_step desk c.args.client command (is_memory c.get.result.reply)) (sym c.in-Get.is))
+    c.get.ensures.did c.requires.standing c.get.ensures.valid
+
+pub returns-in-ColumnConfig-clause-did : goal.returns-in-ColumnConfig-clause-did
+unfolding row_step
+returns-in-ColumnConfig-clause-did c =
+    let fits : SFits w32 c.in-ColumnConfig.index = search rules in
+    let plain : to_z w32 (of_z w32 c.in-ColumnConfig.index) ≡ c.in-ColumnConfig.index = to_z-of_z w32 c.in-ColumnConfig.index fits in
+    let P : ℤ → Type 0 = λ index. Did (λ desk. step_column desk c.args.client c.in-ColumnConfig.name index c.as_slice-in-ColumnConfig.result.now) c.args.tree.now c.rule_column.new.tree c.rule_column.result.reply in
+    obeyed c.args.client c.args.command.now (λ desk. step_column desk c.args.client c.in-ColumnConfig.name c.in-ColumnConfig.index c.as_slice-in-ColumnConfig.result.now) c.args.tree.now c.rule_column.new.tree c.args.windows.now c.rule_column.result.reply
+    (λ desk. ap (λ (options : List (ConfigOption × ℤ)). step_column desk c.args.client c.in-ColumnConfig.name c.in-ColumnConfig.index options) c.as_slice-in-ColumnConfig.ensures.items ∙ ap (λ (command : Command). row_step desk c.args.client command (is_memory c.rule_column.result.reply)) (sym c.in-ColumnConfig.is))
+    (subst P plain c.rule_column.ensures.did) c.requires.standing c.rule_column.ensures.valid
+
+pub returns-in-RowConfig-clause-did : goal.returns-in-RowConfig-clause-did
+unfolding row_step
+returns-in-RowConfig-clause-did c =
+    let fits : SFits w32 c.in-RowConfig.index = search rules in
+    let plain : to_z w32 (of_z w32 c.in-RowConfig.index) ≡ c.in-RowConfig.index = to_z-of_z w32 c.in-RowConfig.index fits in
+    let P : ℤ → Type 0 = λ index. Did (λ desk. step_line desk c.args.client c.in-RowConfig.name index c.as_slice-in-RowConfig.result.now) c.args.tree.now c.rule_row.new.tree c.rule_row.result.reply in
+    obeyed c.args.client c.args.command.now (λ desk. step_line desk c.args.client c.in-RowConfig.name c.in-RowConfig.index c.as_slice-in-RowConfig.result.now) c.args.tree.now c.rule_row.new.tree c.args.windows.now c.rule_row.result.reply
+    (λ desk. ap (λ (options : List (ConfigOption × ℤ)). step_line desk c.args.client c.in-RowConfig.name c.in-RowConfig.index options) c.as_slice-in-RowConfig.ensures.items ∙ ap (λ (command : Command). row_step desk c.args.client command (is_memory c.rule_row.result.reply)) (sym c.in-RowConfig.is))
+    (subst P plain c.rule_row.ensures.did) c.requires.standing c.rule_row.ensures.valid
+
+pub returns-in-Link-clause-did : goal.returns-in-Link-clause-did
+unfolding row_step
+returns-in-Link-clause-did c =
+    obeyed c.args.client c.args.command.now (λ desk. step_link desk c.args.client c.in-Link.name c.in-Link.variable) c.args.tree.now c.link.new.tree c.args.windows.now c.link.result.reply
+    (λ desk. ap (λ (command : Command). row_step desk c.args.client command (is_memory c.link.result.reply)) (sym c.in-Link.is))
+    c.link.ensures.did c.requires.standing c.link.ensures.valid
+
+pub returns-in-Unlink-clause-did : goal.returns-in-Unlink-clause-did
+unfolding row_step
+returns-in-Unlink-clause-did c =
+    obeyed c.args.client c.args.command.now (λ desk. step_unlink desk c.args.client c.in-Unlink.name) c.args.tree.now c.unlink.new.tree c.args.windows.now c.unlink.result.reply
+    (λ desk. ap (λ (command : Command). row_step desk c.args.client command (is_memory c.unlink.result.reply)) (sym c.in-Unlink.is))
+    c.unlink.ensures.did c.requires.standing c.unlink.ensures.valid
+
+pub returns-in-Bind-clause-did : goal.returns-in-Bind-clause-did
+unfolding row_step
+returns-in-Bind-clause-did c =
+    obeyed c.args.client c.args.command.now (λ desk. step_bind desk c.args.client c.in-Bind.name c.in-Bind.event (Some c.in-Bind.tag)) c.args.tree.now c.bind.new.tree c.args.windows.now c.bind.result.reply
+    (λ desk. ap (λ (command : Command). row_step desk c.args.client command (is_memory c.bind.result.reply)) (sym c.in-Bind.is))
+    c.bind.ensures.did c.requires.standing c.bind.ensures.valid
+
+pub returns-in-Unbind-clause-did : goal.returns-in-Unbind-clause-did
+unfolding row_step
+returns-in-Unbind-clause-did c =
+    obeyed c.args.client c.args.command.now (λ desk. step_bind desk c.args.client c.in-Unbind.name c.in-Unbind.event None) c.args.tree.now c.bind-in-Unbind.new.tree c.args.windows.now c.bind-in-Unbind.result.reply
+    (λ desk. ap (λ (command : Command). row_step desk c.args.client command (is_memory c.bind-in-Unbind.result.reply)) (sym c.in-Unbind.is))
+    c.bind-in-Unbind.ensures.did c.requires.standing c.bind-in-Unbind.ensures.valid
+
+pub returns-in-OpenWindow-clause-did : goal.returns-in-OpenWindow-clause-did
+unfolding row_step
+returns-in-OpenWindow-clause-did c =
+    row_did c.args.client c.args.command.now (λ desk. step_open desk c.args.client c.in-OpenWindow.name) c.args.tree.now c.args.tree.now c.args.windows.now c.open_window.new.windows c.open_window.result.reply
+    (λ desk. ap (λ (command : Command). row_step desk c.args.client command (is_memory c.open_window.result.reply)) (sym c.in-OpenWindow.is))
+    c.open_window.ensures.did
+
+pub returns-in_default-clause-did : goal.returns-in_default-clause-did
+unfolding row_step
+returns-in_default-clause-did c =
+    let rest = c.in_default in
+    row_did c.args.client c.args.command.now (λ desk. (NoEvent, desk)) c.args.tree.now c.args.tree.now c.args.windows.now c.args.windows.now NoEvent
+    (λ desk. sym (rest_step desk c.args.client c.args.command.now (is_memory NoEvent) c.requires.ready rest.not-New rest.not-Set rest.not-Get rest.not-ColumnConfig rest.not-RowConfig rest.not-Link rest.not-Unlink rest.not-Bind rest.not-Unbind rest.not-OpenWindow))
+    (nothing_all c.args.tree.now c.args.windows.now c.requires.standing)
+
+pub returns-in-New-clause-tells : goal.returns-in-New-clause-tells
+returns-in-New-clause-tells c =
+    tells_all _ c.args.tree.now c.make.new.tree c.args.windows.now c.make.result.reply c.make.result.changed c.make.ensures.did c.requires.standing.windows c.make.ensures.tells
+
+pub returns-in-Set-clause-tells : goal.returns-in-Set-clause-tells
+returns-in-Set-clause-tells c =
+    tells_all _ c.args.tree.now c.set.new.tree c.args.windows.now c.set.result.reply c.set.result.changed c.set.ensures.did c.requires.standing.windows c.set.ensures.tells
+
+pub returns-in-ColumnConfig-clause-tells : goal.returns-in-ColumnConfig-clause-tells
+returns-in-ColumnConfig-clause-tells c =
+    tells_all _ c.args.tree.now c.rule_column.new.tree c.args.windows.now c.rule_column.result.reply c.rule_column.result.changed c.rule_column.ensures.did c.requires.standing.windows c.rule_column.ensures.tells
+
+pub returns-in-RowConfig-clause-tells : goal.returns-in-RowConfig-clause-tells
+returns-in-RowConfig-clause-tells c =
+    tells_all _ c.args.tree.now c.rule_row.new.tree c.args.windows.now c.rule_row.result.reply c.rule_row.result.changed c.rule_row.ensures.did c.requires.standing.windows c.rule_row.ensures.tells
+
+pub returns-in-Link-clause-tells : goal.returns-in-Link-clause-tells
+returns-in-Link-clause-tells c =
+    tells_all _ c.args.tree.now c.link.new.tree c.args.windows.now c.link.result.reply c.link.result.changed c.link.ensures.did c.requires.standing.windows c.link.ensures.tells
+
+pub returns-in-Unlink-clause-tells : goal.returns-in-Unlink-clause-tells
+returns-in-Unlink-clause-tells c =
+    tells_all _ c.args.tree.now c.unlink.new.tree c.args.windows.now c.unlink.result.reply c.unlink.result.changed c.unlink.ensures.did c.requires.standing.windows c.unlink.ensures.tells
+
+pub returns-in-Bind-clause-tells : goal.returns-in-Bind-clause-tells
+returns-in-Bind-clause-tells c =
+    tells_all _ c.args.tree.now c.bind.new.tree c.args.windows.now c.bind.result.reply c.bind.result.changed c.bind.ensures.did c.requires.standing.windows c.bind.ensures.tells
+
+pub returns-in-Unbind-clause-tells : goal.returns-in-Unbind-clause-tells
+returns-in-Unbind-clause-tells c =
+    tells_all _ c.args.tree.now c.bind-in-Unbind.new.tree c.args.windows.now c.bind-in-Unbind.result.reply c.bind-in-Unbind.result.changed c.bind-in-Unbind.ensures.did c.requires.standing.windows c.bind-in-Unbind.ensures.tells

@@ -1,0 +1,64 @@
+use Rattle.std.proofs.Common.{◌≡◌, ℕ, ◌-◌, ℤ, ◌&&◌, nat_eq, List, nat_le, Some, refl, ap, ◌∙◌, subst, to_z, of_z, w32}
+use Rattle.std.proofs.lemmas.Int.{to_z-of_z}
+use Rattle.std.proofs.lemmas.Bool.{leb-true, and_parts}
+use Rattle.kind_core.specs.declared.kinds.Kind.TheVariants.{Grid}
+use Rattle.desk_model.specs.Rows.{Row, column_rule_of, with_column_rule}
+use Rattle.desk_model.specs.Desk.{Desk}
+use Rattle.desk_model.specs.Hanging.{config_refusal, step_column}
+use Rattle.desk_model.specs.Widgets.{rows_of}
+use Rattle.desk_core.specs.Did.{with_rows}
+use Rattle.desk_core.specs.Standing.{fits_rule}
+use Rattle.desk_core.specs.Ruling.{IsRuled}
+use Rattle.desk_core.proofs.Dids.{refused_did}
+use Rattle.desk_core.proofs.RuleSteps.{step_column-by, rule_of_column_fits, column_did, still_grid}
+use Rattle.desk_core.proofs.Tells.{tells_read, slice_set-same, rule_eq-true, rule_eq-false}
+use Rattle.desk_core.proofs.rules.rule_column.Goals as goal
+
+pub returns-in-Err-clause-did : goal.returns-in-Err-clause-did
+returns-in-Err-clause-did c =
+    let plain : to_z w32 (of_z w32 c.args.index) ≡ c.args.index = to_z-of_z w32 c.args.index c.ranges.index in
+    let P : ℤ → Type 0 = λ index. (desk : Desk) → config_refusal (with_rows (rows_of c.args.tree.now) desk) c.args.client c.args.name.now index c.args.options.now ≡ Some c.in-Err.refusal in
+    refused_did (λ desk. step_column desk c.args.client c.args.name.now c.args.index c.args.options.now) c.args.tree.now c.refused.result.reply c.in-Err.refusal c.refused.ensures.reply
+    (λ desk. step_column-by (with_rows (rows_of c.args.tree.now) desk) c.args.client c.args.name.now c.args.index c.args.options.now (Some c.in-Err.refusal) (subst P plain c.in-Err.ensures.ruled desk))
+
+pub set_column_rule-requires-clause-size : goal.set_column_rule-requires-clause-size
+set_column_rule-requires-clause-size c =
+    let plain : to_z w32 (of_z w32 c.args.index) ≡ c.args.index = to_z-of_z w32 c.args.index c.ranges.index in
+    let P : ℤ → Type 0 = λ index. IsRuled c.args.tree.now c.args.client c.args.name.now index c.args.options.now c.in-Ok.ruled.id.key c.in-Ok.ruled.at in
+    let ruled = subst P plain c.in-Ok.ensures.ruled in
+    let fits = ap fits_rule c.with_configs-rule.ensures ∙ rule_of_column_fits c.args.tree.now c.args.client c.args.name.now c.args.index c.args.options.now c.in-Ok.ruled.id.key c.in-Ok.ruled.at c.column_rule-before.result ruled c.requires c.column_rule-before.ensures.rule in
+    leb-true c.with_configs-rule.result.0 1024 (and_parts (nat_le c.with_configs-rule.result.0 1024) (nat_le c.with_configs-rule.result.1 1000) fits).0
+
+pub set_column_rule-requires-clause-weight : goal.set_column_rule-requires-clause-weight
+set_column_rule-requires-clause-weight c =
+    let plain : to_z w32 (of_z w32 c.args.index) ≡ c.args.index = to_z-of_z w32 c.args.index c.ranges.index in
+    let P : ℤ → Type 0 = λ index. IsRuled c.args.tree.now c.args.client c.args.name.now index c.args.options.now c.in-Ok.ruled.id.key c.in-Ok.ruled.at in
+    let ruled = subst P plain c.in-Ok.ensures.ruled in
+    let fits = ap fits_rule c.with_configs-rule.ensures ∙ rule_of_column_fits c.args.tree.now c.args.client c.args.name.now c.args.index c.args.options.now c.in-Ok.ruled.id.key c.in-Ok.ruled.at c.column_rule-before.result ruled c.requires c.column_rule-before.ensures.rule in
+    leb-true c.with_configs-rule.result.1 1000 (and_parts (nat_le c.with_configs-rule.result.0 1024) (nat_le c.with_configs-rule.result.1 1000) fits).1
+
+pub column_rule-requires-clause-grid : goal.column_rule-requires-clause-grid
+column_rule-requires-clause-grid c =
+    let plain : to_z w32 (of_z w32 c.args.index) ≡ c.args.index = to_z-of_z w32 c.args.index c.ranges.index in
+    let P : ℤ → Type 0 = λ index. IsRuled c.args.tree.now c.args.client c.args.name.now index c.args.options.now c.in-Ok.ruled.id.key c.in-Ok.ruled.at in
+    let ruled = subst P plain c.in-Ok.ensures.ruled in
+    still_grid c.args.tree.now c.set_column_rule.new.self c.args.client c.args.name.now c.args.index c.args.options.now c.in-Ok.ruled.id.key c.in-Ok.ruled.at (with_column_rule c.in-Ok.ruled.at (c.with_configs-rule.result.0, c.with_configs-rule.result.1)) ruled c.set_column_rule.ensures.rule (λ row. refl)
+
+pub returns-clause-did : goal.returns-clause-did
+returns-clause-did c =
+    let plain : to_z w32 (of_z w32 c.args.index) ≡ c.args.index = to_z-of_z w32 c.args.index c.ranges.index in
+    let P : ℤ → Type 0 = λ index. IsRuled c.args.tree.now c.args.client c.args.name.now index c.args.options.now c.in-Ok.ruled.id.key c.in-Ok.ruled.at in
+    let ruled = subst P plain c.in-Ok.ensures.ruled in
+    column_did c.args.tree.now c.set_column_rule.new.self c.args.client c.args.name.now c.args.index c.args.options.now c.in-Ok.ruled.id.key c.in-Ok.ruled.at c.column_rule-before.result c.with_configs-rule.result c.done.result.reply c.grid_to_rule.ensures.valid ruled c.column_rule-before.ensures.rule c.with_configs-rule.ensures c.set_column_rule.ensures.rule c.done.ensures.reply
+
+pub returns-clause-tells : goal.returns-clause-tells
+returns-clause-tells c =
+    let plain : to_z w32 (of_z w32 c.args.index) ≡ c.args.index = to_z-of_z w32 c.args.index c.ranges.index in
+    let P : ℤ → Type 0 = λ index. IsRuled c.args.tree.now c.args.client c.args.name.now index c.args.options.now c.in-Ok.ruled.id.key c.in-Ok.ruled.at in
+    let ruled = subst P plain c.in-Ok.ensures.ruled in
+    let at = c.in-Ok.ruled.at in
+    let rule : ℕ × ℕ = (c.with_configs-rule.result.0, c.with_configs-rule.result.1) in
+    let before = c.column_rule-before.result in
+    let after = c.column_rule.result in
+    tells_read (λ (row : Row). column_rule_of row at) c.args.tree.now c.set_column_rule.new.self c.args.client c.args.name.now c.in-Ok.ruled.id.key Grid (with_column_rule at rule) before after (nat_eq before.0 after.0 && nat_eq before.1 after.1) c.done.result.changed c.grid_to_rule.ensures.valid ruled.found c.set_column_rule.ensures.rule c.column_rule-before.ensures.rule c.column_rule.ensures.rule (c.done.ensures.changed ∙ c.ne.ensures) (rule_eq-true before after) (rule_eq-false before after)
+    (λ row h. ap (λ (rules : List (ℕ × ℕ)). record row { column_rules = rules }) (slice_set-same row.column_rules (at - 1) rule (0, 0) h))

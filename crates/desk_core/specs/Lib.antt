@@ -1,0 +1,9 @@
+pub mod Joined
+pub mod Standing
+pub mod Did
+pub mod Finding
+pub mod Told
+pub mod Ruling
+pub mod Ready
+pub mod Given
+pub mod Open

@@ -1,0 +1,51 @@
+//! Which command is answered by which function.
+
+ghost use Rattle.std.specs.Prelude.{◌≡◌, true};
+ghost use Rattle.desk_model.specs.Widgets.{is_joined};
+ghost use Rattle.desk_model.specs.Commands.{row_step};
+ghost use Rattle.desk_core.specs.Standing.{IsStanding, is_memory};
+ghost use Rattle.desk_core.specs.Did.{DidAll, TellsAll};
+ghost use Rattle.desk_core.specs.Ready.{is_ready};
+
+use crate::answer::Answer;
+use crate::linking::{bind, link, unlink};
+use crate::making::{get, make, set};
+use crate::opening::open_window;
+use crate::rules::{rule_column, rule_row};
+use cmd_words::{Command, Reply};
+use stack_core::Stack;
+use tree_core::Tree;
+
+/// The answer to a connected client's command.
+pub(crate) fn obey(tree: &mut Tree, windows: &mut Stack, client: u32, command: &Command) -> Answer
+    requires standing { IsStanding tree.old.clients tree.old windows.old }
+    requires connected { is_joined tree.old.clients client ≡ true }
+    requires ready { is_ready command.now ≡ true }
+    ensures tells { TellsAll tree.old tree.new windows.old windows.new result.changed }
+    ensures did { DidAll (λ desk. row_step desk client command.now (is_memory result.reply)) tree.old tree.new windows.old windows.new result.reply }
+{
+    match command {
+        Command::New { name, kind } => make(tree, client, name, *kind),
+        Command::Set { name, options } => set(tree, client, name, options.as_slice()),
+        Command::Get { name, attr } => get(tree, client, name, *attr),
+        Command::ColumnConfig {
+            name,
+            index,
+            options,
+        } => rule_column(tree, client, name, *index, options.as_slice()),
+        Command::RowConfig {
+            name,
+            index,
+            options,
+        } => rule_row(tree, client, name, *index, options.as_slice()),
+        Command::Link { name, variable } => link(tree, client, name, variable),
+        Command::Unlink { name } => unlink(tree, client, name),
+        Command::Bind { name, event, tag } => bind(tree, client, name, *event, Some(*tag)),
+        Command::Unbind { name, event } => bind(tree, client, name, *event, None),
+        Command::OpenWindow { name } => open_window(tree, windows, client, name),
+        _ => Answer {
+            reply: Reply::NoEvent,
+            changed: false,
+        },
+    }
+}

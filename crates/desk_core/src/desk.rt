@@ -1,0 +1,146 @@
+ghost use Rattle.std.specs.Prelude.{◌≡◌, ◌<◌, ◌≤◌, ◌↔◌, IsSome, true, false, [], length};
+ghost use Rattle.desk_model.specs.Desk.{opening_desk};
+ghost use Rattle.desk_model.specs.Clients.{step_connect, step_hello};
+ghost use Rattle.desk_model.specs.Commands.{is_built, step};
+ghost use Rattle.desk_core.specs.Standing.{is_memory, TellsChange};
+ghost use Rattle.desk_core.specs.Open.{window_at};
+ghost use Rattle.desk_core.specs.Ready.{is_ready};
+
+use crate::clients::Clients;
+use crate::commands::obey;
+use crate::opening::place_of;
+use cmd_words::{Command, Refusal, Reply};
+use kind_core::Shape;
+use stack_core::Stack;
+use std::alloc::Global;
+use std::marker::Model;
+use tree_core::{Id, Tree};
+
+/// The desk: the connected clients, their widgets and the order of the open windows. It answers each client's
+/// command. Contracts see the record `Standing`: the desk of desk_model, and whether the last call changed it.
+/// See docs/MACHINE.md, "The desk".
+#[derive(Drop)]
+pub struct Desk {
+    shape: Shape,
+    clients: Clients,
+    tree: Tree,
+    windows: Stack,
+    changed: bool,
+}
+
+impl Model for Desk {
+    ghost use Rattle.desk_core.specs.Standing.{Standing, desk_of, IsStanding};
+
+    ghost Value = { Standing };
+
+    ghost view = { λ d. record { desk = desk_of d.shape d.tree d.windows; changed = d.changed } };
+
+    ghost invariant = { λ d. IsStanding d.clients d.tree d.windows };
+}
+
+impl Desk {
+    /// A desk with no clients. See docs/MACHINE.md, "The desk".
+    pub fn new(alloc: Global, shape: Shape) -> Desk
+        ensures opening { result.desk ≡ opening_desk shape }
+        ensures changed { result.changed ≡ false }
+    {
+        Desk {
+            shape,
+            clients: Clients::new(),
+            tree: Tree::new(alloc),
+            windows: Stack::new(),
+            changed: false,
+        }
+    }
+
+    /// Connects a client, 1 to 16. Refuses Connected where it is connected, and Memory. See docs/GUIDE.md,
+    /// "Commands".
+    #[tactic(auto, unfolding(desk_model::specs::Clients::step_connect))]
+    pub fn connect(&mut self, client: u32) -> Reply
+        requires low { 1 ≤ client }
+        requires high { client ≤ 16 }
+        ensures step { (result, self.new.desk) ≡ step_connect self.old.desk client (is_memory result) }
+        ensures changed { TellsChange self.old self.new }
+        ensures unchanged { self.new.changed ≡ false }
+    {
+        self.changed = false;
+        if self.clients.has(client) {
+            return Reply::Refused(Refusal::Connected);
+        }
+        match self.tree.join_client(client) {
+            Ok(()) => {}
+            Err(_) => return Reply::Refused(Refusal::Memory),
+        }
+        self.clients.join(client);
+        Reply::Done
+    }
+
+    /// Connects the least client, 1 to 16, that isn't connected, and answers its number. Refuses Full where
+    /// 16 are connected, and Memory. See docs/GUIDE.md, "Commands".
+    #[tactic(auto, unfolding(desk_model::specs::Clients::step_hello))]
+    pub fn hello(&mut self) -> Reply
+        ensures step { (result, self.new.desk) ≡ step_hello self.old.desk (is_memory result) }
+        ensures changed { TellsChange self.old self.new }
+        ensures unchanged { self.new.changed ≡ false }
+    {
+        self.changed = false;
+        let client = match self.clients.free() {
+            Some(client) => client,
+            None => return Reply::Refused(Refusal::Full { limit: 16 }),
+        };
+        match self.tree.join_client(client) {
+            Ok(()) => {}
+            Err(_) => return Reply::Refused(Refusal::Memory),
+        }
+        self.clients.join(client);
+        Reply::Number(client as i32)
+    }
+
+    /// Answers a client's command, of a client from 1 to 16. Refuses NotConnected where the client isn't
+    /// connected; else each command has its own refusals. See docs/GUIDE.md, "Commands".
+    #[tactic(auto, unfolding(desk_model::specs::Commands::step))]
+    pub fn step(&mut self, client: u32, command: &Command, payload: &[u8]) -> Reply
+        requires low { 1 ≤ client }
+        requires high { client ≤ 16 }
+        requires built { is_built command.now ≡ true }
+        requires ready { is_ready command.now ≡ true }
+        requires bare { payload.now ≡ [] }
+        ensures changed { TellsChange self.old self.new }
+        ensures step { (result, self.new.desk) ≡ step self.old.desk client command.now (is_memory result) }
+    {
+        self.changed = false;
+        if !self.clients.has(client) {
+            return Reply::Refused(Refusal::NotConnected);
+        }
+        let answer = obey(&mut self.tree, &mut self.windows, client, command);
+        self.changed = answer.changed;
+        answer.reply
+    }
+
+    /// The place of the open window with that index, counted from 0 at the top: x, y, width and height in
+    /// pixels. None exactly at and past the number of open windows. See docs/MACHINE.md, "Windows".
+    pub fn window_at(&self, index: usize) -> Option<(i32, i32, u32, u32)>
+        ensures place { result ≡ window_at self.now.desk index }
+        ensures some { IsSome result ↔ (index < length self.now.desk.windows) }
+    {
+        match self.windows.at(index) {
+            Some(key) => Some(place_of(&self.tree, Id { key })),
+            None => None,
+        }
+    }
+
+    /// Whether the last call that connects a client or answers one changed the rows, the open windows or
+    /// their order.
+    pub fn changed(&self) -> bool
+        ensures { result ≡ self.now.changed }
+    {
+        self.changed
+    }
+
+    /// The number of connected clients.
+    pub fn live(&self) -> u32
+        ensures { result ≡ length self.now.desk.clients }
+    {
+        self.clients.len()
+    }
+}

@@ -1,0 +1,27 @@
+ghost use Rattle.std.specs.Prelude.{◌≡◌};
+ghost use Rattle.desk_model.specs.Forest.{IsWidgets};
+ghost use Rattle.desk_core.specs.Finding.{AnswersFound};
+
+use kind_core::{Kind, Name};
+use tree_core::{Id, Tree};
+
+/// A client's widget: its number and its kind.
+#[derive(Clone, Copy)]
+pub(crate) struct Found {
+    pub id: Id,
+    pub kind: Kind,
+}
+
+/// The client's widget of that name.
+pub(crate) fn find(tree: &Tree, client: u32, name: &Name) -> Option<Found>
+    ensures found { AnswersFound tree.now client name.now result }
+    ensures valid { IsWidgets tree.now }
+{
+    match tree.find(client, name) {
+        Some(id) => Some(Found {
+            id,
+            kind: tree.kind(id),
+        }),
+        None => None,
+    }
+}

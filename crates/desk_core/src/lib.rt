@@ -1,0 +1,15 @@
+//! The desk: the sequential server, which answers each client's command.
+#![tactic(auto)]
+
+mod answer;
+mod clients;
+mod commands;
+mod desk;
+mod finding;
+mod linking;
+mod making;
+mod opening;
+mod places;
+mod rules;
+
+pub use desk::Desk;
