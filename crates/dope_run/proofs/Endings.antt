@@ -1,16 +1,14 @@
 -- How a run ends, from what its player did.
-use Rattle.std.proofs.Common.{◌≡◌, ◌≢◌, ℕ, ◌+◌, ◌≤◌, List, [], ◌∷◌, ◌++◌, length, take, Option, Some, None, refl, sym, ap, subst, ◌∙◌, inl, inr, arith, append-nil, append_assoc, length-append}
+use Rattle.std.proofs.Common.{◌≡◌, ◌≢◌, ℕ, ◌+◌, ◌≤◌, List, [], ◌∷◌, ◌++◌, length, take, Option, Some, refl, sym, ap, subst, ◌∙◌, inl, inr, arith, append-nil, append_assoc, length-append}
 use Rattle.std.specs.Io.KnownBytes.{Appends, Consumes, Keeps, IsAtEnd}
 use Rattle.outside_io.specs.Sink.{AppendsFront}
 use Rattle.outside_io.proofs.Told.{Consumes-none, Consumes-append, Consumes-keeps}
 use Rattle.kind_core.specs.declared.shapes.Shape.{Shape}
-use Rattle.desk_model.proofs.Opening.{shape-opening, windows-opening}
+use Rattle.desk_model.proofs.Opening.{shape-opening}
 use Rattle.desk_model.specs.State.{State, IsState, opening}
 use Rattle.desk_model.specs.Run.{Moment, state_after}
 use Rattle.desk_model.proofs.Runs.{IsState-run, KeepsLaws-run}
 use Rattle.desk_model.proofs.Progress.{some_run}
-use Rattle.dope_run.specs.declared.setup.Setup.{Setup}
-use Rattle.dope_run.specs.declared.setup.Setup.TheVariants.{Fresh}
 use Rattle.dope_run.specs.declared.cut.Cut.{Cut}
 use Rattle.dope_run.specs.declared.cut.Cut.TheVariants.{Unread, Unwritten}
 use Rattle.dope_run.specs.Cutting.{status_of}
@@ -19,8 +17,6 @@ use Rattle.dope_run.specs.declared.status.Status.TheVariants.{Done, ReadFault, W
 use Rattle.dope_run.specs.declared.player.Player.{Player}
 use Rattle.dope_run.specs.Framing.{Item, IsLine, AreWhole, IsUnended, bytes_of, wants_of, script_limit}
 use Rattle.dope_run.specs.Script.{EndsUnread}
-use Rattle.dope_run.specs.Line.{line_order}
-use Rattle.dope_run.specs.Ready.{IsReady}
 use Rattle.dope_run.specs.Text.{text_of}
 use Rattle.dope_run.specs.Transcript.{Plays, Covers, Gains, Leaves, Ended, AreCutShort, IsRefused}
 use Rattle.dope_run.specs.Playing.{IsPlayer, Fed, LineDone, LineUnread, IsFresh, Going, Finished, LineCut, bare_item}
@@ -31,11 +27,10 @@ use Rattle.std.proofs.Math.Seq.{take-append_seam}
 use Rattle.dope_run.proofs.Framings.{lines_of}
 
 -- what is known of a run, put together
-ended : (shape : Shape) (status : Status) (source_old source_new sink_old sink_new : Option (List ℕ)) (state : State) (taken : List ℕ) (items : List Item) (later : Setup) (moments : List Moment) → IsState (opening shape) → Consumes source_old source_new taken → Covers status taken source_new later items → Plays Fresh (opening shape) items moments later → Gains status sink_old sink_new (text_of moments) → Leaves status state (opening shape) moments → Ended shape status source_old source_new sink_old sink_new state
-ended shape status source_old source_new sink_old sink_new state taken items later moments valid consumes covers plays gains leaves = record {
+ended : (shape : Shape) (status : Status) (source_old source_new sink_old sink_new : Option (List ℕ)) (state : State) (taken : List ℕ) (items : List Item) (moments : List Moment) → IsState (opening shape) → Consumes source_old source_new taken → Covers status taken source_new items → Plays (opening shape) items moments → Gains status sink_old sink_new (text_of moments) → Leaves status state (opening shape) moments → Ended shape status source_old source_new sink_old sink_new state
+ended shape status source_old source_new sink_old sink_new state taken items moments valid consumes covers plays gains leaves = record {
   taken = taken;
   items = items;
-  later = later;
   moments = moments;
   consumes = consumes;
   covers = covers;
@@ -50,10 +45,9 @@ ended shape status source_old source_new sink_old sink_new state taken items lat
 spelled_from : (shape : Shape) (status : Status) (start player : Player) (bytes : List ℕ) (before after : Option (List ℕ)) → IsFresh shape start → (fed : Fed status start bytes player before after) → bytes ≡ bytes_of fed.items ++ fed.rest
 spelled_from shape status start player bytes before after fresh fed = ap (λ line. line ++ bytes) (sym fresh.line) ∙ fed.spelled
 
-plays_from : (shape : Shape) (status : Status) (start player : Player) (bytes : List ℕ) (before after : Option (List ℕ)) → IsFresh shape start → (fed : Fed status start bytes player before after) → Plays Fresh (opening shape) fed.items fed.moments fed.later
+plays_from : (shape : Shape) (status : Status) (start player : Player) (bytes : List ℕ) (before after : Option (List ℕ)) → IsFresh shape start → (fed : Fed status start bytes player before after) → Plays (opening shape) fed.items fed.moments
 plays_from shape status start player bytes before after fresh fed =
-    subst (λ setup. Plays setup (opening shape) fed.items fed.moments fed.later) fresh.setup
-    (subst (λ from. Plays start.setup from fed.items fed.moments fed.later) fresh.state fed.plays)
+    subst (λ from. Plays from fed.items fed.moments) fresh.state fed.plays
 
 leaves_from : (shape : Shape) (status : Status) (start player : Player) (bytes : List ℕ) (before after : Option (List ℕ)) → IsFresh shape start → (fed : Fed status start bytes player before after) → Leaves status player.server.state (opening shape) fed.moments
 leaves_from shape status start player bytes before after fresh fed = subst (λ from. Leaves status player.server.state from fed.moments) fresh.state fed.leaves
@@ -81,14 +75,14 @@ cut_short : (shape : Shape) (start player : Player) (bytes : List ℕ) (before a
 cut_short shape start player bytes before after fresh valid fed = record {
   rest = fed.rest;
   spelled = spelled_from shape Done start player bytes before after fresh fed;
-  partial = inl (subst IsLine (sym fed.ends.1) valid.line);
+  partial = inl (subst IsLine (sym fed.ends) valid.line);
 }
 
 -- the source failed
 pub ended_read_fault : (shape : Shape) (start player : Player) (count : ℕ) (s0 s1 s2 k0 k1 : Option (List ℕ)) → IsFresh shape start → IsPlayer player → Going start player count s0 s1 k0 k1 → Keeps s1 s2 → count ≤ script_limit → Ended shape ReadFault s0 s2 k0 k1 player.server.state
 ended_read_fault shape start player count s0 s1 s2 k0 k1 fresh valid going keeps few =
     let fed = going.fed in
-    ended shape ReadFault s0 s2 k0 k1 player.server.state going.taken fed.items fed.later fed.moments fresh.valid
+    ended shape ReadFault s0 s2 k0 k1 player.server.state going.taken fed.items fed.moments fresh.valid
     (subst (Consumes s0 s2) (append-nil going.taken) (Consumes-append s0 s1 s2 going.taken [] going.consumes (Consumes-keeps s1 s2 keeps)))
     (cut_short shape start player going.taken k0 k1 fresh valid fed, omega (arith, going.counted))
     (plays_from shape Done start player going.taken k0 k1 fresh fed)
@@ -100,7 +94,7 @@ pub ended_too_much : (shape : Shape) (start player : Player) (bytes : List ℕ) 
 ended_too_much shape start player bytes s0 s1 s2 k0 k1 fresh valid going consumes one =
     let fed = going.fed in
     let front : take script_limit (going.taken ++ bytes) ≡ going.taken = subst (λ n. take n (going.taken ++ bytes) ≡ going.taken) going.counted (take-append_seam going.taken bytes) in
-    ended shape TooMuch s0 s2 k0 k1 player.server.state (going.taken ++ bytes) fed.items fed.later fed.moments fresh.valid
+    ended shape TooMuch s0 s2 k0 k1 player.server.state (going.taken ++ bytes) fed.items fed.moments fresh.valid
     (Consumes-append s0 s1 s2 going.taken bytes going.consumes consumes)
     (subst (λ xs. AreCutShort xs fed.items) (sym front) (cut_short shape start player going.taken k0 k1 fresh valid fed), omega (arith, length-append going.taken bytes, going.counted))
     (plays_from shape Done start player going.taken k0 k1 fresh fed)
@@ -113,7 +107,7 @@ ended_off shape line start between player count bytes s0 s1 s2 k0 k1 k2 fresh go
     let status : Status = BadScript line in
     let fed = fed_after status start between player going.taken bytes k0 k1 k2 going.fed off in
     let all = going.taken ++ bytes in
-    ended shape status s0 s2 k0 k2 player.server.state all fed.items fed.later fed.moments fresh.valid
+    ended shape status s0 s2 k0 k2 player.server.state all fed.items fed.moments fresh.valid
     (Consumes-append s0 s1 s2 going.taken bytes going.consumes consumes) (
       record { rest = fed.rest; spelled = spelled_from shape status start player all k0 k2 fresh fed; off = inl fed.ends.0 },
       omega (arith, fed.ends.1, lines_from shape status start player all k0 k2 fresh fed),
@@ -129,11 +123,10 @@ ended_unwritten shape start between player count bytes s0 s1 s2 k0 k1 k2 fresh g
     let fed = fed_after WriteFault start between player going.taken bytes k0 k1 k2 going.fed cut in
     let all = going.taken ++ bytes in
     let played = plays_from shape WriteFault start player all k0 k2 fresh fed in
-    let behind = lines_of fed.later fed.rest in
+    let behind = lines_of fed.rest in
     let more = some_run (state_after (opening shape) fed.moments) behind.events (IsState-run (opening shape) fed.moments fresh.valid played.run) in
-    let further : Plays fed.later (state_after (opening shape) fed.moments) behind.items more.0 behind.later =
-    record { whole = behind.whole; script = behind.script ∙ ap (λ es. Some (behind.later, es)) (sym more.1); run = more.2 } in
-    ended shape WriteFault s0 s2 k0 k2 player.server.state all (fed.items ++ behind.items) behind.later (fed.moments ++ more.0) fresh.valid
+    let further : Plays (state_after (opening shape) fed.moments) behind.items more.0 = record { whole = behind.whole; script = behind.script ∙ ap Some (sym more.1); run = more.2 } in
+    ended shape WriteFault s0 s2 k0 k2 player.server.state all (fed.items ++ behind.items) (fed.moments ++ more.0) fresh.valid
     (Consumes-append s0 s1 s2 going.taken bytes going.consumes consumes) (
       inr (record {
         rest = behind.rest;
@@ -145,7 +138,7 @@ ended_unwritten shape start between player count bytes s0 s1 s2 k0 k1 k2 fresh g
       }),
       omega (arith, length-append going.taken bytes, going.counted),
     )
-    (Plays-append Fresh (opening shape) fed.items behind.items fed.moments more.0 fed.later behind.later played further)
+    (Plays-append (opening shape) fed.items behind.items fed.moments more.0 played further)
     (subst (AppendsFront k0 k2) (sym (text_of-append fed.moments more.0)) (AppendsFront-longer k0 k2 _ _ fed.gains))
     (IsReached-longer player.server.state (opening shape) fed.moments more.0 (leaves_from shape WriteFault start player all k0 k2 fresh fed))
 
@@ -159,9 +152,9 @@ at_end s0 s1 s2 taken bytes first second none =
 pub ended_done : (shape : Shape) (start player : Player) (count : ℕ) (bytes : List ℕ) (s0 s1 s2 k0 k1 : Option (List ℕ)) → IsFresh shape start → Going start player count s0 s1 k0 k1 → Consumes s1 s2 bytes → bytes ≡ [] → IsAtEnd s2 → player.line.items ≡ [] → count ≤ script_limit → Ended shape Done s0 s2 k0 k1 player.server.state
 ended_done shape start player count bytes s0 s1 s2 k0 k1 fresh going consumes none end no_line few =
     let fed = going.fed in
-    ended shape Done s0 s2 k0 k1 player.server.state going.taken fed.items fed.later fed.moments fresh.valid
+    ended shape Done s0 s2 k0 k1 player.server.state going.taken fed.items fed.moments fresh.valid
     (at_end s0 s1 s2 going.taken bytes going.consumes consumes none)
-    (inl (spelled_from shape Done start player going.taken k0 k1 fresh fed ∙ ap (λ xs. bytes_of fed.items ++ xs) (fed.ends.1 ∙ no_line) ∙ append-nil (bytes_of fed.items)), end, omega (arith, going.counted))
+    (inl (spelled_from shape Done start player going.taken k0 k1 fresh fed ∙ ap (λ xs. bytes_of fed.items ++ xs) (fed.ends ∙ no_line) ∙ append-nil (bytes_of fed.items)), end, omega (arith, going.counted))
     (plays_from shape Done start player going.taken k0 k1 fresh fed)
     fed.gains
     (leaves_from shape Done start player going.taken k0 k1 fresh fed)
@@ -171,27 +164,25 @@ unfolding wants_of
 no_payload line = refl
 
 -- the last line was played, or its writing broke off
-ended_last : (shape : Shape) (status : Status) (start player last : Player) (count : ℕ) (bytes : List ℕ) (s0 s1 s2 k0 k1 k2 : Option (List ℕ)) → ((taken : List ℕ) (items : List Item) (later : Setup) → AreWhole taken items → length taken ≤ script_limit → Covers status taken s2 later items) → IsFresh shape start → Going start player count s0 s1 k0 k1 → Consumes s1 s2 bytes → bytes ≡ [] → count ≤ script_limit → player.line.items ≢ [] → LineDone status player last k1 k2 → Ended shape status s0 s2 k0 k2 last.server.state
+ended_last : (shape : Shape) (status : Status) (start player last : Player) (count : ℕ) (bytes : List ℕ) (s0 s1 s2 k0 k1 k2 : Option (List ℕ)) → ((taken : List ℕ) (items : List Item) → AreWhole taken items → length taken ≤ script_limit → Covers status taken s2 items) → IsFresh shape start → Going start player count s0 s1 k0 k1 → Consumes s1 s2 bytes → bytes ≡ [] → count ≤ script_limit → player.line.items ≢ [] → LineDone status player last k1 k2 → Ended shape status s0 s2 k0 k2 last.server.state
 ended_last shape status start player last count bytes s0 s1 s2 k0 k1 k2 covers fresh going consumes none few some done =
     let fed = going.fed in
     let front = plays_from shape Done start player going.taken k0 k1 fresh fed in
     let state : player.server.state ≡ state_after (opening shape) fed.moments = leaves_from shape Done start player going.taken k0 k1 fresh fed in
     let item = bare_item player.line.items in
-    let behind : Plays fed.later (state_after (opening shape) fed.moments) (item ∷ []) done.moments last.setup =
-    subst (λ s. Plays s (state_after (opening shape) fed.moments) (item ∷ []) done.moments last.setup) (sym fed.ends.0)
-    (subst (λ s. Plays player.setup s (item ∷ []) done.moments last.setup) state done.plays) in
+    let behind : Plays (state_after (opening shape) fed.moments) (item ∷ []) done.moments = subst (λ s. Plays s (item ∷ []) done.moments) state done.plays in
     let whole : IsUnended going.taken (fed.items ++ item ∷ []) = record {
       front = fed.items;
       last = player.line.items;
       listed = refl;
       some = some;
       no_payload = no_payload player.line.items;
-      spelled = spelled_from shape Done start player going.taken k0 k1 fresh fed ∙ ap (λ xs. bytes_of fed.items ++ xs) fed.ends.1;
+      spelled = spelled_from shape Done start player going.taken k0 k1 fresh fed ∙ ap (λ xs. bytes_of fed.items ++ xs) fed.ends;
     } in
-    ended shape status s0 s2 k0 k2 last.server.state going.taken (fed.items ++ item ∷ []) last.setup (fed.moments ++ done.moments) fresh.valid
+    ended shape status s0 s2 k0 k2 last.server.state going.taken (fed.items ++ item ∷ []) (fed.moments ++ done.moments) fresh.valid
     (at_end s0 s1 s2 going.taken bytes going.consumes consumes none)
-    (covers going.taken (fed.items ++ item ∷ []) last.setup (inr whole) (omega (arith, going.counted)))
-    (Plays-append Fresh (opening shape) fed.items (item ∷ []) fed.moments done.moments fed.later last.setup front behind)
+    (covers going.taken (fed.items ++ item ∷ []) (inr whole) (omega (arith, going.counted)))
+    (Plays-append (opening shape) fed.items (item ∷ []) fed.moments done.moments front behind)
     (subst (Gains status k0 k2) (sym (text_of-append fed.moments done.moments)) (Gains-after status k0 k1 k2 _ _ fed.gains done.gains))
     (Leaves-after status last.server.state player.server.state (opening shape) fed.moments done.moments state done.leaves)
 
@@ -199,16 +190,12 @@ ended_last shape status start player last count bytes s0 s1 s2 k0 k1 k2 covers f
 ended_off_last : (shape : Shape) (line : ℕ) (start player last : Player) (count : ℕ) (bytes : List ℕ) (s0 s1 s2 k0 k1 k2 : Option (List ℕ)) → IsFresh shape start → IsPlayer player → Going start player count s0 s1 k0 k1 → Consumes s1 s2 bytes → bytes ≡ [] → IsAtEnd s2 → count ≤ script_limit → player.line.items ≢ [] → LineUnread line player last k1 k2 → Ended shape (BadScript line) s0 s2 k0 k2 last.server.state
 ended_off_last shape line start player last count bytes s0 s1 s2 k0 k1 k2 fresh valid going consumes none end few some unread =
     let fed = going.fed in
-    let off : EndsUnread fed.later player.line.items = record {
-      is_line = valid.line;
-      some = some;
-      unread = subst (λ setup. line_order setup player.line.items ≡ None) (sym fed.ends.0) unread.unread;
-    } in
-    ended shape (BadScript line) s0 s2 k0 k2 last.server.state going.taken fed.items fed.later fed.moments fresh.valid
+    let off : EndsUnread player.line.items = record { is_line = valid.line; some = some; unread = unread.unread } in
+    ended shape (BadScript line) s0 s2 k0 k2 last.server.state going.taken fed.items fed.moments fresh.valid
     (at_end s0 s1 s2 going.taken bytes going.consumes consumes none) (
       record {
         rest = player.line.items;
-        spelled = spelled_from shape Done start player going.taken k0 k1 fresh fed ∙ ap (λ xs. bytes_of fed.items ++ xs) fed.ends.1;
+        spelled = spelled_from shape Done start player going.taken k0 k1 fresh fed ∙ ap (λ xs. bytes_of fed.items ++ xs) fed.ends;
         off = inr (inl off, end);
       },
       omega (arith, unread.number, unread.counts, lines_from shape Done start player going.taken k0 k1 fresh fed),
@@ -224,11 +211,11 @@ ended_finish shape Done start player last count bytes s0 s1 s2 k0 k1 k2 fresh va
     (subst (λ (p : Player). Ended shape Done s0 s2 k0 k1 p.server.state) (sym same.1)
     (ended_done shape start player count bytes s0 s1 s2 k0 k1 fresh going consumes none end same.0 few))
 ended_finish shape Done start player last count bytes s0 s1 s2 k0 k1 k2 fresh valid going consumes none end few (inr done) =
-    ended_last shape Done start player last count bytes s0 s1 s2 k0 k1 k2 (λ taken items later whole short. (whole, end, short)) fresh going consumes none few done.0 done.1
+    ended_last shape Done start player last count bytes s0 s1 s2 k0 k1 k2 (λ taken items whole short. (whole, end, short)) fresh going consumes none few done.0 done.1
 ended_finish shape (BadScript line) start player last count bytes s0 s1 s2 k0 k1 k2 fresh valid going consumes none end few off =
     ended_off_last shape line start player last count bytes s0 s1 s2 k0 k1 k2 fresh valid going consumes none end few off.0 off.1
 ended_finish shape WriteFault start player last count bytes s0 s1 s2 k0 k1 k2 fresh valid going consumes none end few cut =
-    ended_last shape WriteFault start player last count bytes s0 s1 s2 k0 k1 k2 (λ taken items later whole short. (inl whole, short)) fresh going consumes none few cut.0 cut.1
+    ended_last shape WriteFault start player last count bytes s0 s1 s2 k0 k1 k2 (λ taken items whole short. (inl whole, short)) fresh going consumes none few cut.0 cut.1
 ended_finish shape ReadFault start player last count bytes s0 s1 s2 k0 k1 k2 fresh valid going consumes none end few no_end = absurd no_end
 ended_finish shape Usage start player last count bytes s0 s1 s2 k0 k1 k2 fresh valid going consumes none end few no_end = absurd no_end
 ended_finish shape NoMemory start player last count bytes s0 s1 s2 k0 k1 k2 fresh valid going consumes none end few no_end = absurd no_end
@@ -247,15 +234,11 @@ ended_cut shape Unwritten = ended_unwritten shape
 -- ---- the opening
 
 -- a player on a server that was just opened
-pub player_opened : (shape : Shape) (player : Player) → player.server.state ≡ opening shape → IsState player.server.state → player.setup ≡ Fresh → player.line.items ≡ [] → IsPlayer player
-player_opened shape player opens valid setup line = record {
-  state = valid;
-  ready = subst (λ s. IsReady s player.server.state.desk.windows) (sym setup) (ap (λ s. s.desk.windows) opens ∙ windows-opening shape);
-  line = IsLine-nil player.line.items line;
-}
+pub player_opened : (shape : Shape) (player : Player) → player.server.state ≡ opening shape → IsState player.server.state → player.line.items ≡ [] → IsPlayer player
+player_opened shape player opens valid line = record { state = valid; line = IsLine-nil player.line.items line }
 
-pub player_fresh : (shape : Shape) (player : Player) → player.server.state ≡ opening shape → IsState player.server.state → player.setup ≡ Fresh → player.line.items ≡ [] → player.lines ≡ 0 → IsFresh shape player
-player_fresh shape player opens valid setup line lines = record { setup = setup; state = opens; line = line; lines = lines; valid = subst IsState opens valid }
+pub player_fresh : (shape : Shape) (player : Player) → player.server.state ≡ opening shape → IsState player.server.state → player.line.items ≡ [] → player.lines ≡ 0 → IsFresh shape player
+player_fresh shape player opens valid line lines = record { state = opens; line = line; lines = lines; valid = subst IsState opens valid }
 
 pub shape_opened : (shape : Shape) (state : State) → state ≡ opening shape → state.desk.shape ≡ shape
 shape_opened shape state opens = ap (λ s. s.desk.shape) opens ∙ shape-opening shape

@@ -9,14 +9,13 @@ use Rattle.std.proofs.lemmas.List.{take_all, take_more, take-append-le, take-app
 use Rattle.outside_io.proofs.Told.{Appends-none}
 use Rattle.desk_model.specs.State.{State}
 use Rattle.desk_model.specs.Run.{state_after}
-use Rattle.dope_run.specs.declared.order.Order.{Order}
-use Rattle.dope_run.specs.declared.setup.Setup.{Setup}
+use Rattle.script_lines.specs.declared.order.Order.{Order}
+use Rattle.script_lines.specs.Lines.{line_order}
 use Rattle.dope_run.specs.declared.cut.Cut.{Cut}
 use Rattle.dope_run.specs.declared.cut.Cut.TheVariants.{Unread, Unwritten}
 use Rattle.dope_run.specs.declared.status.Status.{Status}
 use Rattle.dope_run.specs.declared.status.Status.TheVariants.{Done, WriteFault, BadScript}
 use Rattle.dope_run.specs.declared.player.Player.{Player}
-use Rattle.dope_run.specs.Line.{line_order}
 use Rattle.dope_run.specs.Framing.{Item, IsItem, IsLine, wants_of, bytes_of, bytes_of_item, has_feed, line_limit}
 use Rattle.dope_run.specs.Script.{events_of_order, BeginsOff, BeginsUnread, BeginsTooLong}
 use Rattle.dope_run.specs.Transcript.{Plays, Gains}
@@ -31,13 +30,13 @@ unfolding wants_of
 IsItem-bare line is = record { line = is; payload = refl }
 
 -- a line that was read, and carried out
-pub line_done : (status : Status) (old new : Player) (before after : Option (List ℕ)) (order : Order) → IsLine old.line.items → line_order old.setup old.line.items ≡ Some (order, new.setup) → Obeyed status (events_of_order order) old.server.state new.server.state before after → new.lines ≡ old.lines + 1 → new.line.items ≡ [] → LineDone status old new before after
+pub line_done : (status : Status) (old new : Player) (before after : Option (List ℕ)) (order : Order) → IsLine old.line.items → line_order old.line.items ≡ Some order → Obeyed status (events_of_order order) old.server.state new.server.state before after → new.lines ≡ old.lines + 1 → new.line.items ≡ [] → LineDone status old new before after
 line_done status old new before after order is read obeyed counts cleared = record {
   moments = obeyed.moments;
   plays = record {
     whole = All-cons IsItem (bare_item old.line.items) [] (IsItem-bare old.line.items is) (All-nil IsItem);
-    script = read_script-cons old.setup (bare_item old.line.items) [] order new.setup new.setup [] read (read_script-nil new.setup)
-        ∙ ap (λ es. Some (new.setup, es)) (append-nil (events_of_order order) ∙ sym obeyed.answers);
+    script = read_script-cons (bare_item old.line.items) [] order [] read read_script-nil
+        ∙ ap Some (append-nil (events_of_order order) ∙ sym obeyed.answers);
     run = obeyed.run;
   };
   gains = obeyed.gains;
@@ -62,19 +61,18 @@ unfolding bytes_of
 bytes_of-bare line = append-nil (line ++ 10 ∷ [])
 
 -- no line at all
-pub Plays-nil : (setup : Setup) (from : State) → Plays setup from [] [] setup
-Plays-nil setup from = record { whole = All-nil IsItem; script = read_script-nil setup; run = tt }
+pub Plays-nil : (from : State) → Plays from [] []
+Plays-nil from = record { whole = All-nil IsItem; script = read_script-nil; run = tt }
 
 -- a line's end, where the line was carried out, or its writing broke off
 fed_done : (old new : Player) (before after : Option (List ℕ)) → LineDone Done old new before after → Fed Done old (10 ∷ []) new before after
 fed_done old new before after done = record {
   items = bare_item old.line.items ∷ [];
   moments = done.moments;
-  later = new.setup;
   rest = [];
   spelled = sym (bytes_of-bare old.line.items) ∙ sym (append-nil (bytes_of (bare_item old.line.items ∷ [])));
   plays = done.plays;
-  ends = (refl, sym done.cleared);
+  ends = sym done.cleared;
   gains = done.gains;
   leaves = done.leaves;
   counts = done.counts;
@@ -84,7 +82,6 @@ fed_unwritten : (old new : Player) (before after : Option (List ℕ)) → LineDo
 fed_unwritten old new before after done = record {
   items = bare_item old.line.items ∷ [];
   moments = done.moments;
-  later = new.setup;
   rest = [];
   spelled = sym (bytes_of-bare old.line.items) ∙ sym (append-nil (bytes_of (bare_item old.line.items ∷ [])));
   plays = done.plays;
@@ -95,14 +92,13 @@ fed_unwritten old new before after done = record {
 }
 
 -- nothing was carried out, and what stands there is off the grammar
-fed_off : (line : ℕ) (old : Player) (bytes : List ℕ) (new : Player) (before after : Option (List ℕ)) → BeginsOff old.setup (old.line.items ++ bytes) → new.server.state ≡ old.server.state → after ≡ before → new.lines ≡ old.lines → line ≡ new.lines + 1 → Fed (BadScript line) old bytes new before after
+fed_off : (line : ℕ) (old : Player) (bytes : List ℕ) (new : Player) (before after : Option (List ℕ)) → BeginsOff (old.line.items ++ bytes) → new.server.state ≡ old.server.state → after ≡ before → new.lines ≡ old.lines → line ≡ new.lines + 1 → Fed (BadScript line) old bytes new before after
 fed_off line old bytes new before after off same_state same_sink same_lines number = record {
   items = [];
   moments = [];
-  later = old.setup;
   rest = old.line.items ++ bytes;
   spelled = sym (ap (λ xs. xs ++ (old.line.items ++ bytes)) bytes_of-nil);
-  plays = Plays-nil old.setup old.server.state;
+  plays = Plays-nil old.server.state;
   ends = (off, number);
   gains = subst (λ sink. Appends before sink []) (sym same_sink) (Appends-none before);
   leaves = same_state;
@@ -111,7 +107,7 @@ fed_off line old bytes new before after off same_state same_sink same_lines numb
 
 fed_unread : (line : ℕ) (old new : Player) (before after : Option (List ℕ)) → IsLine old.line.items → LineUnread line old new before after → Fed (BadScript line) old (10 ∷ []) new before after
 fed_unread line old new before after is unread =
-    let whole : BeginsUnread old.setup (old.line.items ++ 10 ∷ []) = record { line = old.line.items; later = []; is_line = is; spelled = refl; unread = unread.unread } in
+    let whole : BeginsUnread (old.line.items ++ 10 ∷ []) = record { line = old.line.items; later = []; is_line = is; spelled = refl; unread = unread.unread } in
     fed_off line old (10 ∷ []) new before after (inl whole) unread.same_state unread.same_sink unread.counts unread.number
 
 fed_cut : (cut : Cut) (old new : Player) (before after : Option (List ℕ)) → IsLine old.line.items → LineCut cut old new before after → Fed (status_of cut) old (10 ∷ []) new before after
@@ -127,15 +123,14 @@ has_feed-push : (line : List ℕ) (byte : ℕ) → has_feed line ≡ false → b
 has_feed-push line byte clear other = list_any-append _ line (byte ∷ []) ∙ grind (arith, nat_tests)
 
 -- a byte that goes onto the line
-pub fed_push : (old new : Player) (byte : ℕ) (sink : Option (List ℕ)) → new.server ≡ old.server → new.setup ≡ old.setup → new.lines ≡ old.lines → new.line.items ≡ old.line.items ++ byte ∷ [] → Fed Done old (byte ∷ []) new sink sink
-fed_push old new byte sink same_server same_setup same_lines pushed = record {
+pub fed_push : (old new : Player) (byte : ℕ) (sink : Option (List ℕ)) → new.server ≡ old.server → new.lines ≡ old.lines → new.line.items ≡ old.line.items ++ byte ∷ [] → Fed Done old (byte ∷ []) new sink sink
+fed_push old new byte sink same_server same_lines pushed = record {
   items = [];
   moments = [];
-  later = old.setup;
   rest = old.line.items ++ byte ∷ [];
   spelled = sym (ap (λ xs. xs ++ (old.line.items ++ byte ∷ [])) bytes_of-nil);
-  plays = Plays-nil old.setup old.server.state;
-  ends = (sym same_setup, sym pushed);
+  plays = Plays-nil old.server.state;
+  ends = sym pushed;
   gains = Appends-none sink;
   leaves = ap (λ s. s.state) same_server;
   counts = omega arith;
@@ -156,15 +151,12 @@ fed_too_long old byte sink is other full =
 -- some bytes, and then others
 pub fed_after : (status : Status) (a b c : Player) (first second : List ℕ) (before middle after : Option (List ℕ)) → Fed Done a first b before middle → Fed status b second c middle after → Fed status a (first ++ second) c before after
 fed_after status a b c first second before middle after p q =
-    let same_rest : p.rest ≡ b.line.items = p.ends.1 in
-    let same_setup : p.later ≡ b.setup = p.ends.0 in
+    let same_rest : p.rest ≡ b.line.items = p.ends in
     let state : b.server.state ≡ state_after a.server.state p.moments = p.leaves in
-    let plays : Plays p.later (state_after a.server.state p.moments) q.items q.moments q.later =
-    subst (λ s. Plays s (state_after a.server.state p.moments) q.items q.moments q.later) (sym same_setup) (subst (λ s. Plays b.setup s q.items q.moments q.later) state q.plays) in
+    let plays : Plays (state_after a.server.state p.moments) q.items q.moments = subst (λ s. Plays s q.items q.moments) state q.plays in
     record {
       items = p.items ++ q.items;
       moments = p.moments ++ q.moments;
-      later = q.later;
       rest = q.rest;
       spelled = sym (append_assoc a.line.items first second)
           ∙ ap (λ xs. xs ++ second) p.spelled
@@ -173,7 +165,7 @@ fed_after status a b c first second before middle after p q =
           ∙ ap (λ xs. bytes_of p.items ++ xs) q.spelled
           ∙ sym (append_assoc (bytes_of p.items) (bytes_of q.items) q.rest)
           ∙ ap (λ xs. xs ++ q.rest) (sym (bytes_of-append p.items q.items));
-      plays = Plays-append a.setup a.server.state p.items q.items p.moments q.moments p.later q.later p.plays plays;
+      plays = Plays-append a.server.state p.items q.items p.moments q.moments p.plays plays;
       ends = q.ends;
       gains = subst (Gains status before after) (sym (text_of-append p.moments q.moments)) (Gains-after status before middle after _ _ p.gains q.gains);
       leaves = Leaves-after status c.server.state b.server.state a.server.state p.moments q.moments p.leaves q.leaves;
@@ -181,35 +173,34 @@ fed_after status a b c first second before middle after p q =
     }
 
 -- what is off the grammar stays off, whatever comes behind it
-pub off_more : (setup : Setup) (bytes more : List ℕ) → BeginsOff setup bytes → BeginsOff setup (bytes ++ more)
-off_more setup bytes more (inl unread) = inl (record {
+pub off_more : (bytes more : List ℕ) → BeginsOff bytes → BeginsOff (bytes ++ more)
+off_more bytes more (inl unread) = inl (record {
   line = unread.line;
   later = unread.later ++ more;
   is_line = unread.is_line;
   spelled = ap (λ xs. xs ++ more) unread.spelled ∙ append_assoc unread.line (10 ∷ unread.later) more;
   unread = unread.unread;
 })
-off_more setup bytes more (inr long) =
+off_more bytes more (inr long) =
     let enough : line_limit + 1 ≤ length bytes = long.long in
     inr (record {
       long = omega (arith, length-append bytes more);
       no_feed = ap has_feed (take-append-le (line_limit + 1) bytes more enough) ∙ long.no_feed;
     })
 
-Ends-more : (cut : Cut) (new : Player) (later : Setup) (rest more : List ℕ) → EndsSo (status_of cut) new later rest → EndsSo (status_of cut) new later (rest ++ more)
-Ends-more (Unread line) new later rest more ends = (off_more later rest more ends.0, ends.1)
-Ends-more Unwritten new later rest more ends = tt
+Ends-more : (cut : Cut) (new : Player) (rest more : List ℕ) → EndsSo (status_of cut) new rest → EndsSo (status_of cut) new (rest ++ more)
+Ends-more (Unread line) new rest more ends = (off_more rest more ends.0, ends.1)
+Ends-more Unwritten new rest more ends = tt
 
 -- where playing was cut off, the bytes behind are not looked at
 pub fed_more : (cut : Cut) (a b : Player) (bytes more : List ℕ) (before after : Option (List ℕ)) → Fed (status_of cut) a bytes b before after → Fed (status_of cut) a (bytes ++ more) b before after
 fed_more cut a b bytes more before after p = record {
   items = p.items;
   moments = p.moments;
-  later = p.later;
   rest = p.rest ++ more;
   spelled = sym (append_assoc a.line.items bytes more) ∙ ap (λ xs. xs ++ more) p.spelled ∙ append_assoc (bytes_of p.items) p.rest more;
   plays = p.plays;
-  ends = Ends-more cut b p.later p.rest more p.ends;
+  ends = Ends-more cut b p.rest more p.ends;
   gains = p.gains;
   leaves = p.leaves;
   counts = p.counts;
@@ -220,11 +211,10 @@ pub fed_none : (player : Player) (sink : Option (List ℕ)) → Fed Done player 
 fed_none player sink = record {
   items = [];
   moments = [];
-  later = player.setup;
   rest = player.line.items;
   spelled = append-nil player.line.items ∙ sym (ap (λ xs. xs ++ player.line.items) bytes_of-nil);
-  plays = Plays-nil player.setup player.server.state;
-  ends = (refl, refl);
+  plays = Plays-nil player.server.state;
+  ends = refl;
   gains = Appends-none sink;
   leaves = refl;
   counts = omega arith;

@@ -6,24 +6,22 @@ use Rattle.std.proofs.lemmas.List.{take-append-le, take-append-drop}
 use Rattle.std.proofs.lemmas.List.Elements.{All-nil, All-cons}
 use Rattle.std.proofs.lemmas.List.Folds.{list_any-append}
 use Rattle.desk_model.specs.Events.{Event}
-use Rattle.dope_run.specs.declared.order.Order.{Order}
-use Rattle.dope_run.specs.declared.setup.Setup.{Setup}
-use Rattle.dope_run.specs.Line.{line_order}
+use Rattle.script_lines.specs.declared.order.Order.{Order}
+use Rattle.script_lines.specs.Lines.{line_order}
 use Rattle.dope_run.specs.Framing.{Item, IsItem, IsLine, IsPartial, bytes_of, has_feed, line_limit}
 use Rattle.dope_run.specs.Script.{read_script, events_of_order, BeginsOff}
 use Rattle.dope_run.specs.Playing.{bare_item}
 use Rattle.dope_run.proofs.Reading.{read_script-nil, read_script-cons}
 use Rattle.dope_run.proofs.Feedings.{IsItem-bare, bytes_of-nil, bytes_of-cons}
 
-pub record LinesOf (setup : Setup) (bytes : List ℕ) : Type 0 where
+pub record LinesOf (bytes : List ℕ) : Type 0 where
   pub items : List Item
-  pub later : Setup
   pub events : List Event
   pub rest : List ℕ
   pub whole : All IsItem items
-  pub script : read_script setup items ≡ Some (later, events)
+  pub script : read_script items ≡ Some events
   pub spelled : bytes ≡ bytes_of items ++ rest
-  pub ends : IsPartial rest ⊎ BeginsOff later rest
+  pub ends : IsPartial rest ⊎ BeginsOff rest
 
 -- the first line feed parts a line from what is behind it
 record FirstLine (bytes : List ℕ) : Type 0 where
@@ -50,69 +48,67 @@ has_feed-take n bytes clear =
     grind arith
 
 -- nothing is read
-none_of : (setup : Setup) (bytes : List ℕ) → IsPartial bytes ⊎ BeginsOff setup bytes → LinesOf setup bytes
-none_of setup bytes ends = record {
+none_of : (bytes : List ℕ) → IsPartial bytes ⊎ BeginsOff bytes → LinesOf bytes
+none_of bytes ends = record {
   items = [];
-  later = setup;
   events = [];
   rest = bytes;
   whole = All-nil IsItem;
-  script = read_script-nil setup;
+  script = read_script-nil;
   spelled = sym (ap (λ xs. xs ++ bytes) bytes_of-nil);
   ends = ends;
 }
 
-too_long : (setup : Setup) (bytes : List ℕ) → line_limit + 1 ≤ length bytes → has_feed (take (line_limit + 1) bytes) ≡ false → LinesOf setup bytes
-too_long setup bytes long clear = none_of setup bytes (inr (inr (record { long = long; no_feed = clear })))
+too_long : (bytes : List ℕ) → line_limit + 1 ≤ length bytes → has_feed (take (line_limit + 1) bytes) ≡ false → LinesOf bytes
+too_long bytes long clear = none_of bytes (inr (inr (record { long = long; no_feed = clear })))
 
 -- without a line feed
-unended : (setup : Setup) (bytes : List ℕ) (short : Bool) → leb (length bytes) line_limit ≡ short → has_feed bytes ≡ false → LinesOf setup bytes
-unended setup bytes true is clear = none_of setup bytes (inl (inl (record { no_feed = clear; short = (let short : length bytes ≤ line_limit = grind (arith, nat_tests) in short) })))
-unended setup bytes false is clear = too_long setup bytes (let long : line_limit + 1 ≤ length bytes = grind (arith, nat_tests) in long) (has_feed-take (line_limit + 1) bytes clear)
+unended : (bytes : List ℕ) (short : Bool) → leb (length bytes) line_limit ≡ short → has_feed bytes ≡ false → LinesOf bytes
+unended bytes true is clear = none_of bytes (inl (inl (record { no_feed = clear; short = (let short : length bytes ≤ line_limit = grind (arith, nat_tests) in short) })))
+unended bytes false is clear = too_long bytes (let long : line_limit + 1 ≤ length bytes = grind (arith, nat_tests) in long) (has_feed-take (line_limit + 1) bytes clear)
 
 -- a line that is read, and what was found behind it
-line_and : (setup : Setup) (bytes line more : List ℕ) (order : Order) (next : Setup) → IsLine line → bytes ≡ line ++ 10 ∷ more → line_order setup line ≡ Some (order, next) → LinesOf next more → LinesOf setup bytes
-line_and setup bytes line more order next is spelled read behind = record {
+line_and : (bytes line more : List ℕ) (order : Order) → IsLine line → bytes ≡ line ++ 10 ∷ more → line_order line ≡ Some order → LinesOf more → LinesOf bytes
+line_and bytes line more order is spelled read behind = record {
   items = bare_item line ∷ behind.items;
-  later = behind.later;
   events = events_of_order order ++ behind.events;
   rest = behind.rest;
   whole = All-cons IsItem (bare_item line) behind.items (IsItem-bare line is) behind.whole;
-  script = read_script-cons setup (bare_item line) behind.items order next behind.later behind.events read behind.script;
+  script = read_script-cons (bare_item line) behind.items order behind.events read behind.script;
   spelled = spelled ∙ ap (λ xs. line ++ 10 ∷ xs) behind.spelled ∙ sym (append_assoc line (10 ∷ bytes_of behind.items) behind.rest) ∙ ap (λ xs. xs ++ behind.rest) (sym (bytes_of-cons line behind.items));
   ends = behind.ends;
 }
 
 -- How fewer bytes are read.
 abbrev Fewer : ℕ → Type 0
-Fewer steps = (setup : Setup) (bytes : List ℕ) → length bytes ≤ steps → LinesOf setup bytes
+Fewer steps = (bytes : List ℕ) → length bytes ≤ steps → LinesOf bytes
 
-lines_by_order : (steps : ℕ) → Fewer steps → (setup : Setup) (bytes line more : List ℕ) (read : Option (Order × Setup)) → line_order setup line ≡ read → IsLine line → bytes ≡ line ++ 10 ∷ more → length more ≤ steps → LinesOf setup bytes
-lines_by_order steps behind setup bytes line more None is is_line spelled fewer =
-    none_of setup bytes (inr (inl (record { line = line; later = more; is_line = is_line; spelled = spelled; unread = is })))
-lines_by_order steps behind setup bytes line more (Some read) is is_line spelled fewer =
-    line_and setup bytes line more read.0 read.1 is_line spelled is (behind read.1 more fewer)
+lines_by_order : (steps : ℕ) → Fewer steps → (bytes line more : List ℕ) (read : Option Order) → line_order line ≡ read → IsLine line → bytes ≡ line ++ 10 ∷ more → length more ≤ steps → LinesOf bytes
+lines_by_order steps behind bytes line more None is is_line spelled fewer =
+    none_of bytes (inr (inl (record { line = line; later = more; is_line = is_line; spelled = spelled; unread = is })))
+lines_by_order steps behind bytes line more (Some read) is is_line spelled fewer =
+    line_and bytes line more read is_line spelled is (behind more fewer)
 
-lines_by_size : (steps : ℕ) → Fewer steps → (setup : Setup) (bytes line more : List ℕ) (short : Bool) → leb (length line) line_limit ≡ short → bytes ≡ line ++ 10 ∷ more → has_feed line ≡ false → length more ≤ steps → LinesOf setup bytes
-lines_by_size steps behind setup bytes line more true is spelled clear fewer =
-    lines_by_order steps behind setup bytes line more (line_order setup line) refl (record { no_feed = clear; short = (let short : length line ≤ line_limit = grind (arith, nat_tests) in short) }) spelled fewer
-lines_by_size steps behind setup bytes line more false is spelled clear fewer =
+lines_by_size : (steps : ℕ) → Fewer steps → (bytes line more : List ℕ) (short : Bool) → leb (length line) line_limit ≡ short → bytes ≡ line ++ 10 ∷ more → has_feed line ≡ false → length more ≤ steps → LinesOf bytes
+lines_by_size steps behind bytes line more true is spelled clear fewer =
+    lines_by_order steps behind bytes line more (line_order line) refl (record { no_feed = clear; short = (let short : length line ≤ line_limit = grind (arith, nat_tests) in short) }) spelled fewer
+lines_by_size steps behind bytes line more false is spelled clear fewer =
     let long : line_limit + 1 ≤ length line = grind (arith, nat_tests) in
-    too_long setup bytes (omega (arith, ap length spelled, length-append line (10 ∷ more)))
+    too_long bytes (omega (arith, ap length spelled, length-append line (10 ∷ more)))
     (ap (λ xs. has_feed (take (line_limit + 1) xs)) spelled ∙ ap has_feed (take-append-le (line_limit + 1) line (10 ∷ more) long) ∙ has_feed-take (line_limit + 1) line clear)
 
-lines_by_feed : (steps : ℕ) → Fewer steps → (setup : Setup) (bytes : List ℕ) (has : Bool) → has_feed bytes ≡ has → length bytes ≤ suc steps → LinesOf setup bytes
-lines_by_feed steps behind setup bytes false is small = unended setup bytes (leb (length bytes) line_limit) refl is
-lines_by_feed steps behind setup bytes true is small =
+lines_by_feed : (steps : ℕ) → Fewer steps → (bytes : List ℕ) (has : Bool) → has_feed bytes ≡ has → length bytes ≤ suc steps → LinesOf bytes
+lines_by_feed steps behind bytes false is small = unended bytes (leb (length bytes) line_limit) refl is
+lines_by_feed steps behind bytes true is small =
     let first = first_line bytes is in
     let fewer : length first.more ≤ steps = omega (arith, ap length first.spelled, length-append first.line (10 ∷ first.more)) in
-    lines_by_size steps behind setup bytes first.line first.more (leb (length first.line) line_limit) refl first.spelled first.clear fewer
+    lines_by_size steps behind bytes first.line first.more (leb (length first.line) line_limit) refl first.spelled first.clear fewer
 
 -- all of it, by as many steps as there are bytes
-lines_within : (steps : ℕ) (setup : Setup) (bytes : List ℕ) → length bytes ≤ steps → LinesOf setup bytes
-lines_within zero setup [] small = none_of setup [] (inl (inl (record { no_feed = refl; short = (let short : 0 ≤ line_limit = omega arith in short) })))
-lines_within zero setup (byte ∷ bytes) small = absurd (omega arith)
-lines_within (suc steps) setup bytes small = lines_by_feed steps (lines_within steps) setup bytes (has_feed bytes) refl small
+lines_within : (steps : ℕ) (bytes : List ℕ) → length bytes ≤ steps → LinesOf bytes
+lines_within zero [] small = none_of [] (inl (inl (record { no_feed = refl; short = (let short : 0 ≤ line_limit = omega arith in short) })))
+lines_within zero (byte ∷ bytes) small = absurd (omega arith)
+lines_within (suc steps) bytes small = lines_by_feed steps (lines_within steps) bytes (has_feed bytes) refl small
 
-pub lines_of : (setup : Setup) (bytes : List ℕ) → LinesOf setup bytes
-lines_of setup bytes = lines_within (length bytes) setup bytes (omega arith)
+pub lines_of : (bytes : List ℕ) → LinesOf bytes
+lines_of bytes = lines_within (length bytes) bytes (omega arith)

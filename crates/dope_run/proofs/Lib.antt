@@ -1,7 +1,7 @@
 pub mod Gaining
 pub mod Obeyings
+pub mod Dumps
 pub mod Reading
-pub mod Readiness
 pub mod Feedings
 pub mod Framings
 pub mod Endings

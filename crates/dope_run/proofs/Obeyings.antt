@@ -3,6 +3,7 @@ use Rattle.std.proofs.Common.{◌≡◌, ℕ, Result, Ok, Err, OnOk, OnErr, Matc
 use Rattle.std.proofs.lemmas.List.{map-append}
 use Rattle.std.specs.Io.KnownBytes.{Appends}
 use Rattle.outside_io.specs.Sink.{AppendsFront}
+use Rattle.outside_io.proofs.Told.{Appends-none}
 use Rattle.desk_model.specs.State.{State, IsState}
 use Rattle.desk_model.specs.Events.{Event, Answer}
 use Rattle.desk_model.specs.Step.{Step}
@@ -11,28 +12,32 @@ use Rattle.desk_model.proofs.Runs.{Run-append, Run-one, IsState-run}
 use Rattle.desk_model.proofs.Progress.{some_run}
 use Rattle.dope_run.specs.declared.status.Status.{Status}
 use Rattle.dope_run.specs.declared.status.Status.TheVariants.{Done, WriteFault}
-use Rattle.dope_run.specs.Text.{answer_line}
+use Rattle.dope_run.specs.Text.{answer_text}
 use Rattle.dope_run.specs.Transcript.{Gains}
 use Rattle.dope_run.specs.Obeying.{Obeyed}
 use Rattle.dope_run.proofs.Gaining.{text_of-append, AppendsFront-longer, Gains-after, IsReached-longer, Leaves-after}
 
--- one event, whose line was written
-pub obeyed_one : (event : Event) (answer : Answer) (old new : State) (before after : Option (List ℕ)) → Step old event answer new → Appends before after (answer_line answer) → Obeyed Done (event ∷ []) old new before after
+-- no event
+pub obeyed_none : (state : State) (sink : Option (List ℕ)) → Obeyed Done [] state state sink sink
+obeyed_none state sink = record { moments = []; answers = refl; run = tt; gains = Appends-none sink; leaves = refl }
+
+-- one event, whose text was written
+pub obeyed_one : (event : Event) (answer : Answer) (old new : State) (before after : Option (List ℕ)) → Step old event answer new → Appends before after (answer_text event answer new.desk.shape) → Obeyed Done (event ∷ []) old new before after
 obeyed_one event answer old new before after step wrote = record {
   moments = record { event = event; answer = answer; after = new } ∷ [];
   answers = refl;
   run = Run-one old event answer new step;
-  gains = subst (Appends before after) (sym (append-nil (answer_line answer))) wrote;
+  gains = subst (Appends before after) (sym (append-nil (answer_text event answer new.desk.shape))) wrote;
   leaves = refl;
 }
 
--- one event, whose line was broken off
-pub obeyed_one_cut : (event : Event) (answer : Answer) (old new : State) (before after : Option (List ℕ)) → Step old event answer new → AppendsFront before after (answer_line answer) → Obeyed WriteFault (event ∷ []) old new before after
+-- one event, whose text was broken off
+pub obeyed_one_cut : (event : Event) (answer : Answer) (old new : State) (before after : Option (List ℕ)) → Step old event answer new → AppendsFront before after (answer_text event answer new.desk.shape) → Obeyed WriteFault (event ∷ []) old new before after
 obeyed_one_cut event answer old new before after step wrote = record {
   moments = record { event = event; answer = answer; after = new } ∷ [];
   answers = refl;
   run = Run-one old event answer new step;
-  gains = subst (AppendsFront before after) (sym (append-nil (answer_line answer))) wrote;
+  gains = subst (AppendsFront before after) (sym (append-nil (answer_text event answer new.desk.shape))) wrote;
   leaves = record { count = 1; within = lit≤ tt; reached = refl };
 }
 
@@ -58,8 +63,8 @@ obeyed_more events more old new before after valid a =
       leaves = IsReached-longer new old a.moments rest.0 a.leaves;
     }
 
--- one event, by how the writing of its line went
-pub obeyed_by_writing : {T E : Type 0} (wrote : Result T E) (event : Event) (answer : Answer) (old new : State) (before after : Option (List ℕ)) (line : List ℕ) → Step old event answer new → line ≡ answer_line answer → OnOk wrote (Appends before after line) → OnErr wrote (AppendsFront before after line) → MatchResult wrote (λ _. Obeyed Done (event ∷ []) old new before after) (λ _. Obeyed WriteFault (event ∷ []) old new before after)
+-- one event, by how the writing of its text went
+pub obeyed_by_writing : {T E : Type 0} (wrote : Result T E) (event : Event) (answer : Answer) (old new : State) (before after : Option (List ℕ)) (line : List ℕ) → Step old event answer new → line ≡ answer_text event answer new.desk.shape → OnOk wrote (Appends before after line) → OnErr wrote (AppendsFront before after line) → MatchResult wrote (λ _. Obeyed Done (event ∷ []) old new before after) (λ _. Obeyed WriteFault (event ∷ []) old new before after)
 obeyed_by_writing (Ok x) event answer old new before after line step is wrote cut = obeyed_one event answer old new before after step (subst (Appends before after) is wrote)
 obeyed_by_writing (Err e) event answer old new before after line step is wrote cut = obeyed_one_cut event answer old new before after step (subst (AppendsFront before after) is cut)
 

@@ -1,17 +1,16 @@
 -- The bytes of a script are read in one way.
-use Rattle.std.proofs.Common.{◌≡◌, ◌⊎◌, ◌==◌, ℕ, suc, ◌+◌, ◌-◌, ◌≤◌, Bool, true, false, ◌||◌, List, [], ◌∷◌, ◌++◌, length, take, Option, Some, None, refl, sym, ap, subst, ◌∙◌, inl, inr, arith, append_assoc, length-append}
+use Rattle.std.proofs.Common.{◌≡◌, ◌⊎◌, ◌==◌, ℕ, suc, ◌+◌, ◌-◌, ◌≤◌, Bool, true, false, ◌||◌, List, [], ◌∷◌, ◌++◌, length, take, Option, Some, None, refl, sym, ap, ◌∙◌, inl, inr, arith, append_assoc, length-append}
 use Rattle.std.specs.List.{All}
 use Rattle.std.proofs.lemmas.Bool.Decides.{nat_tests}
 use Rattle.std.proofs.Math.Seq.{take-append-add}
 use Rattle.std.proofs.lemmas.List.Elements.{All-head, All-tail}
 use Rattle.std.proofs.lemmas.List.Folds.{list_any-append}
 use Rattle.desk_model.specs.Events.{Event}
-use Rattle.dope_run.specs.declared.order.Order.{Order}
-use Rattle.dope_run.specs.declared.setup.Setup.{Setup}
-use Rattle.dope_run.specs.Line.{line_order}
+use Rattle.script_lines.specs.declared.order.Order.{Order}
+use Rattle.script_lines.specs.Lines.{line_order}
 use Rattle.dope_run.specs.Framing.{Item, IsItem, IsPartial, bytes_of, has_feed, line_limit, wants_of}
 use Rattle.dope_run.specs.Script.{read_script, BeginsOff}
-use Rattle.dope_run.proofs.Reading.{read_script-nil, read_script-parts}
+use Rattle.dope_run.proofs.Reading.{read_script-parts}
 
 -- a byte that is a line feed, and one that isn't
 feed_first : (x : ℕ) (xs : List ℕ) → x ≡ 10 → has_feed (x ∷ xs) ≡ false → ⊥
@@ -67,17 +66,17 @@ none_some : {A : Type 0} (o : Option A) (x : A) → o ≡ None → o ≡ Some x 
 none_some o x none some = cc
 
 -- what stands behind whole lines doesn't begin with an item that is read
-no_item : (setup : Setup) (item : Item) (more rest : List ℕ) (read : Order × Setup) → IsItem item → line_order setup item.line ≡ Some read → IsPartial rest ⊎ BeginsOff setup rest → rest ≡ item.line ++ 10 ∷ (item.payload ++ more) → ⊥
-no_item setup item more rest read is reads (inl (inl line)) spelled =
+no_item : (item : Item) (more rest : List ℕ) (read : Order) → IsItem item → line_order item.line ≡ Some read → IsPartial rest ⊎ BeginsOff rest → rest ≡ item.line ++ 10 ∷ (item.payload ++ more) → ⊥
+no_item item more rest read is reads (inl (inl line)) spelled =
     both (has_feed rest) (ap has_feed spelled ∙ has_feed-line item.line (item.payload ++ more)) line.no_feed
-no_item setup item more rest read is reads (inl (inr short)) spelled =
+no_item item more rest read is reads (inl (inr short)) spelled =
     let same = one_first_feed short.line item.line short.payload (item.payload ++ more) short.is_line.no_feed is.line.no_feed (sym short.spelled ∙ spelled) in
     let wants : wants_of short.line ≡ wants_of item.line = ap wants_of same.0 in
     omega (arith, short.missing, wants, is.payload, ap length same.1, length-append item.payload more)
-no_item setup item more rest read is reads (inr (inl unread)) spelled =
+no_item item more rest read is reads (inr (inl unread)) spelled =
     let same = one_first_feed unread.line item.line unread.later (item.payload ++ more) unread.is_line.no_feed is.line.no_feed (sym unread.spelled ∙ spelled) in
-    none_some (line_order setup item.line) read (ap (line_order setup) (sym same.0) ∙ unread.unread) reads
-no_item setup item more rest read is reads (inr (inr long)) spelled =
+    none_some (line_order item.line) read (ap line_order (sym same.0) ∙ unread.unread) reads
+no_item item more rest read is reads (inr (inr long)) spelled =
     both (has_feed (take (line_limit + 1) rest)) (ap (λ xs. has_feed (take (line_limit + 1) xs)) spelled ∙ feed_within line_limit item.line (item.payload ++ more) is.line.short) long.no_feed
 
 bytes_of-item : (item : Item) (items : List Item) (rest : List ℕ) → bytes_of (item ∷ items) ++ rest ≡ item.line ++ 10 ∷ (item.payload ++ (bytes_of items ++ rest))
@@ -89,30 +88,21 @@ no_bytes : (rest : List ℕ) → bytes_of [] ++ rest ≡ rest
 unfolding bytes_of
 no_bytes rest = refl
 
-ends_nil : (setup later : Setup) (events : List Event) (rest : List ℕ) → read_script setup [] ≡ Some (later, events) → IsPartial rest ⊎ BeginsOff later rest → IsPartial rest ⊎ BeginsOff setup rest
-ends_nil setup later events rest script ends =
-    let start : ◌≡◌ {A = Option (Setup × List Event)} (Some (setup, [])) (Some (later, events)) = sym (read_script-nil setup) ∙ script in
-    let same : ◌≡◌ {A = Setup × List Event} (setup, []) (later, events) = cc in
-    subst (λ s. IsPartial rest ⊎ BeginsOff s rest) (sym (ap (λ p. p.0) same)) ends
-
-pub one_reading : (setup : Setup) (a b : List Item) (r q : List ℕ) (la lb : Setup) (ea eb : List Event) → All IsItem a → All IsItem b → read_script setup a ≡ Some (la, ea) → read_script setup b ≡ Some (lb, eb) → IsPartial r ⊎ BeginsOff la r → IsPartial q ⊎ BeginsOff lb q → bytes_of a ++ r ≡ bytes_of b ++ q → (a ≡ b) × (r ≡ q)
-one_reading setup [] [] r q la lb ea eb wa wb sa sb na nb e = (refl, sym (no_bytes r) ∙ e ∙ no_bytes q)
-one_reading setup [] (j ∷ b) r q la lb ea eb wa wb sa sb na nb e =
-    let parts = read_script-parts setup j b lb eb sb in
-    absurd (no_item setup j (bytes_of b ++ q) r (parts.0, parts.1) (All-head IsItem j b wb) parts.3 (ends_nil setup la ea r sa na) (sym (no_bytes r) ∙ e ∙ bytes_of-item j b q))
-one_reading setup (i ∷ a) [] r q la lb ea eb wa wb sa sb na nb e =
-    let parts = read_script-parts setup i a la ea sa in
-    absurd (no_item setup i (bytes_of a ++ r) q (parts.0, parts.1) (All-head IsItem i a wa) parts.3 (ends_nil setup lb eb q sb nb) (sym (no_bytes q) ∙ sym e ∙ bytes_of-item i a r))
-one_reading setup (i ∷ a) (j ∷ b) r q la lb ea eb wa wb sa sb na nb e =
-    let left = read_script-parts setup i a la ea sa in
-    let right = read_script-parts setup j b lb eb sb in
+pub one_reading : (a b : List Item) (r q : List ℕ) (ea eb : List Event) → All IsItem a → All IsItem b → read_script a ≡ Some ea → read_script b ≡ Some eb → IsPartial r ⊎ BeginsOff r → IsPartial q ⊎ BeginsOff q → bytes_of a ++ r ≡ bytes_of b ++ q → (a ≡ b) × (r ≡ q)
+one_reading [] [] r q ea eb wa wb sa sb na nb e = (refl, sym (no_bytes r) ∙ e ∙ no_bytes q)
+one_reading [] (j ∷ b) r q ea eb wa wb sa sb na nb e =
+    let parts = read_script-parts j b eb sb in
+    absurd (no_item j (bytes_of b ++ q) r parts.0 (All-head IsItem j b wb) parts.2 na (sym (no_bytes r) ∙ e ∙ bytes_of-item j b q))
+one_reading (i ∷ a) [] r q ea eb wa wb sa sb na nb e =
+    let parts = read_script-parts i a ea sa in
+    absurd (no_item i (bytes_of a ++ r) q parts.0 (All-head IsItem i a wa) parts.2 nb (sym (no_bytes q) ∙ sym e ∙ bytes_of-item i a r))
+one_reading (i ∷ a) (j ∷ b) r q ea eb wa wb sa sb na nb e =
+    let left = read_script-parts i a ea sa in
+    let right = read_script-parts j b eb sb in
     let is = All-head IsItem i a wa in
     let isn = All-head IsItem j b wb in
     let lines = one_first_feed i.line j.line (i.payload ++ (bytes_of a ++ r)) (j.payload ++ (bytes_of b ++ q)) is.line.no_feed isn.line.no_feed (sym (bytes_of-item i a r) ∙ e ∙ bytes_of-item j b q) in
     let payloads = same_front i.payload j.payload (bytes_of a ++ r) (bytes_of b ++ q) (is.payload ∙ ap wants_of lines.0 ∙ sym isn.payload) lines.1 in
-    let reads : ◌≡◌ {A = Option (Order × Setup)} (Some (left.0, left.1)) (Some (right.0, right.1)) = sym left.3 ∙ ap (line_order setup) lines.0 ∙ right.3 in
-    let same : ◌≡◌ {A = Order × Setup} (left.0, left.1) (right.0, right.1) = cc in
-    let next : left.1 ≡ right.1 = ap (λ p. p.1) same in
-    let behind = one_reading left.1 a b r q la lb left.2 right.2 (All-tail IsItem i a wa) (All-tail IsItem j b wb) left.4 (subst (λ s. read_script s b ≡ Some (lb, right.2)) (sym next) right.4) na nb payloads.1 in
+    let behind = one_reading a b r q left.1 right.1 (All-tail IsItem i a wa) (All-tail IsItem j b wb) left.3 right.3 na nb payloads.1 in
     let items : i ≡ j = ap (λ l. record { line = l; payload = i.payload }) lines.0 ∙ ap (λ p. record { line = j.line; payload = p }) payloads.0 in
     (ap (λ h. h ∷ a) items ∙ ap (λ t. j ∷ t) behind.0, behind.1)

@@ -1,14 +1,11 @@
-pub mod Steps
 pub mod Numbers
 pub mod Words
-pub mod Line
 pub mod Text
 pub mod Report
 pub mod Framing
 pub mod Script
 pub mod Transcript
 pub mod Obeying
-pub mod Ready
 pub mod Playing
 pub mod Cutting
 pub mod ScriptLaws

@@ -1,4 +1,4 @@
--- A number in words and lines: 1 to 7 decimal digits, in its range; it may begin with 0.
+-- A number in the words of a command line: 1 to 7 decimal digits, in its range; it may begin with 0.
 use Rattle.std.specs.Prelude.{ℕ, ◌+◌, ◌*◌, ◌-◌, Bool, ◌&&◌, nat_le, if◌then◌else◌, List, length, fold, Option, Some, None}
 use Rattle.std.specs.List.{list_all}
 

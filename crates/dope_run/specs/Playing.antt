@@ -5,25 +5,20 @@ use Rattle.std.specs.Io.KnownBytes.{Consumes}
 use Rattle.kind_core.specs.declared.shapes.Shape.{Shape}
 use Rattle.desk_model.specs.State.{IsState, opening}
 use Rattle.desk_model.specs.Run.{Moment}
-use Rattle.dope_run.specs.declared.setup.Setup.{Setup}
-use Rattle.dope_run.specs.declared.setup.Setup.TheVariants.{Fresh}
 use Rattle.dope_run.specs.declared.status.Status.{Status}
 use Rattle.dope_run.specs.declared.status.Status.TheVariants.{Done, WriteFault, BadScript}
 use Rattle.dope_run.specs.declared.cut.Cut.{Cut}
 use Rattle.dope_run.specs.declared.cut.Cut.TheVariants.{Unread, Unwritten}
 use Rattle.dope_run.specs.declared.player.Player.{Player}
-use Rattle.dope_run.specs.Line.{line_order}
+use Rattle.script_lines.specs.Lines.{line_order}
 use Rattle.dope_run.specs.Framing.{Item, IsLine, bytes_of}
 use Rattle.dope_run.specs.Script.{BeginsOff}
-use Rattle.dope_run.specs.Ready.{IsReady}
 use Rattle.dope_run.specs.Text.{text_of}
 use Rattle.dope_run.specs.Transcript.{Plays, Gains, Leaves}
 
--- A player between two bytes: its server is valid and ready for the script's client, and it keeps the bytes of a
--- line that is not yet whole.
+-- A player between two bytes: its server is valid, and it keeps the bytes of a line that is not yet whole.
 pub record IsPlayer (player : Player) : Type 0 where
   pub state : IsState player.server.state
-  pub ready : IsReady player.setup player.server.state.desk.windows
   pub line : IsLine player.line.items
 
 -- a line that has no raw bytes
@@ -33,7 +28,7 @@ bare_item line = record { line = line; payload = [] }
 -- The player's line was read and carried out.
 pub record LineDone (status : Status) (old new : Player) (sink_old sink_new : Option (List ℕ)) : Type 0 where
   pub moments : List Moment
-  pub plays : Plays old.setup old.server.state (bare_item old.line.items ∷ []) moments new.setup
+  pub plays : Plays old.server.state (bare_item old.line.items ∷ []) moments
   pub gains : Gains status sink_old sink_new (text_of moments)
   pub leaves : Leaves status new.server.state old.server.state moments
   pub counts : new.lines ≡ old.lines + 1
@@ -41,7 +36,7 @@ pub record LineDone (status : Status) (old new : Player) (sink_old sink_new : Op
 
 -- The player's line is off the grammar; nothing happened.
 pub record LineUnread (line : ℕ) (old new : Player) (sink_old sink_new : Option (List ℕ)) : Type 0 where
-  pub unread : line_order old.setup old.line.items ≡ None
+  pub unread : line_order old.line.items ≡ None
   pub same_state : new.server.state ≡ old.server.state
   pub same_sink : sink_new ≡ sink_old
   pub counts : new.lines ≡ old.lines
@@ -52,28 +47,26 @@ LineCut (Unread line) = LineUnread line
 LineCut Unwritten = LineDone WriteFault
 
 -- What stands behind the whole lines: the player's own line, or one that is off the grammar.
-abbrev pub EndsSo : Status → Player → Setup → List ℕ → Type 0
-EndsSo Done player later rest = (later ≡ player.setup) × (rest ≡ player.line.items)
-EndsSo (BadScript line) player later rest = BeginsOff later rest × (line ≡ player.lines + 1)
-EndsSo WriteFault player later rest = Unit {0}
-EndsSo _ player later rest = ⊥
+abbrev pub EndsSo : Status → Player → List ℕ → Type 0
+EndsSo Done player rest = rest ≡ player.line.items
+EndsSo (BadScript line) player rest = BeginsOff rest × (line ≡ player.lines + 1)
+EndsSo WriteFault player rest = Unit {0}
+EndsSo _ player rest = ⊥
 
 -- The player took these bytes.
 pub record Fed (status : Status) (old : Player) (bytes : List ℕ) (new : Player) (sink_old sink_new : Option (List ℕ)) : Type 0 where
   pub items : List Item
   pub moments : List Moment
-  pub later : Setup
   pub rest : List ℕ
   pub spelled : old.line.items ++ bytes ≡ bytes_of items ++ rest
-  pub plays : Plays old.setup old.server.state items moments later
-  pub ends : EndsSo status new later rest
+  pub plays : Plays old.server.state items moments
+  pub ends : EndsSo status new rest
   pub gains : Gains status sink_old sink_new (text_of moments)
   pub leaves : Leaves status new.server.state old.server.state moments
   pub counts : new.lines ≡ old.lines + length items
 
 -- A player at the beginning of a script.
 pub record IsFresh (shape : Shape) (player : Player) : Type 0 where
-  pub setup : player.setup ≡ Fresh
   pub state : player.server.state ≡ opening shape
   pub line : player.line.items ≡ []
   pub lines : player.lines ≡ 0

@@ -5,42 +5,38 @@ use Rattle.std.specs.List.{All}
 use Rattle.kind_core.specs.declared.shapes.Shape.{Shape}
 use Rattle.desk_model.specs.State.{State}
 use Rattle.desk_model.specs.Events.{Event}
-use Rattle.dope_run.specs.declared.setup.Setup.{Setup}
-use Rattle.dope_run.specs.declared.setup.Setup.TheVariants.{Fresh}
 use Rattle.dope_run.specs.declared.status.Status.TheVariants.{BadScript, TooMuch}
 use Rattle.dope_run.specs.Framing.{Item, IsItem, IsPartial, AreWhole, bytes_of, script_limit}
 use Rattle.dope_run.specs.Script.{read_script, BeginsOff}
 use Rattle.dope_run.specs.Transcript.{Ended}
 
 -- The bytes are these lines, each read, and then a part that is no whole line or is off the grammar.
-pub record IsReading (setup : Setup) (bytes : List ℕ) (items : List Item) (rest : List ℕ) : Type 0 where
-  pub later : Setup
+pub record IsReading (bytes : List ℕ) (items : List Item) (rest : List ℕ) : Type 0 where
   pub events : List Event
   pub whole : All IsItem items
-  pub script : read_script setup items ≡ Some (later, events)
+  pub script : read_script items ≡ Some events
   pub spelled : bytes ≡ bytes_of items ++ rest
-  pub ends : IsPartial rest ⊎ BeginsOff later rest
+  pub ends : IsPartial rest ⊎ BeginsOff rest
 
 -- Any bytes have a reading, and only one.
 abbrev pub BytesHaveAReading : Type 0
-BytesHaveAReading = (setup : Setup) (bytes : List ℕ) → (items : List Item) × (rest : List ℕ) × IsReading setup bytes items rest
+BytesHaveAReading = (bytes : List ℕ) → (items : List Item) × (rest : List ℕ) × IsReading bytes items rest
 
 abbrev pub ReadingsAreOne : Type 0
 ReadingsAreOne =
-    (setup : Setup) (bytes : List ℕ) (first second : List Item) (rest other : List ℕ)
-    → IsReading setup bytes first rest → IsReading setup bytes second other → (first ≡ second) × (rest ≡ other)
+    (bytes : List ℕ) (first second : List Item) (rest other : List ℕ)
+    → IsReading bytes first rest → IsReading bytes second other → (first ≡ second) × (rest ≡ other)
 
 -- What is no whole line is not off the grammar.
 abbrev pub PartsAreNotOff : Type 0
-PartsAreNotOff = (setup : Setup) (bytes : List ℕ) → IsPartial bytes → BeginsOff setup bytes → ⊥
+PartsAreNotOff = (bytes : List ℕ) → IsPartial bytes → BeginsOff bytes → ⊥
 
 -- A script inside the grammar: whole lines, each read, within the limit.
 pub record IsScript (bytes : List ℕ) : Type 0 where
   pub items : List Item
-  pub later : Setup
   pub events : List Event
   pub lines : All IsItem items
-  pub script : read_script Fresh items ≡ Some (later, events)
+  pub script : read_script items ≡ Some events
   pub whole : AreWhole bytes items
   pub short : length bytes ≤ script_limit
 

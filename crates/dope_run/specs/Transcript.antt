@@ -7,8 +7,6 @@ use Rattle.desk_model.specs.State.{State, opening}
 use Rattle.desk_model.specs.Run.{Moment, Run, events_of, state_after}
 use Rattle.desk_model.specs.Laws.{KeepsLaws}
 use Rattle.outside_io.specs.Sink.{AppendsFront}
-use Rattle.dope_run.specs.declared.setup.Setup.{Setup}
-use Rattle.dope_run.specs.declared.setup.Setup.TheVariants.{Fresh}
 use Rattle.dope_run.specs.declared.status.Status.{Status}
 use Rattle.dope_run.specs.declared.status.Status.TheVariants.{Done, ReadFault, WriteFault, Usage, BadScript, NoMemory, TooMuch}
 use Rattle.dope_run.specs.Framing.{Item, IsItem, IsPartial, AreWhole, bytes_of, script_limit}
@@ -16,16 +14,16 @@ use Rattle.dope_run.specs.Script.{read_script, BeginsOff, EndsOff}
 use Rattle.dope_run.specs.Text.{text_of}
 
 -- The items are read, and the moments are a run over their events.
-pub record Plays (setup : Setup) (from : State) (items : List Item) (moments : List Moment) (later : Setup) : Type 0 where
+pub record Plays (from : State) (items : List Item) (moments : List Moment) : Type 0 where
   pub whole : All IsItem items
-  pub script : read_script setup items ≡ Some (later, events_of moments)
+  pub script : read_script items ≡ Some (events_of moments)
   pub run : Run from moments
 
 -- The items are all whole lines of the bytes, up to one that is off the grammar.
-pub record AreLinesOf (bytes : List ℕ) (later : Setup) (items : List Item) : Type 0 where
+pub record AreLinesOf (bytes : List ℕ) (items : List Item) : Type 0 where
   pub rest : List ℕ
   pub spelled : bytes ≡ bytes_of items ++ rest
-  pub ends : IsPartial rest ⊎ BeginsOff later rest
+  pub ends : IsPartial rest ⊎ BeginsOff rest
 
 -- The bytes taken are the items, and then a line not yet whole.
 pub record AreCutShort (bytes : List ℕ) (items : List Item) : Type 0 where
@@ -34,19 +32,19 @@ pub record AreCutShort (bytes : List ℕ) (items : List Item) : Type 0 where
   pub partial : IsPartial rest
 
 -- Behind the items comes a line off the grammar; it may be the last one, where the source is at its end.
-pub record AreFollowedByOff (bytes : List ℕ) (later : Setup) (items : List Item) (source : Option (List ℕ)) : Type 0 where
+pub record AreFollowedByOff (bytes : List ℕ) (items : List Item) (source : Option (List ℕ)) : Type 0 where
   pub rest : List ℕ
   pub spelled : bytes ≡ bytes_of items ++ rest
-  pub off : BeginsOff later rest ⊎ (EndsOff later rest × IsAtEnd source)
+  pub off : BeginsOff rest ⊎ (EndsOff rest × IsAtEnd source)
 
 -- Which lines of the bytes taken were played, by how the run ended.
-abbrev pub Covers : Status → List ℕ → Option (List ℕ) → Setup → List Item → Type 0
-Covers Done taken source later items = AreWhole taken items × IsAtEnd source × (length taken ≤ script_limit)
-Covers ReadFault taken source later items = AreCutShort taken items × (length taken ≤ script_limit)
-Covers WriteFault taken source later items = (AreWhole taken items ⊎ AreLinesOf taken later items) × (length taken ≤ script_limit)
-Covers (BadScript line) taken source later items = AreFollowedByOff taken later items source × (line ≡ length items + 1) × (length taken ≤ script_limit)
-Covers TooMuch taken source later items = AreCutShort (take script_limit taken) items × (length taken ≡ script_limit + 1)
-Covers _ taken source later items = ⊥
+abbrev pub Covers : Status → List ℕ → Option (List ℕ) → List Item → Type 0
+Covers Done taken source items = AreWhole taken items × IsAtEnd source × (length taken ≤ script_limit)
+Covers ReadFault taken source items = AreCutShort taken items × (length taken ≤ script_limit)
+Covers WriteFault taken source items = (AreWhole taken items ⊎ AreLinesOf taken items) × (length taken ≤ script_limit)
+Covers (BadScript line) taken source items = AreFollowedByOff taken items source × (line ≡ length items + 1) × (length taken ≤ script_limit)
+Covers TooMuch taken source items = AreCutShort (take script_limit taken) items × (length taken ≡ script_limit + 1)
+Covers _ taken source items = ⊥
 
 -- The sink has gained the whole text, or after a write fault a front of it.
 abbrev pub Gains : Status → Option (List ℕ) → Option (List ℕ) → List ℕ → Type 0
@@ -68,11 +66,10 @@ Leaves _ state from moments = state ≡ state_after from moments
 pub record Ended (shape : Shape) (status : Status) (source_old source_new sink_old sink_new : Option (List ℕ)) (state : State) : Type 0 where
   pub taken : List ℕ
   pub items : List Item
-  pub later : Setup
   pub moments : List Moment
   pub consumes : Consumes source_old source_new taken
-  pub covers : Covers status taken source_new later items
-  pub plays : Plays Fresh (opening shape) items moments later
+  pub covers : Covers status taken source_new items
+  pub plays : Plays (opening shape) items moments
   pub gains : Gains status sink_old sink_new (text_of moments)
   pub leaves : Leaves status state (opening shape) moments
   pub laws : KeepsLaws (opening shape) moments

@@ -1,7 +1,7 @@
 -- The plain form of `play`: the command, then each option in this order with its number in range.
 use Rattle.std.specs.Prelude.{ℕ, if◌then◌else◌, List, [], ◌∷◌, Option, Some, None, bytes_eq, codes}
 use Rattle.kind_core.specs.declared.shapes.Shape.{Shape}
-use Rattle.dope_run.specs.Steps.{◌>>=◌}
+use Rattle.script_lines.specs.Steps.{◌>>=◌}
 use Rattle.dope_run.specs.Numbers.{number_in}
 
 -- the number behind an option of this name

@@ -5,15 +5,12 @@
 mod cut;
 mod ending;
 pub mod laws;
-mod line;
 mod number;
 mod obeying;
-mod order;
 mod outcome;
 mod player;
 mod playing;
 mod running;
-mod setup;
 mod status;
 mod text;
 mod words;

@@ -1,4 +1,4 @@
-//! Numbers in words and lines.
+//! Numbers in the words of a command line.
 ghost use Rattle.std.specs.Prelude.{◌≡◌, ℕ, ◌≤◌, length, Option, Some, None, IfSome, if◌then◌else◌};
 ghost use Rattle.std.specs.List.{list_all};
 ghost use Rattle.dope_run.specs.Numbers.{is_digit, value_of, number_in};

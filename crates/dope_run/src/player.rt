@@ -6,20 +6,17 @@ ghost use Rattle.dope_run.specs.Cutting.{status_of};
 ghost use Rattle.dope_run.specs.Playing.{IsPlayer, LineDone, LineCut, Fed};
 
 use crate::cut::Cut;
-use crate::line::line_order;
 use crate::obeying::obey;
-use crate::setup::Setup;
 use arrayvec::ArrayVec;
 use outside_io::Sink;
+use script_lines::line_order;
 use server_core::Server;
-use std::mem;
 
-/// A player of a script: its server, how far the script's client has come, the bytes of the line that is not
-/// yet whole, and how many lines were carried out.
+/// A player of a script: its server, the bytes of the line that is not yet whole, and how many lines were carried
+/// out.
 #[derive(Drop)]
 pub struct Player {
     pub server: Server,
-    pub setup: Setup,
     pub line: ArrayVec<u8, 520>,
     pub lines: u64,
 }
@@ -36,13 +33,11 @@ impl Player {
         ensures later { K.faults sink.old ≤ K.faults sink.new }
         ensures cause { IfErr result (λ cut. cut ≡ Cut.Unwritten → Rose (K.faults sink.old) (K.faults sink.new)) }
     {
-        let setup = mem::replace(&mut self.setup, Setup::Opened);
-        match line_order(setup, self.line.as_slice()) {
+        match line_order(self.line.as_slice()) {
             None => Err(Cut::Unread {
                 line: self.lines + 1,
             }),
-            Some((order, next)) => {
-                self.setup = next;
+            Some(order) => {
                 self.line.clear();
                 self.lines += 1;
                 match obey(&order, &mut self.server, sink) {

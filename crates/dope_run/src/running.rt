@@ -8,7 +8,6 @@ ghost use Rattle.dope_run.specs.Transcript.{Ended, IsRefused, IsPlayed};
 
 use crate::player::Player;
 use crate::playing::{PIECE, play};
-use crate::setup::Setup;
 use crate::status::Status;
 use crate::words::play_shape;
 use arrayvec::ArrayVec;
@@ -26,7 +25,6 @@ fn open_player(alloc: Global, shape: Shape) -> Result<Player, NoMemory>
     match Server::new(alloc, shape) {
         Ok(server) => Ok(Player {
             server,
-            setup: Setup::Fresh,
             line: ArrayVec::new(),
             lines: 0,
         }),

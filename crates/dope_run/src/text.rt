@@ -1,19 +1,34 @@
 //! The lines of output.
 ghost use Rattle.std.specs.Prelude.{◌≡◌};
-ghost use Rattle.desk_model.specs.Events.Answer.{Done, Drawn, Counted, Seen};
-ghost use Rattle.dope_run.specs.Text.{answer_line};
+ghost use Rattle.dope_run.specs.Text.{reply_line, drew_line, dirty_line, pixel_line, dump_line};
 
 use arrayvec::ArrayString;
-use desk_model::Drew;
+use cmd_text::{Reply, print_reply};
+use desk_model::{Drew, Shape};
 use itoa::Buffer;
 
 /// A line of output, with its line feed.
 pub type Line = ArrayString<64>;
 
+/// A client's number, its reply and a line feed: 10 digits, a space, 256 bytes and one more at most.
+pub type ReplyLine = ArrayString<268>;
+
+/// The line for a client's reply.
+pub fn reply_line(client: u32, reply: &Reply) -> ReplyLine
+    ensures { result.bytes ≡ reply_line client reply.now }
+{
+    let mut text = ArrayString::new();
+    let mut number = Buffer::new();
+    text.push_str(number.format(client));
+    text.push_str(" ");
+    text.push_str(print_reply(reply).as_str());
+    text.push_str("\n");
+    text
+}
+
 /// The line for what a tick drew.
-#[tactic(auto, unfolding(crate::specs::Text::answer_line))]
 pub fn drew_line(drew: Drew) -> Line
-    ensures { result.bytes ≡ answer_line (Drawn drew) }
+    ensures { result.bytes ≡ drew_line drew }
 {
     let mut text = ArrayString::new();
     let mut number = Buffer::new();
@@ -28,9 +43,8 @@ pub fn drew_line(drew: Drew) -> Line
 }
 
 /// The line for a count of dirty pixels.
-#[tactic(auto, unfolding(crate::specs::Text::answer_line))]
 pub fn dirty_line(count: u32) -> Line
-    ensures { result.bytes ≡ answer_line (Counted count) }
+    ensures { result.bytes ≡ dirty_line count }
 {
     let mut text = ArrayString::new();
     let mut number = Buffer::new();
@@ -41,9 +55,8 @@ pub fn dirty_line(count: u32) -> Line
 }
 
 /// The line for what a pixel shows; None off the screen.
-#[tactic(auto, unfolding(crate::specs::Text::answer_line))]
 pub fn pixel_line(byte: Option<u8>) -> Line
-    ensures { result.bytes ≡ answer_line (Seen byte) }
+    ensures { result.bytes ≡ pixel_line byte }
 {
     let mut text = ArrayString::new();
     let mut number = Buffer::new();
@@ -58,12 +71,16 @@ pub fn pixel_line(byte: Option<u8>) -> Line
     text
 }
 
-/// The line for a client's command that was done.
-#[tactic(auto, unfolding(crate::specs::Text::answer_line))]
-pub fn done_line() -> Line
-    ensures { result.bytes ≡ answer_line Done }
+/// The line before the bytes of a whole screen of this shape.
+pub fn dump_line(shape: Shape) -> Line
+    ensures { result.bytes ≡ dump_line shape }
 {
     let mut text = ArrayString::new();
-    text.push_str("1 ok\n");
+    let mut number = Buffer::new();
+    text.push_str("dump ");
+    text.push_str(number.format(shape.width));
+    text.push_str(" ");
+    text.push_str(number.format(shape.height));
+    text.push_str("\n");
     text
 }

@@ -77,33 +77,6 @@ fn one_tick_draws_as_many_pixels_as_the_budget(rt: HostRuntime) -> Result<(), Fa
 }
 
 #[test]
-fn a_dump_shows_the_screen_row_after_row(rt: HostRuntime) -> Result<(), Fail> {
-    let blank = play(
-        rt.alloc(),
-        "play --width 16 --height 16 --budget 10 --spare 1",
-        "dump\n",
-    )?;
-    assert_eq!(rt; blank.status, Status::Done);
-    let mut expected = b"dump 16 16\n".to_vec(rt.alloc())?;
-    for _ in 0..256 {
-        expected.push(2)?;
-    }
-    expected.push(b'\n')?;
-    assert_eq!(rt; blank.held.as_slice(), expected.as_slice());
-
-    let mut script = ONE_TICK.to_string(rt.alloc())?;
-    script.push_str("dump\n")?;
-    let drawn = play(rt.alloc(), WORDS, script.as_str())?;
-    let head = b"1 ok\n1 ok\n1 ok\n1 ok\ndrew 0+100 left 300\ndump 32 32\n";
-    assert_eq!(rt; drawn.held.len(), head.len() + 1024 + 1);
-    assert!(rt; drawn.held.as_slice().starts_with(head));
-    let screen = drawn.held.iter().skip(head.len()).take(1024);
-    assert_eq!(rt; screen.filter(|byte| **byte != 2).count(), 100);
-    assert_eq!(rt; drawn.held.last().copied(), Some(b'\n'));
-    Ok(())
-}
-
-#[test]
 fn a_window_is_drawn_to_its_screens_edge(rt: HostRuntime) -> Result<(), Fail> {
     let script =
         "connect 1\n1 w = new Window()\n1 w.open()\ndirty\npixel 15 15\ntick\npixel 0 15\npixel 15 0\npixel 16 0\npixel 0 16\n";
@@ -136,6 +109,67 @@ fn a_last_line_needs_no_line_feed(rt: HostRuntime) -> Result<(), Fail> {
         assert_eq!(rt; played.status, status, "at {script}");
         assert_eq!(rt; played.held.as_slice(), text.as_bytes(), "at {script}");
         assert_eq!(rt; played.left, 0, "at {script}");
+    }
+    Ok(())
+}
+
+#[test]
+fn each_client_is_told_its_replies(rt: HostRuntime) -> Result<(), Fail> {
+    let script =
+        "# two clients\nconnect 1\nconnect 1\nconnect 2\n\n2 w = new Window()\n1 w = new Window()\n1 w = new Button()\n1 w.set(-w 15)\n1 w.get(w)\n1 w.open(\n3 w.open()\nbye 2\nbye 2\n2 w.open()\n16 x\n";
+    let text =
+        "1 ok\n1 error 22\n2 ok\n2 ok\n1 ok\n1 error 3\n1 error 6 16 1024\n1 ok 160\n1 error 2 7\n3 error 20\n2 ok\n2 error 20\n2 error 20\n16 error 2 1\n";
+    let played = play(rt.alloc(), WORDS, script)?;
+    assert_eq!(rt; played.status, Status::Done);
+    assert_eq!(rt; played.held.as_slice(), text.as_bytes());
+    Ok(())
+}
+
+#[test]
+fn what_a_client_leaves_is_dirty(rt: HostRuntime) -> Result<(), Fail> {
+    let script =
+        "connect 9\n9 w = new Window()\n9 w.set(-x 2 -y 1 -w 16 -h 16)\n9 w.open()\ntick 3\npixel 2 1\npixel 1 1\nbye 9\ndirty\ntick 3\npixel 2 1\n";
+    let text =
+        "9 ok\n9 ok\n9 ok\n9 ok\ndrew 0+100 left 156\ndrew 0+100 left 56\ndrew 0+56 left 0\npixel 4\npixel 2\n9 ok\ndirty 256\ndrew 0+100 left 156\ndrew 0+100 left 56\ndrew 0+56 left 0\npixel 2\n";
+    let played = play(rt.alloc(), WORDS, script)?;
+    assert_eq!(rt; played.status, Status::Done);
+    assert_eq!(rt; played.held.as_slice(), text.as_bytes());
+    Ok(())
+}
+
+/// The words of a run whose screen has 256 pixels.
+const SMALL: &str = "play --width 16 --height 16 --budget 100 --spare 10";
+
+#[test]
+fn a_dump_is_the_screens_sides_and_its_bytes(rt: HostRuntime) -> Result<(), Fail> {
+    let played = play(rt.alloc(), SMALL, "dump\ndirty\n")?;
+    assert_eq!(rt; played.status, Status::Done);
+    assert_eq!(rt; played.held.len(), 11 + 256 + 1 + 8);
+    assert_eq!(rt; &played.held[..11], b"dump 16 16\n".as_slice());
+    assert!(rt; played.held[11..267].iter().all(|byte| *byte == 2));
+    assert_eq!(rt; &played.held[267..], b"\ndirty 0\n".as_slice());
+    Ok(())
+}
+
+#[test]
+fn a_dump_after_a_tick_shows_what_it_drew(rt: HostRuntime) -> Result<(), Fail> {
+    let mut script = ONE_TICK.to_string(rt.alloc())?;
+    script.push_str("dump\n")?;
+    let played = play(rt.alloc(), WORDS, script.as_str())?;
+    let head = b"1 ok\n1 ok\n1 ok\n1 ok\ndrew 0+100 left 300\ndump 32 32\n";
+    assert_eq!(rt; played.held.len(), head.len() + 1024 + 1);
+    assert!(rt; played.held.as_slice().starts_with(head));
+    let screen = played.held.iter().skip(head.len()).take(1024);
+    assert_eq!(rt; screen.filter(|byte| **byte != 2).count(), 100);
+    Ok(())
+}
+
+#[test]
+fn a_write_fault_in_a_dump_leaves_its_parts_before_it(rt: HostRuntime) -> Result<(), Fail> {
+    for (write, length) in [(1, 0), (2, 11), (3, 267)] {
+        let played = play_with(rt.alloc(), SMALL, "dump\ndirty\n", 4096, &[], &[write])?;
+        assert_eq!(rt; played.status, Status::WriteFault, "at write {write}");
+        assert_eq!(rt; played.held.len(), length, "at write {write}");
     }
     Ok(())
 }

@@ -4,7 +4,7 @@ use Rattle.dope_run.proofs.running.open_player.Goals as goal
 
 pub returns-in-Ok : goal.returns-in-Ok
 returns-in-Ok c = record {
-  player = player_opened c.args.shape _ c.in-Ok.ensures.opens c.in-Ok.ensures.valid refl c.new-in-Ok.ensures;
-  fresh = player_fresh c.args.shape _ c.in-Ok.ensures.opens c.in-Ok.ensures.valid refl c.new-in-Ok.ensures refl;
+  player = player_opened c.args.shape _ c.in-Ok.ensures.opens c.in-Ok.ensures.valid c.new-in-Ok.ensures;
+  fresh = player_fresh c.args.shape _ c.in-Ok.ensures.opens c.in-Ok.ensures.valid c.new-in-Ok.ensures refl;
   shape = shape_opened c.args.shape _ c.in-Ok.ensures.opens;
 }

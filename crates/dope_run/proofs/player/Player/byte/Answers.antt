@@ -13,4 +13,4 @@ returns-then-is_full-clause-told g c =
     fed_too_long c.args.self.now c.args.byte _ c.requires.player.line c.if-byte-eq10.false full
 
 pub returns-clause-told : goal.returns-clause-told
-returns-clause-told g c = fed_push _ _ c.args.byte _ refl refl refl c.push.ensures.items
+returns-clause-told g c = fed_push _ _ c.args.byte _ refl refl c.push.ensures.items

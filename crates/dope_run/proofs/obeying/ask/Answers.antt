@@ -1,0 +1,10 @@
+use Rattle.desk_model.specs.Events.Event.{Ask}
+use Rattle.desk_model.specs.Events.Answer.{Replied}
+use Rattle.dope_run.specs.Text.{answer_text}
+use Rattle.dope_run.proofs.Obeyings.{obeyed_by_writing}
+use Rattle.dope_run.proofs.obeying.ask.Goals as goal
+
+pub returns-clause-told : goal.returns-clause-told
+unfolding answer_text
+returns-clause-told g c =
+    obeyed_by_writing c.say.result (Ask c.args.client c.args.command.now) (Replied c.command-reply.result) _ _ _ _ _ c.command-reply.ensures.step c.reply_line.ensures c.say.ensures.ok c.say.ensures.err

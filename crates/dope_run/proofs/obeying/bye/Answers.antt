@@ -1,0 +1,10 @@
+use Rattle.desk_model.specs.Events.Event.{Bye}
+use Rattle.desk_model.specs.Events.Answer.{Replied}
+use Rattle.dope_run.specs.Text.{answer_text}
+use Rattle.dope_run.proofs.Obeyings.{obeyed_by_writing}
+use Rattle.dope_run.proofs.obeying.bye.Goals as goal
+
+pub returns-clause-told : goal.returns-clause-told
+unfolding answer_text
+returns-clause-told g c =
+    obeyed_by_writing c.say.result (Bye c.args.client) (Replied c.bye-reply.result) _ _ _ _ _ c.bye-reply.ensures.step c.reply_line.ensures c.say.ensures.ok c.say.ensures.err

@@ -1,0 +1,10 @@
+use Rattle.desk_model.specs.Events.Event.{Connect}
+use Rattle.desk_model.specs.Events.Answer.{Replied}
+use Rattle.dope_run.specs.Text.{answer_text}
+use Rattle.dope_run.proofs.Obeyings.{obeyed_by_writing}
+use Rattle.dope_run.proofs.obeying.connect.Goals as goal
+
+pub returns-clause-told : goal.returns-clause-told
+unfolding answer_text
+returns-clause-told g c =
+    obeyed_by_writing c.say.result (Connect c.args.client) (Replied c.connect-reply.result) _ _ _ _ _ c.connect-reply.ensures.step c.reply_line.ensures c.say.ensures.ok c.say.ensures.err

@@ -1,0 +1,11 @@
+use Rattle.std.proofs.Common.{refl}
+use Rattle.desk_model.specs.Events.Event.{CountDirty}
+use Rattle.desk_model.specs.Events.Answer.{Counted}
+use Rattle.dope_run.specs.Text.{answer_text}
+use Rattle.dope_run.proofs.Obeyings.{obeyed_by_writing}
+use Rattle.dope_run.proofs.obeying.dirty.Goals as goal
+
+pub returns-clause-told : goal.returns-clause-told
+unfolding answer_text
+returns-clause-told g c =
+    obeyed_by_writing c.say.result CountDirty (Counted c.dirty.result) _ _ _ _ _ (refl, c.dirty.ensures.count) c.dirty_line.ensures c.say.ensures.ok c.say.ensures.err
