@@ -148,7 +148,10 @@ fn each_line_is_taken_to_its_ends(rt: HostRuntime) -> Result<(), Fail> {
             "1 ok\n1 ok\ndirty 0\n1 ok\n1 ok\ndirty 512\n",
         ),
         ("\n#\n# a comment\n\n", ""),
-        ("connect 16\nbye 16\nbye 16\n", "16 ok\n16 ok\n16 error 20\n"),
+        (
+            "connect 16\nbye 16\nbye 16\n",
+            "16 ok\n16 ok\n16 error 20\n",
+        ),
         ("1 \n16  w.open( ) \n", "1 error 2 0\n16 error 20\n"),
     ];
     for (script, text) in cases {
