@@ -128,65 +128,107 @@ fn hung(
     }
 }
 
+/// A tree with two widgets.
+fn two(alloc: Global, first: Kind, second: Kind) -> Result<(Tree, Id, Id), Fail>
+    ensures joined { IfOk result (λ made. is_joined made.0.clients 1 ≡ true) }
+    ensures first { IfOk result (λ made. IsLive made.0 made.1.key) }
+    ensures second { IfOk result (λ made. IsLive made.0 made.2.key) }
+{
+    let mut tree = one_client(alloc)?;
+    let a = added(&mut tree, b"a", first)?;
+    let b = added(&mut tree, b"b", second)?;
+    Ok((tree, a, b))
+}
+
+/// A tree with a Grid and a widget in its column 2, row 3.
+fn pair(alloc: Global, kind: Kind) -> Result<(Tree, Id, Id), Fail>
+    ensures joined { IfOk result (λ made. is_joined made.0.clients 1 ≡ true) }
+    ensures first { IfOk result (λ made. IsLive made.0 made.1.key) }
+    ensures second { IfOk result (λ made. IsLive made.0 made.2.key) }
+{
+    let (mut tree, grid, child) = two(alloc, Kind::Grid, kind)?;
+    match hung(&mut tree, grid, child, 2, 3)? {
+        None => Ok((tree, grid, child)),
+        Some(_) => Err(Fail::from("hangs")),
+    }
+}
+
 #[test]
 fn a_widget_hangs_where_it_was_hung(rt: HostRuntime) -> Result<(), Fail> {
-    let mut tree = one_client(rt.alloc())?;
-    let grid = added(&mut tree, b"g", Kind::Grid)?;
-    let label = added(&mut tree, b"l", Kind::Label)?;
-    assert_eq!(rt; hung(&mut tree, grid, label, 2, 3)?, None);
+    let (tree, grid, label) = pair(rt.alloc(), Kind::Label)?;
     assert_eq!(rt; tree.parent(label), Some(grid));
     assert_eq!(rt; tree.root(label), grid);
     assert_eq!(rt; tree.child_at(grid, 2, 3), Some(label));
-    assert_eq!(rt; tree.child_at(grid, 3, 2), None);
     assert_eq!(rt; tree.child_at(grid, 17, 1), None);
-    assert_eq!(rt;
-        tree.cell(label),
-        Some(Cell {
-            column: 2,
-            row: 3,
-            pad: 0
-        })
-    );
-    tree.detach(label);
-    assert_eq!(rt; tree.parent(label), None);
-    assert_eq!(rt; tree.child_at(grid, 2, 3), None);
-    assert_eq!(rt; tree.cell(label), None);
+    let cell = Cell {
+        column: 2,
+        row: 3,
+        pad: 0,
+    };
+    assert_eq!(rt; tree.cell(label), Some(cell));
     Ok(())
 }
 
 #[test]
-fn a_widget_hangs_below_itself_in_no_tree(rt: HostRuntime) -> Result<(), Fail> {
-    let mut tree = one_client(rt.alloc())?;
-    let a = added(&mut tree, b"a", Kind::Grid)?;
-    let b = added(&mut tree, b"b", Kind::Grid)?;
+fn a_widget_hangs_no_more_after_detach(rt: HostRuntime) -> Result<(), Fail> {
+    let (mut tree, grid, label) = pair(rt.alloc(), Kind::Label)?;
+    tree.detach(label);
+    assert_eq!(rt; tree.parent(label), None);
+    assert_eq!(rt; tree.child_at(grid, 2, 3), None);
+    Ok(())
+}
+
+#[test]
+fn a_cycle_of_two_is_refused(rt: HostRuntime) -> Result<(), Fail> {
+    let (mut tree, a, b) = pair(rt.alloc(), Kind::Grid)?;
+    assert_eq!(rt; hung(&mut tree, b, a, 1, 1)?, Some(AttachRefusal::Cycle));
+    Ok(())
+}
+
+#[test]
+fn a_widget_hangs_not_in_itself(rt: HostRuntime) -> Result<(), Fail> {
+    let (mut tree, a, _) = pair(rt.alloc(), Kind::Grid)?;
+    assert_eq!(rt; hung(&mut tree, a, a, 1, 1)?, Some(AttachRefusal::Cycle));
+    Ok(())
+}
+
+#[test]
+fn a_cycle_of_three_is_refused(rt: HostRuntime) -> Result<(), Fail> {
+    let (mut tree, a, b) = pair(rt.alloc(), Kind::Grid)?;
     let c = added(&mut tree, b"c", Kind::Grid)?;
-    assert_eq!(rt; hung(&mut tree, a, b, 1, 1)?, None);
     assert_eq!(rt; hung(&mut tree, b, c, 1, 1)?, None);
     assert_eq!(rt; hung(&mut tree, c, a, 1, 1)?, Some(AttachRefusal::Cycle));
-    assert_eq!(rt; hung(&mut tree, a, a, 1, 1)?, Some(AttachRefusal::Cycle));
+    Ok(())
+}
+
+#[test]
+fn a_widget_hangs_in_one_other(rt: HostRuntime) -> Result<(), Fail> {
+    let (mut tree, _, b) = pair(rt.alloc(), Kind::Grid)?;
+    let c = added(&mut tree, b"c", Kind::Grid)?;
     assert_eq!(rt;
         hung(&mut tree, c, b, 1, 1)?,
         Some(AttachRefusal::HasParent)
     );
-    assert_eq!(rt; tree.root(c), a);
     Ok(())
 }
 
 #[test]
-fn kinds_and_cells_are_refused(rt: HostRuntime) -> Result<(), Fail> {
-    let mut tree = one_client(rt.alloc())?;
-    let grid = added(&mut tree, b"g", Kind::Grid)?;
-    let window = added(&mut tree, b"w", Kind::Window)?;
-    let one = added(&mut tree, b"one", Kind::Label)?;
-    let other = added(&mut tree, b"other", Kind::Label)?;
+fn a_cell_has_one_child(rt: HostRuntime) -> Result<(), Fail> {
+    let (mut tree, grid, _) = pair(rt.alloc(), Kind::Label)?;
+    let other = added(&mut tree, b"c", Kind::Label)?;
+    assert_eq!(rt;
+        hung(&mut tree, grid, other, 2, 3)?,
+        Some(AttachRefusal::CellTaken)
+    );
+    Ok(())
+}
+
+#[test]
+fn a_window_hangs_nowhere(rt: HostRuntime) -> Result<(), Fail> {
+    let (mut tree, grid, window) = two(rt.alloc(), Kind::Grid, Kind::Window)?;
     assert_eq!(rt;
         hung(&mut tree, grid, window, 1, 1)?,
         Some(AttachRefusal::WrongKind)
-    );
-    assert_eq!(rt; hung(&mut tree, grid, one, 1, 1)?, None);
-    assert_eq!(rt;
-        hung(&mut tree, grid, other, 1, 1)?,
-        Some(AttachRefusal::CellTaken)
     );
     Ok(())
 }
@@ -223,28 +265,32 @@ fn a_tree_has_twelve_levels(rt: HostRuntime) -> Result<(), Fail> {
 }
 
 #[test]
-fn a_widget_in_use_stays(rt: HostRuntime) -> Result<(), Fail> {
-    let mut tree = one_client(rt.alloc())?;
-    let grid = added(&mut tree, b"g", Kind::Grid)?;
-    let label = added(&mut tree, b"l", Kind::Label)?;
-    assert_eq!(rt; hung(&mut tree, grid, label, 1, 1)?, None);
+fn a_widget_with_a_child_stays(rt: HostRuntime) -> Result<(), Fail> {
+    let (mut tree, grid, _) = pair(rt.alloc(), Kind::Label)?;
     assert_eq!(rt; tree.remove(grid), Err(InUse));
+    Ok(())
+}
+
+#[test]
+fn a_widget_in_another_stays(rt: HostRuntime) -> Result<(), Fail> {
+    let (mut tree, _, label) = pair(rt.alloc(), Kind::Label)?;
     assert_eq!(rt; tree.remove(label), Err(InUse));
-    tree.detach(label);
-    assert_eq!(rt; tree.remove(grid), Ok(()));
     Ok(())
 }
 
 #[test]
 fn numbers_stay_while_others_come_and_go(rt: HostRuntime) -> Result<(), Fail> {
-    let mut tree = one_client(rt.alloc())?;
-    let gone = added(&mut tree, b"gone", Kind::Label)?;
-    let stays = added(&mut tree, b"stays", Kind::Label)?;
-    let name = name_from(b"stays").ok_or("a name")?;
+    let (mut tree, gone, stays) = two(rt.alloc(), Kind::Label, Kind::Label)?;
+    let name = name_from(b"b").ok_or("a name")?;
     assert_eq!(rt; tree.remove(gone), Ok(()));
     assert_eq!(rt; tree.find(1, &name), Some(stays));
-    let _ = added(&mut tree, b"new", Kind::Button)?;
-    assert_eq!(rt; tree.find(1, &name), Some(stays));
+    Ok(())
+}
+
+#[test]
+fn a_client_leaves_with_its_widgets(rt: HostRuntime) -> Result<(), Fail> {
+    let (mut tree, _, _) = pair(rt.alloc(), Kind::Label)?;
+    let name = name_from(b"b").ok_or("a name")?;
     tree.drop_client(1);
     assert_eq!(rt; tree.find(1, &name), None);
     Ok(())
@@ -273,7 +319,7 @@ fn a_client_has_128_widgets(rt: HostRuntime) -> Result<(), Fail> {
     Ok(())
 }
 
-/// The widget beside the named one in its tree: what a caller may ask for with no test in between.
+/// The widget in a cell of the named one's root: what a caller may ask for with no test in between.
 fn in_root(tree: &Tree, client: u32, name: &Name, column: u32, row: u32) -> Option<Id>
     ensures live { IfSome result (λ id. IsLive tree.now id.key) }
     ensures planted { IfSome result (λ _. IsPlanted (rows_of tree.now)) }
@@ -287,11 +333,8 @@ fn in_root(tree: &Tree, client: u32, name: &Name, column: u32, row: u32) -> Opti
 
 #[test]
 fn the_root_of_a_widget_has_it_below(rt: HostRuntime) -> Result<(), Fail> {
-    let mut tree = one_client(rt.alloc())?;
-    let grid = added(&mut tree, b"g", Kind::Grid)?;
-    let label = added(&mut tree, b"l", Kind::Label)?;
-    let name = name_from(b"l").ok_or("a name")?;
-    assert_eq!(rt; hung(&mut tree, grid, label, 1, 1)?, None);
-    assert_eq!(rt; in_root(&tree, 1, &name, 1, 1), Some(label));
+    let (tree, _, label) = pair(rt.alloc(), Kind::Label)?;
+    let name = name_from(b"b").ok_or("a name")?;
+    assert_eq!(rt; in_root(&tree, 1, &name, 2, 3), Some(label));
     Ok(())
 }
