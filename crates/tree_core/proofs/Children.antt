@@ -1,25 +1,22 @@
 -- Which widget hangs in which cell of which, said of the numbered rows.
-use Rattle.std.proofs.Common.{◌≡◌, ℕ, ◌+◌, ◌-◌, ◌*◌, ◌<◌, ◌≤◌, Bool, true, false, cond, ◌&&◌, nat_eq, nat_le, List, Option, Some, None, is_some, refl, sym, ap, ◌∙◌, subst, slice_get, arith}
-use Rattle.std.proofs.lemmas.Bool.{true≢false, eqb-true, and_parts, and_from, leb-true}
-use Rattle.std.proofs.lemmas.Slice.Eq.{bytes_eq-Decides}
-use Rattle.std.specs.List.{list_all}
-use Rattle.std.specs.Option.{option_map, option_map_or, option_and_then}
-use Rattle.std.specs.Str.{bytes_eq}
+use Rattle.std.proofs.Common.{◌≡◌, ℕ, ◌+◌, ◌-◌, ◌*◌, ◌<◌, true, false, ◌&&◌, nat_eq, nat_le, List, Option, Some, None, refl, sym, ap, ◌∙◌, arith}
+use Rattle.std.proofs.lemmas.Bool.{true≢false, eqb-true, and_parts, leb-true}
+use Rattle.std.specs.Option.{option_map_or, option_and_then}
 use Rattle.kind_core.specs.declared.kinds.Kind.{Kind}
 use Rattle.kind_core.specs.declared.kinds.Kind.TheVariants.{Window, Grid, Frame}
 use Rattle.kind_core.specs.declared.shapes.Cell.{Cell}
 use Rattle.desk_model.specs.Rows.{Row}
 use Rattle.desk_model.specs.Nodes.{id_named}
 use Rattle.desk_model.specs.Named.{row_named}
-use Rattle.desk_model.specs.Trees.{hangs, has_children, can_be_child, child_in, is_child, stands_at}
+use Rattle.desk_model.specs.Trees.{can_be_child, child_in, stands_at}
 use Rattle.desk_model.specs.Planted.{has_cell, takes_cell, is_cell, hangs_right}
-use Rattle.desk_model.specs.Places.{child_id, parent_id}
+use Rattle.desk_model.specs.Places.{child_id}
 use Rattle.desk_model.specs.Widgets.{row_at, nodes}
 use Rattle.desk_model.proofs.Naming.{row_named-found, row_named-none, id_named-row, row_named-parts}
 use Rattle.tree_core.specs.Changes.{IsIndex}
 use Rattle.tree_core.specs.Cells.{cells_of, rows_in, widgets_in}
 use Rattle.tree_core.specs.Indexed.{IsGrove}
-use Rattle.tree_core.proofs.Listed.{find_place, all_at, listed_number, numbered_place, row_named-row}
+use Rattle.tree_core.proofs.Listed.{find_place, all_at, listed_number, numbered_place}
 use Rattle.desk_model.proofs.Cells.{child_in-stands, child_in-own}
 
 -- the lower of two numbered rows hangs in the upper, in that column and row

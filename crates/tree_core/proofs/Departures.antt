@@ -1,24 +1,19 @@
 -- What is left of the parts of a tree where a client leaves with all its rows.
 use Rattle.std.proofs.Common.{◌≡◌, ◌≤◌, ◌<◌, ◌+◌, ◌-◌, ◌*◌, ◌⊎◌, inl, inr, ℕ, Bool, true, false, cond, not, ◌&&◌, ◌||◌, nat_eq, nat_le, nat_lt, length, get_or, List, [], ◌∷◌, Option, Some, None, is_some, refl, sym, ap, ◌∙◌, subst, arith}
-use Rattle.std.proofs.lemmas.Bool.{true≢false, eqb-true, eqb-false, eq-eqb, ne_eqb, and_parts, and_from, leb-true, leb-false, ltb-true, ltb-false, le-leb, lt-ltb, cases_lt}
-use Rattle.std.proofs.lemmas.Slice.Eq.{bytes_eq-Decides}
-use Rattle.std.specs.Cmp.{nat_eq_equiv}
+use Rattle.std.proofs.lemmas.Bool.{true≢false, eqb-true, eqb-false, eq-eqb, and_parts, and_from, leb-true, leb-false, ltb-true, ltb-false, cases_lt}
 use Rattle.std.specs.List.{list_all, filter}
 use Rattle.std.specs.Map.{lookup}
 use Rattle.std.specs.Option.{option_map}
 use Rattle.desk_model.specs.Rows.{Row}
-use Rattle.desk_model.specs.Nodes.{Node, node_of, id_named, is_number_of, first_number}
-use Rattle.desk_model.specs.Named.{rows_of_others}
+use Rattle.desk_model.specs.Nodes.{Node, id_named, is_number_of, first_number}
 use Rattle.desk_model.specs.Planted.{IsPlanted}
-use Rattle.desk_model.specs.Links.{ties, all_lead}
-use Rattle.desk_model.specs.Widgets.{Widgets, row_at, nodes, is_joined, departed}
+use Rattle.desk_model.specs.Widgets.{row_at, nodes, is_joined}
 use Rattle.desk_model.specs.Forest.{is_client, IsForest}
 use Rattle.desk_model.proofs.Naming.{rows-filter_others}
 use Rattle.tree_core.specs.Changes.{IsIndex}
-use Rattle.tree_core.specs.Cells.{cell_place, rows_in, widgets_in, HasChildren}
+use Rattle.tree_core.specs.Cells.{cell_place, rows_in}
 use Rattle.tree_core.specs.Indexed.{same_key, IsIndexed, IsGrove, IsTree}
 use Rattle.tree_core.proofs.ShownLemmas.{none_or_some}
-use Rattle.tree_core.proofs.Children.{HangsAt}
 use Rattle.desk_model.proofs.Planting.{IsPlanted-others}
 use Rattle.tree_core.proofs.Taken.{kept, nodes-kept, id_named-numbered, id_named-kept, id_named-gone}
 use Rattle.tree_core.proofs.TakenLinks.{linked-kept, HasChildren-kept, row_at-kept}

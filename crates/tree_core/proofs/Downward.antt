@@ -1,8 +1,7 @@
 -- The ways down a tree: the widgets in the cells of one are its children, and their heights make its own.
-use Rattle.std.proofs.Common.{◌≡◌, ℕ, zero, suc, ◌+◌, ◌-◌, ◌*◌, ◌/◌, ◌%◌, ◌<◌, ◌≤◌, ◌⊎◌, inl, inr, max, nat_lt, Bool, true, false, cond, ◌&&◌, nat_eq, List, get_or, Option, Some, None, is_some, refl, sym, ap, ◌∙◌, subst, slice_get, arith, is_lt}
+use Rattle.std.proofs.Common.{◌≡◌, ℕ, suc, ◌+◌, ◌-◌, ◌*◌, ◌/◌, ◌%◌, ◌<◌, ◌≤◌, ◌⊎◌, inl, inr, max, nat_lt, Bool, true, false, cond, nat_eq, List, get_or, Option, Some, None, refl, sym, ap, ◌∙◌, slice_get, arith, is_lt}
 use Rattle.std.proofs.lemmas.Bool.{true≢false, eqb-true, eq-eqb, and_parts, and_from, cases_lt, ltb-true, ltb-false}
 use Rattle.std.proofs.lemmas.Slice.Eq.{bytes_eq-Decides}
-use Rattle.std.specs.Cmp.{nat_eq_equiv}
 use Rattle.std.specs.Cmp.Lexicographic.{nat_list_eq_equiv}
 use Rattle.std.specs.List.{list_any}
 use Rattle.std.specs.Option.{option_map_or, option_map}
@@ -18,7 +17,7 @@ use Rattle.tree_core.specs.Cells.{cells_of, cell_place, rows_in, widgets_in, Has
 use Rattle.tree_core.specs.Changes.{IsIndex}
 use Rattle.tree_core.specs.Indexed.{IsGrove}
 use Rattle.tree_core.proofs.Listed.{listed_number, numbered_place, any_at, any_place}
-use Rattle.tree_core.proofs.Children.{HangsAt, child_id-hangs, hangs-child_id, spot-hangs, HangsUnder-HangsAt, own_number}
+use Rattle.tree_core.proofs.Children.{child_id-hangs, hangs-child_id, spot-hangs, HangsUnder-HangsAt, own_number}
 use Rattle.desk_model.proofs.Levels.{greatest_child-each, greatest_child-most}
 
 -- a numbered row that is a child of another

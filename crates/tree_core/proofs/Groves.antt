@@ -1,5 +1,5 @@
 -- That rows stand apart and hang right in one another, after a change of one of them.
-use Rattle.std.proofs.Common.{◌≡◌, ℕ, ◌+◌, Bool, true, false, cond, not, ◌&&◌, nat_eq, nat_lt, List, Option, Some, None, is_some, refl, sym, ap, ◌∙◌, subst}
+use Rattle.std.proofs.Common.{◌≡◌, ℕ, ◌+◌, Bool, true, false, cond, not, ◌&&◌, nat_lt, List, Option, Some, None, is_some, refl, sym, ap, ◌∙◌, subst}
 use Rattle.std.proofs.lemmas.Bool.{true≢false, and_parts, and_from}
 use Rattle.std.specs.Option.{option_map, option_map_or, option_and_then}
 use Rattle.kind_core.specs.declared.kinds.Kind.{Kind}
@@ -8,11 +8,10 @@ use Rattle.desk_model.specs.Rows.{Row, with_spot}
 use Rattle.desk_model.specs.Nodes.{Node, node_of}
 use Rattle.desk_model.specs.Named.{row_named, with_named}
 use Rattle.desk_model.specs.Trees.{hangs, has_children, can_be_child, child_in, depth_of, height_of, is_above, most_levels}
-use Rattle.desk_model.specs.Planted.{has_cell, takes_cell, IsPlanted}
-use Rattle.desk_model.specs.Widgets.{row_at, nodes, with_row}
+use Rattle.desk_model.specs.Planted.{takes_cell, IsPlanted}
+use Rattle.desk_model.specs.Widgets.{row_at, with_row}
 use Rattle.desk_model.specs.Forest.{HaveOwnNumbers, HaveOwnNames}
 use Rattle.desk_model.proofs.Naming.{rows-with_row, id_named-row}
-use Rattle.tree_core.specs.declared.refusal.AttachRefusal.{AttachRefusal}
 use Rattle.tree_core.specs.declared.refusal.AttachRefusal.TheVariants.{WrongKind, HasParent, Cycle, TooDeep, CellTaken}
 use Rattle.tree_core.specs.Cells.{rows_in, widgets_in}
 use Rattle.tree_core.specs.Indexed.{IsGrove}

@@ -1,8 +1,8 @@
 -- What a change of one row is to the table of children: a row that hangs as before, is hung in a cell, or is
 -- taken out of one.
-use Rattle.std.proofs.Common.{◌≡◌, ◌≢◌, ℕ, ◌+◌, ◌-◌, ◌*◌, ◌<◌, ◌≤◌, ◌⊎◌, Bool, true, false, cond, nat_eq, List, length, get_or, Option, Some, None, is_some, refl, sym, ap, ◌∙◌, subst, arith, inl, inr}
+use Rattle.std.proofs.Common.{◌≡◌, ◌≢◌, ℕ, ◌<◌, ◌⊎◌, Bool, true, false, cond, nat_eq, List, length, get_or, Option, Some, None, refl, sym, ap, ◌∙◌, arith, inl, inr}
 use Rattle.std.proofs.Math.ListN.{set}
-use Rattle.std.proofs.lemmas.Bool.{true≢false, eqb-true, eqb-false, eq-eqb, ne_eqb, cases_eq, cases_Bool}
+use Rattle.std.proofs.lemmas.Bool.{true≢false, eqb-true, eq-eqb, cases_eq}
 use Rattle.std.proofs.lemmas.List.{get_or-set_same, get_or-set_other}
 use Rattle.std.specs.Option.{option_map}
 use Rattle.kind_core.specs.declared.shapes.Cell.{Cell}
@@ -14,7 +14,7 @@ use Rattle.tree_core.specs.Changes.{IsIndex}
 use Rattle.tree_core.specs.Cells.{cell_place, widgets_in, HasChildren}
 use Rattle.tree_core.specs.Indexed.{IsGrove}
 use Rattle.tree_core.proofs.Listed.{row_at-with_row}
-use Rattle.tree_core.proofs.Children.{HangsAt, HangsUnder, child_id-hangs, hangs-child_id, option_same, own_number, HangsUnder-HangsAt}
+use Rattle.tree_core.proofs.Children.{HangsAt, child_id-hangs, hangs-child_id, option_same, own_number}
 
 -- one place is one cell
 pub cell_place-same : (id other column other_column line other_line : ℕ) → IsIndex column → IsIndex other_column → IsIndex line → IsIndex other_line → cell_place id column line ≡ cell_place other other_column other_line → (id ≡ other) × (column ≡ other_column) × (line ≡ other_line)

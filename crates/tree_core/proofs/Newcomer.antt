@@ -1,13 +1,11 @@
 -- What a new row, which hangs nowhere, leaves of how the others hang.
-use Rattle.std.proofs.Common.{◌≡◌, ℕ, Bool, true, false, nat_eq, List, [], ◌∷◌, ◌++◌, Option, Some, None, is_some, refl, sym, ap, ◌∙◌, subst}
-use Rattle.std.proofs.lemmas.Bool.{true≢false, eqb-true, eqb-false, ne_eqb}
-use Rattle.kind_core.specs.declared.shapes.Cell.{Cell}
+use Rattle.std.proofs.Common.{◌≡◌, ℕ, Bool, true, false, nat_eq, List, [], ◌∷◌, ◌++◌, Option, Some, None, refl, sym, ap, ◌∙◌, subst}
+use Rattle.std.proofs.lemmas.Bool.{eqb-true, ne_eqb}
 use Rattle.desk_model.specs.Rows.{Row}
-use Rattle.desk_model.specs.Nodes.{Node, node_of, id_named}
+use Rattle.desk_model.specs.Nodes.{id_named}
 use Rattle.desk_model.specs.Places.{child_id}
 use Rattle.desk_model.specs.Planted.{IsPlanted}
 use Rattle.desk_model.specs.Widgets.{row_at, nodes}
-use Rattle.desk_model.specs.Forest.{HaveOwnNumbers, HaveOwnNames, IsForest}
 use Rattle.desk_model.proofs.Naming.{row_named-none, rows-push}
 use Rattle.tree_core.specs.Cells.{rows_in, widgets_in, HasChildren}
 use Rattle.tree_core.specs.Indexed.{IsGrove}

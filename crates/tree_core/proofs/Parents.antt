@@ -1,9 +1,9 @@
 -- The number of a widget's parent, and what is taken out with the widget.
-use Rattle.std.proofs.Common.{◌≡◌, ℕ, ◌<◌, ◌≤◌, ◌⊎◌, inl, inr, Bool, true, false, cond, nat_eq, List, length, get_or, Option, Some, None, is_some, refl, sym, ap, ◌∙◌, subst, arith}
+use Rattle.std.proofs.Common.{◌≡◌, ℕ, ◌<◌, ◌≤◌, ◌⊎◌, inl, inr, Bool, true, false, cond, nat_eq, List, length, get_or, Option, Some, None, is_some, refl, sym, ap, ◌∙◌}
 use Rattle.std.proofs.Math.ListN.{set}
-use Rattle.std.proofs.lemmas.Bool.{true≢false, eqb-true, cases_lt}
+use Rattle.std.proofs.lemmas.Bool.{eqb-true, cases_lt}
 use Rattle.std.proofs.lemmas.List.{get_or_past}
-use Rattle.std.specs.Option.{option_map, option_and_then}
+use Rattle.std.specs.Option.{option_and_then}
 use Rattle.kind_core.specs.declared.shapes.Cell.{Cell}
 use Rattle.desk_model.specs.Rows.{Row, with_spot}
 use Rattle.desk_model.specs.Nodes.{id_named}
@@ -14,7 +14,7 @@ use Rattle.tree_core.specs.Changes.{IsIndex}
 use Rattle.tree_core.specs.Cells.{cell_place, rows_in, widgets_in, HasChildren}
 use Rattle.tree_core.specs.Indexed.{IsGrove}
 use Rattle.tree_core.proofs.ForestLemmas.{named-live, row_live}
-use Rattle.tree_core.proofs.Children.{HangsUnder, child_id-hangs, spot-hangs, HangsUnder-HangsAt, hangs-child_id}
+use Rattle.tree_core.proofs.Children.{child_id-hangs, spot-hangs, HangsUnder-HangsAt, hangs-child_id}
 use Rattle.tree_core.proofs.Moves.{HasChildren-unhang, HasChildren-still}
 use Rattle.tree_core.proofs.Groves.{IsGrove-unhang}
 

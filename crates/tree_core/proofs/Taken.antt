@@ -1,20 +1,19 @@
 -- What is left of numbers and names where rows are taken out by a test on their numbers.
-use Rattle.std.proofs.Common.{◌≡◌, ◌<◌, ◌≤◌, ◌+◌, ℕ, zero, suc, Bool, true, false, cond, not, ◌&&◌, nat_eq, nat_le, nat_lt, List, [], ◌∷◌, map, Option, Some, None, is_some, refl, sym, ap, ◌∙◌, subst, slice_get, arith}
-use Rattle.std.proofs.lemmas.Bool.{true≢false, eqb-true, eq-eqb, ne_eqb, eqb-false, and_parts, and_from, and_left, leb-true, ltb-true}
+use Rattle.std.proofs.Common.{◌≡◌, ◌≤◌, ℕ, Bool, true, false, cond, not, ◌&&◌, nat_eq, List, [], ◌∷◌, Option, Some, None, refl, sym, ap, ◌∙◌, subst, arith}
+use Rattle.std.proofs.lemmas.Bool.{true≢false, eqb-true, eq-eqb, and_parts, and_from}
 use Rattle.std.proofs.lemmas.List.Sums.{sum_by-cons}
 use Rattle.std.proofs.lemmas.Slice.Eq.{bytes_eq-Decides}
-use Rattle.std.specs.List.{filter, list_all, list_any, count_by}
+use Rattle.std.specs.List.{filter, list_all}
 use Rattle.std.specs.Map.{lookup}
 use Rattle.std.specs.Str.{bytes_eq}
 use Rattle.kind_core.specs.declared.kinds.Kind.{Kind}
 use Rattle.desk_model.specs.Rows.{Row}
-use Rattle.desk_model.specs.Nodes.{Node, node_of, node_at, id_named, is_named, is_number_of, first_number, count_of, any_kind, counts_with}
-use Rattle.desk_model.specs.Named.{row_named}
+use Rattle.desk_model.specs.Nodes.{Node, node_of, node_at, id_named, is_named, is_number_of, count_of, any_kind, counts_with}
 use Rattle.desk_model.specs.Widgets.{row_at, nodes, without_row, is_joined}
 use Rattle.desk_model.specs.Forest.{HaveOwnNumbers, HaveOwnNames, IsForest, is_client}
 use Rattle.desk_model.proofs.Naming.{row_named-found, row_named-parts, id_named-row}
 use Rattle.tree_core.specs.Cells.{rows_in}
-use Rattle.tree_core.specs.Indexed.{same_key, IsIndexed, IsGrove}
+use Rattle.tree_core.specs.Indexed.{same_key, IsIndexed}
 use Rattle.tree_core.proofs.ShownLemmas.{none_or_some}
 use Rattle.tree_core.proofs.ForestLemmas.{named-live, row_live}
 use Rattle.tree_core.proofs.Listed.{row_at-filter}

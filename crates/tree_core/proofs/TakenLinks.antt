@@ -1,11 +1,8 @@
 -- What is left of links and of the table of children where rows are taken out by a test on their numbers.
-use Rattle.std.proofs.Common.{◌≡◌, ℕ, zero, suc, Bool, true, false, cond, not, ◌&&◌, nat_eq, get_or, List, [], ◌∷◌, Option, Some, None, is_some, refl, sym, ap, ◌∙◌, subst, slice_get}
-use Rattle.std.proofs.lemmas.Bool.{true≢false, eqb-true, eq-eqb, ne_eqb, eqb-false, and_parts, and_from}
-use Rattle.std.specs.Cmp.{nat_eq_equiv}
+use Rattle.std.proofs.Common.{◌≡◌, ℕ, zero, suc, Bool, true, false, cond, ◌&&◌, nat_eq, get_or, List, [], ◌∷◌, Option, Some, None, is_some, refl, sym, ap, ◌∙◌, slice_get}
+use Rattle.std.proofs.lemmas.Bool.{true≢false, eq-eqb, ne_eqb, and_from}
 use Rattle.std.specs.List.{list_all}
 use Rattle.std.specs.Option.{option_and_then}
-use Rattle.kind_core.specs.declared.kinds.Kind.{Kind}
-use Rattle.kind_core.specs.declared.shapes.Cell.{Cell}
 use Rattle.desk_model.specs.Rows.{Row}
 use Rattle.desk_model.specs.Nodes.{Node, node_of, node_at, id_named, kind_named, is_named}
 use Rattle.desk_model.specs.Links.{ties, leads, all_lead, is_variable}

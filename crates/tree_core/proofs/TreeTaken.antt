@@ -1,26 +1,24 @@
 -- What is left of the facts on the parts of a tree where rows are taken out.
-use Rattle.std.proofs.Common.{◌≡◌, ◌≤◌, ◌<◌, ◌+◌, ◌-◌, ◌*◌, ℕ, Bool, true, false, cond, not, ◌&&◌, ◌||◌, nat_eq, nat_le, nat_lt, length, get_or, List, [], ◌∷◌, map, Option, Some, None, is_some, refl, sym, ap, ◌∙◌, subst, slice_get, arith}
-use Rattle.std.proofs.lemmas.Bool.{true≢false, eqb-true, eq-eqb, ne_eqb, eqb-false, and_parts, and_from, or_parts}
+use Rattle.std.proofs.Common.{◌≡◌, ℕ, Bool, true, false, not, ◌&&◌, ◌||◌, nat_eq, length, List, Option, Some, None, refl, sym, ap, ◌∙◌, subst, slice_get, arith}
+use Rattle.std.proofs.lemmas.Bool.{true≢false, eqb-true, eq-eqb, and_from, or_parts}
 use Rattle.std.proofs.lemmas.List.Folds.{list_all-map}
 use Rattle.std.proofs.lemmas.Slice.Eq.{bytes_eq-Decides}
-use Rattle.std.specs.Cmp.{nat_eq_equiv}
 use Rattle.std.specs.Cmp.Lexicographic.{nat_list_eq_equiv}
-use Rattle.std.specs.List.{list_all, list_any, filter}
+use Rattle.std.specs.List.{list_all, list_any}
 use Rattle.std.specs.Option.{option_map_or}
 use Rattle.std.specs.Str.{bytes_eq}
 use Rattle.kind_core.specs.declared.shapes.Cell.{Cell}
 use Rattle.desk_model.specs.Rows.{Row}
-use Rattle.desk_model.specs.Nodes.{Node, id_named, is_number_of}
-use Rattle.desk_model.specs.Named.{without_named}
+use Rattle.desk_model.specs.Nodes.{Node}
 use Rattle.desk_model.specs.Trees.{hangs, is_child, links_to, is_used}
 use Rattle.desk_model.specs.Planted.{IsPlanted}
 use Rattle.desk_model.specs.Fitting.{fits_table}
 use Rattle.desk_model.specs.Links.{ties, all_lead}
 use Rattle.desk_model.specs.Places.{child_id}
 use Rattle.desk_model.specs.Widgets.{row_at, nodes, without_row, is_joined}
-use Rattle.desk_model.specs.Forest.{is_client, IsForest}
+use Rattle.desk_model.specs.Forest.{is_client}
 use Rattle.desk_model.proofs.Naming.{rows-without_row, id_named-row}
-use Rattle.tree_core.specs.Cells.{cell_place, rows_in, widgets_in, HasChildren}
+use Rattle.tree_core.specs.Cells.{rows_in, widgets_in, HasChildren}
 use Rattle.tree_core.specs.Indexed.{IsIndexed, IsGrove, IsTree}
 use Rattle.tree_core.proofs.Listed.{any_at, numbered_place, row_named-row}
 use Rattle.tree_core.proofs.Children.{HangsAt, child_id-hangs, own_number}

@@ -1,17 +1,15 @@
 -- The ways up a tree.
-use Rattle.std.proofs.Common.{◌≡◌, ℕ, zero, suc, ◌+◌, ◌-◌, ◌<◌, Bool, true, false, ◌||◌, List, Option, Some, None, is_some, refl, sym, ap, ◌∙◌, arith}
+use Rattle.std.proofs.Common.{◌≡◌, ℕ, true, List, Option, Some, None, is_some, refl, sym, ap, ◌∙◌}
 use Rattle.std.proofs.lemmas.Bool.{true≢false}
-use Rattle.std.specs.Option.{option_map, option_map_or, option_and_then}
-use Rattle.std.specs.Str.{bytes_eq}
+use Rattle.std.specs.Option.{option_map, option_and_then}
 use Rattle.kind_core.specs.declared.shapes.Cell.{Cell}
 use Rattle.desk_model.specs.Rows.{Row}
 use Rattle.desk_model.specs.Nodes.{id_named}
 use Rattle.desk_model.specs.Named.{row_named}
-use Rattle.desk_model.specs.Trees.{parent_of, depth_in, is_above_in, root_in}
-use Rattle.desk_model.specs.Places.{root_id}
+use Rattle.desk_model.specs.Trees.{parent_of, root_in}
 use Rattle.desk_model.specs.Widgets.{row_at, nodes}
 use Rattle.desk_model.proofs.Naming.{row_named-found, row_named-none}
-use Rattle.tree_core.specs.Cells.{rows_in, widgets_in}
+use Rattle.tree_core.specs.Cells.{rows_in}
 use Rattle.tree_core.specs.Indexed.{IsGrove}
 use Rattle.tree_core.proofs.Listed.{row_named-row}
 use Rattle.desk_model.proofs.Planting.{row_named-root}

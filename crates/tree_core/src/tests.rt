@@ -1,8 +1,8 @@
-ghost use Rattle.std.specs.Prelude.{◌≡◌, ◌≤◌, true, IfOk, IfSome};
+ghost use Rattle.std.specs.Prelude.{◌≡◌, true, IfOk, IfSome};
 ghost use Rattle.std.specs.List.{list_all};
 ghost use Rattle.desk_model.specs.Fitting.{fits_table};
 ghost use Rattle.desk_model.specs.Planted.{IsPlanted};
-ghost use Rattle.desk_model.specs.Widgets.{IsLive, is_joined, rows_of};
+ghost use Rattle.desk_model.specs.Widgets.{IsLive, KeepsLive, is_joined, rows_of};
 ghost use Rattle.tree_core.specs.Changes.{IsIndex};
 
 use super::*;
@@ -77,172 +77,175 @@ fn one_client(alloc: Global) -> Result<Tree, Fail>
     }
 }
 
-/// Adds a widget of client 1.
-fn add(tree: &mut Tree, name: &[u8], kind: Kind) -> Result<Option<AddRefusal>, Fail>
+/// A new widget of client 1.
+fn added(tree: &mut Tree, name: &[u8], kind: Kind) -> Result<Id, Fail>
     requires { is_joined tree.old.clients 1 ≡ true }
-    ensures { is_joined tree.new.clients 1 ≡ true }
+    ensures joined { is_joined tree.new.clients 1 ≡ true }
+    ensures kept { KeepsLive tree.old tree.new }
+    ensures live { IfOk result (λ id. IsLive tree.new id.key) }
 {
     let name = name_from(name).ok_or("a name")?;
     match tree.add(1, name, kind) {
-        Ok(_) => Ok(None),
-        Err(refusal) => Ok(Some(refusal)),
+        Ok(id) => Ok(id),
+        Err(_) => Err(Fail::from("adds")),
     }
 }
 
-/// The widget of client 1 of that name.
-fn named(tree: &Tree, name: &[u8]) -> Result<Id, Fail>
-    ensures { IfOk result (λ id. IsLive tree.now id.key) }
-{
-    let name = name_from(name).ok_or("a name")?;
-    match tree.find(1, &name) {
-        Some(id) => Ok(id),
-        None => Err(Fail::from("a widget")),
-    }
-}
-
-/// Hangs a widget of client 1 into that cell of a Grid.
-fn hang(
+/// What hanging the child into that cell of a Grid answers.
+fn hung(
     tree: &mut Tree,
-    grid: &[u8],
-    child: &[u8],
+    grid: Id,
+    child: Id,
     column: u32,
     row: u32,
 ) -> Result<Option<AttachRefusal>, Fail>
+    requires grid { IsLive tree.old grid.key }
+    requires child { IsLive tree.old child.key }
     requires column { IsIndex column }
     requires row { IsIndex row }
-    ensures { tree.new.clients ≡ tree.old.clients }
+    requires joined { is_joined tree.old.clients 1 ≡ true }
+    ensures joined { is_joined tree.new.clients 1 ≡ true }
+    ensures kept { KeepsLive tree.old tree.new }
 {
-    let grid = named(tree, grid)?;
-    let child = named(tree, child)?;
-    if tree.kind(grid) != Kind::Grid || tree.owner(grid) != tree.owner(child) {
-        return Err(Fail::from("a Grid of the same client"));
+    match tree.kind(grid) {
+        Kind::Grid => {}
+        _ => return Err(Fail::from("a Grid")),
     }
-    let cell = Cell {
-        column,
-        row,
-        pad: 0,
-    };
-    match tree.attach(grid, child, cell) {
+    if tree.owner(grid) != tree.owner(child) {
+        return Err(Fail::from("one owner"));
+    }
+    match tree.attach(
+        grid,
+        child,
+        Cell {
+            column,
+            row,
+            pad: 0,
+        },
+    ) {
         Ok(()) => Ok(None),
         Err(refusal) => Ok(Some(refusal)),
     }
 }
 
-/// Takes a widget of client 1 out of its parent.
-fn take_out(tree: &mut Tree, child: &[u8]) -> Result<(), Fail>
-    ensures { tree.new.clients ≡ tree.old.clients }
+/// A tree with two widgets.
+fn two(alloc: Global, first: Kind, second: Kind) -> Result<(Tree, Id, Id), Fail>
+    ensures joined { IfOk result (λ made. is_joined made.0.clients 1 ≡ true) }
+    ensures first { IfOk result (λ made. IsLive made.0 made.1.key) }
+    ensures second { IfOk result (λ made. IsLive made.0 made.2.key) }
 {
-    let child = named(tree, child)?;
-    tree.detach(child);
-    Ok(())
+    let mut tree = one_client(alloc)?;
+    let a = added(&mut tree, b"a", first)?;
+    let b = added(&mut tree, b"b", second)?;
+    Ok((tree, a, b))
 }
 
-/// Whether the widget of client 1 can be removed, which then is.
-fn remove(tree: &mut Tree, name: &[u8]) -> Result<bool, Fail>
-    ensures { tree.new.clients ≡ tree.old.clients }
+/// A tree with a Grid and a widget in its column 2, row 3.
+fn pair(alloc: Global, kind: Kind) -> Result<(Tree, Id, Id), Fail>
+    ensures joined { IfOk result (λ made. is_joined made.0.clients 1 ≡ true) }
+    ensures first { IfOk result (λ made. IsLive made.0 made.1.key) }
+    ensures second { IfOk result (λ made. IsLive made.0 made.2.key) }
 {
-    let id = named(tree, name)?;
-    match tree.remove(id) {
-        Ok(()) => Ok(true),
-        Err(InUse) => Ok(false),
+    let (mut tree, grid, child) = two(alloc, Kind::Grid, kind)?;
+    match hung(&mut tree, grid, child, 2, 3)? {
+        None => Ok((tree, grid, child)),
+        Some(_) => Err(Fail::from("hangs")),
     }
-}
-
-/// The cell of a widget, and whether its parent and its root are the other one.
-fn hangs_in(tree: &Tree, child: &[u8], grid: &[u8]) -> Result<Option<Cell>, Fail> {
-    let grid = named(tree, grid)?;
-    let child = named(tree, child)?;
-    if tree.parent(child) != Some(grid) || tree.root(child) != grid {
-        return Err(Fail::from("hangs in the other"));
-    }
-    Ok(tree.cell(child))
-}
-
-/// Whether the widget is the child in that cell of the other.
-fn is_child_at(
-    tree: &Tree,
-    child: &[u8],
-    grid: &[u8],
-    column: u32,
-    row: u32,
-) -> Result<bool, Fail> {
-    let grid = named(tree, grid)?;
-    let child = named(tree, child)?;
-    Ok(tree.child_at(grid, column, row) == Some(child))
 }
 
 #[test]
 fn a_widget_hangs_where_it_was_hung(rt: HostRuntime) -> Result<(), Fail> {
-    let mut tree = one_client(rt.alloc())?;
-    assert_eq!(rt; add(&mut tree, b"g", Kind::Grid)?, None);
-    assert_eq!(rt; add(&mut tree, b"l", Kind::Label)?, None);
-    assert_eq!(rt; hang(&mut tree, b"g", b"l", 2, 3)?, None);
+    let (tree, grid, label) = pair(rt.alloc(), Kind::Label)?;
+    assert_eq!(rt; tree.parent(label), Some(grid));
+    assert_eq!(rt; tree.root(label), grid);
+    assert_eq!(rt; tree.child_at(grid, 2, 3), Some(label));
+    assert_eq!(rt; tree.child_at(grid, 17, 1), None);
     let cell = Cell {
         column: 2,
         row: 3,
         pad: 0,
     };
-    assert_eq!(rt; hangs_in(&tree, b"l", b"g")?, Some(cell));
-    for (column, row, there) in [(2, 3, true), (3, 2, false), (17, 1, false), (0, 0, false)] {
-        assert_eq!(rt; is_child_at(&tree, b"l", b"g", column, row)?, there);
-    }
-    take_out(&mut tree, b"l")?;
-    assert_eq!(rt; is_child_at(&tree, b"l", b"g", 2, 3)?, false);
+    assert_eq!(rt; tree.cell(label), Some(cell));
     Ok(())
 }
 
 #[test]
-fn a_widget_hangs_below_itself_in_no_tree(rt: HostRuntime) -> Result<(), Fail> {
-    let mut tree = one_client(rt.alloc())?;
-    for name in [b"a", b"b", b"c"] {
-        assert_eq!(rt; add(&mut tree, name, Kind::Grid)?, None);
-    }
-    assert_eq!(rt; hang(&mut tree, b"a", b"b", 1, 1)?, None);
-    assert_eq!(rt; hang(&mut tree, b"b", b"c", 1, 1)?, None);
+fn a_widget_hangs_no_more_after_detach(rt: HostRuntime) -> Result<(), Fail> {
+    let (mut tree, grid, label) = pair(rt.alloc(), Kind::Label)?;
+    tree.detach(label);
+    assert_eq!(rt; tree.parent(label), None);
+    assert_eq!(rt; tree.child_at(grid, 2, 3), None);
+    Ok(())
+}
+
+#[test]
+fn a_cycle_of_two_is_refused(rt: HostRuntime) -> Result<(), Fail> {
+    let (mut tree, a, b) = pair(rt.alloc(), Kind::Grid)?;
+    assert_eq!(rt; hung(&mut tree, b, a, 1, 1)?, Some(AttachRefusal::Cycle));
+    Ok(())
+}
+
+#[test]
+fn a_widget_hangs_not_in_itself(rt: HostRuntime) -> Result<(), Fail> {
+    let (mut tree, a, _) = pair(rt.alloc(), Kind::Grid)?;
+    assert_eq!(rt; hung(&mut tree, a, a, 1, 1)?, Some(AttachRefusal::Cycle));
+    Ok(())
+}
+
+#[test]
+fn a_cycle_of_three_is_refused(rt: HostRuntime) -> Result<(), Fail> {
+    let (mut tree, a, b) = pair(rt.alloc(), Kind::Grid)?;
+    let c = added(&mut tree, b"c", Kind::Grid)?;
+    assert_eq!(rt; hung(&mut tree, b, c, 1, 1)?, None);
+    assert_eq!(rt; hung(&mut tree, c, a, 1, 1)?, Some(AttachRefusal::Cycle));
+    Ok(())
+}
+
+#[test]
+fn a_widget_hangs_in_one_other(rt: HostRuntime) -> Result<(), Fail> {
+    let (mut tree, _, b) = pair(rt.alloc(), Kind::Grid)?;
+    let c = added(&mut tree, b"c", Kind::Grid)?;
     assert_eq!(rt;
-        hang(&mut tree, b"c", b"a", 1, 1)?,
-        Some(AttachRefusal::Cycle)
-    );
-    assert_eq!(rt;
-        hang(&mut tree, b"a", b"a", 1, 1)?,
-        Some(AttachRefusal::Cycle)
-    );
-    assert_eq!(rt;
-        hang(&mut tree, b"c", b"b", 1, 1)?,
+        hung(&mut tree, c, b, 1, 1)?,
         Some(AttachRefusal::HasParent)
     );
     Ok(())
 }
 
 #[test]
-fn kinds_and_cells_are_refused(rt: HostRuntime) -> Result<(), Fail> {
-    let mut tree = one_client(rt.alloc())?;
-    assert_eq!(rt; add(&mut tree, b"g", Kind::Grid)?, None);
-    assert_eq!(rt; add(&mut tree, b"w", Kind::Window)?, None);
-    assert_eq!(rt; add(&mut tree, b"one", Kind::Label)?, None);
-    assert_eq!(rt; add(&mut tree, b"other", Kind::Label)?, None);
+fn a_cell_has_one_child(rt: HostRuntime) -> Result<(), Fail> {
+    let (mut tree, grid, _) = pair(rt.alloc(), Kind::Label)?;
+    let other = added(&mut tree, b"c", Kind::Label)?;
     assert_eq!(rt;
-        hang(&mut tree, b"g", b"w", 1, 1)?,
-        Some(AttachRefusal::WrongKind)
-    );
-    assert_eq!(rt; hang(&mut tree, b"g", b"one", 1, 1)?, None);
-    assert_eq!(rt;
-        hang(&mut tree, b"g", b"other", 1, 1)?,
+        hung(&mut tree, grid, other, 2, 3)?,
         Some(AttachRefusal::CellTaken)
     );
     Ok(())
 }
 
-/// Adds so many Grids, `ga`, `gb` and so on, each of which hangs in the one before.
-fn chain(tree: &mut Tree, count: u8) -> Result<Option<AttachRefusal>, Fail>
+#[test]
+fn a_window_hangs_nowhere(rt: HostRuntime) -> Result<(), Fail> {
+    let (mut tree, grid, window) = two(rt.alloc(), Kind::Grid, Kind::Window)?;
+    assert_eq!(rt;
+        hung(&mut tree, grid, window, 1, 1)?,
+        Some(AttachRefusal::WrongKind)
+    );
+    Ok(())
+}
+
+/// Hangs eleven new Grids below the first, each in the one before, and answers the last.
+fn eleven_below(tree: &mut Tree, first: Id) -> Result<Id, Fail>
+    requires first { IsLive tree.old first.key }
     requires joined { is_joined tree.old.clients 1 ≡ true }
-    requires few { count ≤ 16 }
+    ensures joined { is_joined tree.new.clients 1 ≡ true }
+    ensures last { IfOk result (λ id. IsLive tree.new id.key) }
 {
-    let mut last = None;
-    for i in 0..count {
-        let _ = add(tree, &[b'g', b'a' + i], Kind::Grid)?;
-        if i > 0 {
-            last = hang(tree, &[b'g', b'a' + i - 1], &[b'g', b'a' + i], 1, 1)?;
+    let mut last = first;
+    for i in 0..11u8 {
+        let next = added(tree, &[b'g', b'a' + i], Kind::Grid)?;
+        match hung(tree, last, next, 1, 1)? {
+            None => last = next,
+            Some(_) => return Err(Fail::from("hangs")),
         }
     }
     Ok(last)
@@ -250,63 +253,73 @@ fn chain(tree: &mut Tree, count: u8) -> Result<Option<AttachRefusal>, Fail>
 
 #[test]
 fn a_tree_has_twelve_levels(rt: HostRuntime) -> Result<(), Fail> {
-    let mut twelve = one_client(rt.alloc())?;
-    assert_eq!(rt; chain(&mut twelve, 12)?, None);
-    let mut more = one_client(rt.alloc())?;
-    assert_eq!(rt; chain(&mut more, 13)?, Some(AttachRefusal::TooDeep));
+    let mut tree = one_client(rt.alloc())?;
+    let first = added(&mut tree, b"first", Kind::Grid)?;
+    let last = eleven_below(&mut tree, first)?;
+    let more = added(&mut tree, b"more", Kind::Grid)?;
+    assert_eq!(rt;
+        hung(&mut tree, last, more, 1, 1)?,
+        Some(AttachRefusal::TooDeep)
+    );
     Ok(())
 }
 
 #[test]
-fn a_widget_in_use_stays(rt: HostRuntime) -> Result<(), Fail> {
-    let mut tree = one_client(rt.alloc())?;
-    assert_eq!(rt; add(&mut tree, b"g", Kind::Grid)?, None);
-    assert_eq!(rt; add(&mut tree, b"l", Kind::Label)?, None);
-    assert_eq!(rt; hang(&mut tree, b"g", b"l", 1, 1)?, None);
-    assert_eq!(rt; remove(&mut tree, b"g")?, false);
-    assert_eq!(rt; remove(&mut tree, b"l")?, false);
-    take_out(&mut tree, b"l")?;
-    assert_eq!(rt; remove(&mut tree, b"g")?, true);
+fn a_widget_with_a_child_stays(rt: HostRuntime) -> Result<(), Fail> {
+    let (mut tree, grid, _) = pair(rt.alloc(), Kind::Label)?;
+    assert_eq!(rt; tree.remove(grid), Err(InUse));
+    Ok(())
+}
+
+#[test]
+fn a_widget_in_another_stays(rt: HostRuntime) -> Result<(), Fail> {
+    let (mut tree, _, label) = pair(rt.alloc(), Kind::Label)?;
+    assert_eq!(rt; tree.remove(label), Err(InUse));
     Ok(())
 }
 
 #[test]
 fn numbers_stay_while_others_come_and_go(rt: HostRuntime) -> Result<(), Fail> {
-    let mut tree = one_client(rt.alloc())?;
-    assert_eq!(rt; add(&mut tree, b"gone", Kind::Label)?, None);
-    assert_eq!(rt; add(&mut tree, b"stays", Kind::Label)?, None);
-    let stays = named(&tree, b"stays")?;
-    assert_eq!(rt; remove(&mut tree, b"gone")?, true);
-    assert_eq!(rt; add(&mut tree, b"new", Kind::Button)?, None);
-    assert_eq!(rt; named(&tree, b"stays")?, stays);
+    let (mut tree, gone, stays) = two(rt.alloc(), Kind::Label, Kind::Label)?;
+    let name = name_from(b"b").ok_or("a name")?;
+    assert_eq!(rt; tree.remove(gone), Ok(()));
+    assert_eq!(rt; tree.find(1, &name), Some(stays));
+    Ok(())
+}
+
+#[test]
+fn a_client_leaves_with_its_widgets(rt: HostRuntime) -> Result<(), Fail> {
+    let (mut tree, _, _) = pair(rt.alloc(), Kind::Label)?;
+    let name = name_from(b"b").ok_or("a name")?;
     tree.drop_client(1);
-    let name = name_from(b"stays").ok_or("a name")?;
     assert_eq!(rt; tree.find(1, &name), None);
+    Ok(())
+}
+
+/// Adds that many Labels.
+fn labels(tree: &mut Tree, count: u8) -> Result<(), Fail>
+    requires { is_joined tree.old.clients 1 ≡ true }
+    ensures joined { is_joined tree.new.clients 1 ≡ true }
+{
+    for i in 0..count {
+        let _ = added(tree, &[b'l', b'a' + i / 16, b'a' + i % 16], Kind::Label)?;
+    }
     Ok(())
 }
 
 #[test]
 fn a_client_has_128_widgets(rt: HostRuntime) -> Result<(), Fail> {
     let mut tree = one_client(rt.alloc())?;
-    for i in 0..128u8 {
-        assert_eq!(rt;
-            add(
-                &mut tree,
-                &[b'l', b'a' + i / 16, b'a' + i % 16],
-                Kind::Label
-            )?,
-            None
-        );
-    }
+    let name = name_from(b"more").ok_or("a name")?;
+    labels(&mut tree, 128)?;
     assert_eq!(rt;
-        add(&mut tree, b"more", Kind::Label)?,
-        Some(AddRefusal::Full { limit: 128 })
+        tree.add(1, name, Kind::Label),
+        Err(AddRefusal::Full { limit: 128 })
     );
     Ok(())
 }
 
-/// The widget in that cell of the root of the named one's parent: what a caller may ask for with no test in
-/// between.
+/// The widget in a cell of the named one's root: what a caller may ask for with no test in between.
 fn in_root(tree: &Tree, client: u32, name: &Name, column: u32, row: u32) -> Option<Id>
     ensures live { IfSome result (λ id. IsLive tree.now id.key) }
     ensures planted { IfSome result (λ _. IsPlanted (rows_of tree.now)) }
@@ -320,12 +333,8 @@ fn in_root(tree: &Tree, client: u32, name: &Name, column: u32, row: u32) -> Opti
 
 #[test]
 fn the_root_of_a_widget_has_it_below(rt: HostRuntime) -> Result<(), Fail> {
-    let mut tree = one_client(rt.alloc())?;
-    assert_eq!(rt; add(&mut tree, b"g", Kind::Grid)?, None);
-    assert_eq!(rt; add(&mut tree, b"l", Kind::Label)?, None);
-    assert_eq!(rt; hang(&mut tree, b"g", b"l", 1, 1)?, None);
-    let name = name_from(b"l").ok_or("a name")?;
-    let label = named(&tree, b"l")?;
-    assert_eq!(rt; in_root(&tree, 1, &name, 1, 1), Some(label));
+    let (tree, _, label) = pair(rt.alloc(), Kind::Label)?;
+    let name = name_from(b"b").ok_or("a name")?;
+    assert_eq!(rt; in_root(&tree, 1, &name, 2, 3), Some(label));
     Ok(())
 }

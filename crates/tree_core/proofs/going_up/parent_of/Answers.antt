@@ -1,6 +1,4 @@
-use Rattle.std.proofs.Common.{rules, ◌≡◌, ℕ, List, Some, None, Option, sym, ap, ◌∙◌}
-use Rattle.std.specs.Option.{option_map}
-use Rattle.kind_core.specs.declared.shapes.Cell.{Cell}
+use Rattle.std.proofs.Common.{rules, sym, ◌∙◌}
 use Rattle.tree_core.proofs.ForestLemmas.{named-live, row_live}
 use Rattle.tree_core.proofs.Ways.{parent_of-found, parent_of-none}
 use Rattle.tree_core.proofs.going_up.parent_of.Goals as goal

@@ -1,13 +1,7 @@
-use Rattle.std.proofs.Common.{◌≡◌, ◌<◌, ℕ, List, length, Option, Some, IsSome, sym, ap, ◌∙◌, subst}
-use Rattle.std.specs.Option.{option_map}
-use Rattle.desk_model.specs.Rows.{Row, with_spot}
-use Rattle.desk_model.specs.Links.{name_at}
-use Rattle.desk_model.specs.Widgets.{row_at, with_row}
-use Rattle.tree_core.specs.Cells.{cell_place, HasChildren}
-use Rattle.tree_core.specs.Indexed.{IsGrove}
+use Rattle.desk_model.specs.Widgets.{row_at}
 use Rattle.tree_core.proofs.ShownLemmas.{none_or_some}
 use Rattle.tree_core.proofs.Children.{takes_cell-index}
-use Rattle.tree_core.proofs.Groves.{MayHang, MayHang-answer, MayHang-alone, IsGrove-hang}
+use Rattle.tree_core.proofs.Groves.{MayHang-answer, MayHang-alone, IsGrove-hang}
 use Rattle.tree_core.proofs.Moves.{HasChildren-hang}
 use Rattle.tree_core.proofs.hanging.hang.Goals as goal
 

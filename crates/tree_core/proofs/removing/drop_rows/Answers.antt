@@ -1,5 +1,4 @@
 use Rattle.std.proofs.Common.{◌≡◌, ◌≤◌, ◌*◌, ◌-◌, ℕ, List, false, None, is_some, sym, ap, ◌∙◌, arith}
-use Rattle.std.specs.Option.{option_copied}
 use Rattle.desk_model.specs.Rows.{Row}
 use Rattle.desk_model.specs.Widgets.{row_at, without_row}
 use Rattle.tree_core.proofs.ShownLemmas.{is_some-copied}

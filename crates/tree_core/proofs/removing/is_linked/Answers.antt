@@ -1,7 +1,5 @@
-use Rattle.std.proofs.Common.{◌≡◌, ◌<◌, ◌++◌, ◌∷◌, [], ◌+◌, ◌||◌, ℕ, List, take, length, true, false, refl, sym, ap, ◌∙◌, arith}
+use Rattle.std.proofs.Common.{◌≡◌, ◌<◌, ◌++◌, ◌∷◌, [], ◌+◌, take, length, false, refl, sym, ◌∙◌, arith}
 use Rattle.std.proofs.lemmas.List.Folds.{list_any-append}
-use Rattle.std.specs.List.{list_any}
-use Rattle.desk_model.specs.Rows.{Row}
 use Rattle.desk_model.specs.Trees.{links_to}
 use Rattle.tree_core.specs.Cells.{rows_in}
 use Rattle.tree_core.proofs.Listed.{any_at, rows_in-at, rows_in-take_more}

@@ -1,4 +1,4 @@
-use Rattle.std.proofs.Common.{sym, ◌∙◌}
+use Rattle.std.proofs.Common.{sym}
 use Rattle.tree_core.proofs.Parents.{child_id-live}
 use Rattle.tree_core.proofs.TreeKept.{IsGrove-tree}
 use Rattle.tree_core.proofs.tree.Tree.child_at.Goals as goal

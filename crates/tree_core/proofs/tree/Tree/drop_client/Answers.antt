@@ -1,5 +1,4 @@
-use Rattle.std.proofs.Common.{◌≡◌, ℕ, List, true, is_some, refl, sym, ap, ◌∙◌, subst}
-use Rattle.desk_model.specs.Rows.{Row}
+use Rattle.std.proofs.Common.{◌≡◌, true, is_some, sym, ap, ◌∙◌, subst}
 use Rattle.desk_model.specs.Widgets.{Widgets, row_at, row_client, is_joined, departed}
 use Rattle.tree_core.proofs.ForestLemmas.{joined_in_range}
 use Rattle.tree_core.proofs.TreeKept.{IsWidgets-tree}

@@ -1,4 +1,4 @@
-use Rattle.std.proofs.Common.{sym, ◌∙◌}
+use Rattle.std.proofs.Common.{sym}
 use Rattle.tree_core.proofs.Parents.{parent_id-live}
 use Rattle.tree_core.proofs.tree.Tree.parent.Goals as goal
 
