@@ -4,7 +4,6 @@ ghost use Rattle.desk_model.specs.Clients.{step_connect, step_hello};
 ghost use Rattle.desk_model.specs.Commands.{is_built, step};
 ghost use Rattle.desk_core.specs.Standing.{is_memory, TellsChange};
 ghost use Rattle.desk_core.specs.Open.{window_at};
-ghost use Rattle.desk_core.specs.Ready.{is_ready};
 
 use crate::clients::Clients;
 use crate::commands::obey;
@@ -103,7 +102,6 @@ impl Desk {
         requires low { 1 ≤ client }
         requires high { client ≤ 16 }
         requires built { is_built command.now ≡ true }
-        requires ready { is_ready command.now ≡ true }
         requires bare { payload.now ≡ [] }
         ensures changed { TellsChange self.old self.new }
         ensures step { (result, self.new.desk) ≡ step self.old.desk client command.now (is_memory result) }
