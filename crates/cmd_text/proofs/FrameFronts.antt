@@ -7,6 +7,7 @@ use Rattle.cmd_words.specs.Productions.{is_space, sp, name}
 use Rattle.cmd_text.specs.FrameLine.{anything, frame_front, IsFrameLine}
 use Rattle.cmd_text.specs.Reading.{◌>>=◌, expect_at, skip_at, name_at}
 use Rattle.cmd_text.specs.ReadingLines.{frame_front_at}
+use Rattle.cmd_text.specs.CommandOf.{begins_frame}
 use Rattle.cmd_text.proofs.Settling.{Settles, Reads}
 use Rattle.cmd_text.proofs.Parts.{lit_reads, lit_apart, sp_reads, sp_apart, name_reads, name_apart}
 
@@ -58,3 +59,8 @@ frame_told xs b e = by (frame_front_at xs) e (frame_reads.settles xs)
     by : (r : Answer) → b ≡ is_ok r → Settles frame_front xs r → (b ≡ true) ↔ IsFrameLine xs
     by (Ok t) e s = (λ _. s.0, λ _. e)
     by (Err left) e s = (λ q. absurd (false≢true (sym e ∙ q)), λ h. absurd (s.none tt h))
+
+-- the test holds exactly at frame lines
+pub frame_lines_are_told : (xs : List ℕ) → (begins_frame xs ≡ true) ↔ IsFrameLine xs
+unfolding begins_frame
+frame_lines_are_told xs = frame_told xs (is_ok (frame_front_at xs)) refl

@@ -1,5 +1,6 @@
 ghost use Rattle.std.specs.Prelude.{◌≡◌, ◌↔◌, IsTrue};
 ghost use Rattle.cmd_text.specs.FrameLine.{IsFrameLine};
+ghost use Rattle.cmd_text.specs.CommandOf.{begins_frame};
 ghost use Rattle.cmd_text.specs.ReadingLines.{frame_front_at};
 
 use crate::reading::{expect, name, skip};
@@ -23,7 +24,8 @@ fn frame_front(bytes: &[u8]) -> Result<(), usize>
 /// Whether the line begins as a `frame` command does, so that the bytes of a frame follow it
 /// (docs/GUIDE.md, "Frame lines"). What is behind the `(` doesn't matter.
 pub fn is_frame_line(line: &[u8]) -> bool
-    ensures { IsTrue result ↔ IsFrameLine line.now }
+    ensures frame { IsTrue result ↔ IsFrameLine line.now }
+    ensures test { result ≡ begins_frame line.now }
 {
     frame_front(line).is_ok()
 }

@@ -1,10 +1,11 @@
 //! Lines are read from left to right, in one pass.
-ghost use Rattle.std.specs.Prelude.{◌≡◌, ◌≤◌, ◌-◌, [], length, codes, Ok, Err, IfOk, IfErr};
+ghost use Rattle.std.specs.Prelude.{◌≡◌, ◌≤◌, ◌-◌, [], length, codes, Ok, Err, IfOk, IfErr, MatchResult};
 ghost use Rattle.std.specs.Str.{bytes_eq};
 ghost use Rattle.cmd_words.specs.Grammar.{command_line, IsPlace};
 ghost use Rattle.cmd_words.specs.declared.commands.Command.{Command};
 ghost use Rattle.cmd_text.specs.Reading.{Gives};
 ghost use Rattle.cmd_text.specs.ReadingLines.{open_at, comma_at, end_at, finish_at, close_at, place_rest_at, arguments_at, called_at, made_at, body_at, line_at};
+ghost use Rattle.cmd_text.specs.CommandOf.{command_of};
 ghost use Rattle.cmd_words.specs.declared.methods.Method.TheVariants as method;
 
 use crate::optioning::options;
@@ -341,6 +342,9 @@ pub fn parse(line: &[u8]) -> Result<Command, BadLine>
 
     // What is off it is refused with its place.
     ensures place { IfErr result (λ bad. IsPlace line.now bad.place) }
+
+    // The same as a value: what the line is read as.
+    ensures reads { MatchResult result (λ command. command_of line.now ≡ Ok command) (λ bad. command_of line.now ≡ Err bad.place) }
 {
     match read_line(line) {
         Ok(command) => Ok(command),

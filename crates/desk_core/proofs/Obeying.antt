@@ -15,7 +15,8 @@ use Rattle.desk_model.specs.Widgets.{Widgets}
 use Rattle.desk_model.specs.Forest.{IsWidgets}
 use Rattle.desk_model.specs.Desk.{Desk}
 use Rattle.desk_model.specs.Commands.{row_step}
-use Rattle.desk_core.specs.Standing.{desk_of, is_memory, IsStanding}
+use Rattle.desk_core.specs.Standing.{desk_of, IsStanding}
+use Rattle.desk_model.specs.Refusing.{is_memory}
 use Rattle.desk_core.specs.Did.{Did, DidAll}
 use Rattle.desk_core.proofs.Dids.{did_all}
 

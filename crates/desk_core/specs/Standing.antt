@@ -3,9 +3,6 @@ use Rattle.std.specs.Prelude.{ℕ, ◌≡◌, ◌↔◌, Bool, true, false, ◌&
 use Rattle.std.specs.List.{list_all}
 use Rattle.std.specs.Option.{option_map_or}
 use Rattle.kind_core.specs.declared.shapes.Shape.{Shape}
-use Rattle.cmd_words.specs.declared.replies.Reply.{Reply}
-use Rattle.cmd_words.specs.declared.replies.Reply.TheVariants.{Refused}
-use Rattle.cmd_words.specs.declared.replies.Refusal.TheVariants.{Memory}
 use Rattle.stack_core.specs.Stack.{IsStack}
 use Rattle.desk_model.specs.Rows.{Row}
 use Rattle.desk_model.specs.Nodes.{Node, node_at}
@@ -19,11 +16,6 @@ pub record Standing : Type 0 where
   pub desk : Desk
   -- whether the last call changed the rows, the open windows or their order
   pub changed : Bool
-
--- whether the call was refused for want of memory
-abbrev pub is_memory : Reply → Bool
-is_memory (Refused Memory) = true
-is_memory _ = false
 
 -- the client and the name of the numbered node
 abbrev pub title_at : List (ℕ × Node) → ℕ → ℕ × List ℕ

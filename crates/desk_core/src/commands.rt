@@ -3,7 +3,8 @@
 ghost use Rattle.std.specs.Prelude.{◌≡◌, true};
 ghost use Rattle.desk_model.specs.Widgets.{is_joined};
 ghost use Rattle.desk_model.specs.Commands.{row_step};
-ghost use Rattle.desk_core.specs.Standing.{IsStanding, is_memory};
+ghost use Rattle.desk_core.specs.Standing.{IsStanding};
+ghost use Rattle.desk_model.specs.Refusing.{is_memory};
 ghost use Rattle.desk_core.specs.Did.{DidAll, TellsAll};
 
 use crate::answer::Answer;

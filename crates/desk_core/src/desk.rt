@@ -2,7 +2,8 @@ ghost use Rattle.std.specs.Prelude.{◌≡◌, ◌<◌, ◌≤◌, ◌↔◌, Is
 ghost use Rattle.desk_model.specs.Desk.{opening_desk};
 ghost use Rattle.desk_model.specs.Clients.{step_connect, step_hello};
 ghost use Rattle.desk_model.specs.Commands.{is_built, step};
-ghost use Rattle.desk_core.specs.Standing.{is_memory, TellsChange};
+ghost use Rattle.desk_core.specs.Standing.{TellsChange};
+ghost use Rattle.desk_model.specs.Refusing.{is_memory};
 ghost use Rattle.desk_core.specs.Open.{window_at};
 
 use crate::clients::Clients;

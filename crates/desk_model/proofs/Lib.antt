@@ -1,4 +1,5 @@
 pub mod Reach
+pub mod Telling
 pub mod Beat
 pub mod Marks
 pub mod Pixels
@@ -8,3 +9,13 @@ pub mod Ticks
 pub mod Progress
 pub mod Runs
 pub mod Naming
+pub mod Counting
+pub mod OwnRows
+pub mod OthersRows
+pub mod OwnAnswers
+pub mod OwnPart
+pub mod Ample
+pub mod Hanging
+pub mod Cells
+pub mod Levels
+pub mod Planting

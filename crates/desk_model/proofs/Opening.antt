@@ -4,9 +4,10 @@ use Rattle.std.proofs.lemmas.List.{length-replicate, get_or-replicate}
 use Rattle.std.proofs.lemmas.Nat.{mul-add-lt}
 use Rattle.kind_core.specs.declared.shapes.Shape.{Shape}
 use Rattle.desk_model.specs.Shapes.{IsShape, area}
-use Rattle.desk_model.specs.Scene.{opening_scene}
+use Rattle.desk_model.specs.Desk.{opening_desk}
 use Rattle.desk_model.specs.State.{IsState, opening, dirty_count, count_true}
 use Rattle.desk_model.specs.Windows.{shown_by_any}
+use Rattle.desk_model.specs.OpenWindows.{open_windows}
 use Rattle.desk_model.proofs.Marks.{count_true-cons}
 use Rattle.desk_model.proofs.Reach.{colour_of_bare}
 
@@ -15,14 +16,14 @@ count_true-replicate zero = refl
 count_true-replicate (suc n) = omega (arith, count_true-cons false (replicate n false), count_true-replicate n)
 
 pub IsState-opening : (shape : Shape) → IsShape shape → IsState (opening shape)
-unfolding opening opening_scene shown_by_any
+unfolding opening shown_by_any open_windows
 IsState-opening shape is = record {
   desk = record { shape = is };
   screen = length-replicate (area shape) 2;
   dirt = length-replicate (area shape) false;
   current = λ x y hx hy clean.
       get_or-replicate (area shape) (y * shape.width + x) 2 0 (mul-add-lt y shape.width x shape.height hy hx)
-      ∙ sym (colour_of_bare (opening_scene shape) x y refl);
+      ∙ sym (colour_of_bare (opening_desk shape) x y refl);
 }
 
 pub dirty_count-opening : (shape : Shape) → dirty_count (opening shape) ≡ 0
@@ -31,9 +32,9 @@ dirty_count-opening shape = count_true-replicate (area shape)
 
 -- no window is open at opening
 pub windows-opening : (shape : Shape) → (opening shape).desk.windows ≡ []
-unfolding opening opening_scene
+unfolding opening
 windows-opening shape = refl
 
 pub shape-opening : (shape : Shape) → (opening shape).desk.shape ≡ shape
-unfolding opening opening_scene
+unfolding opening
 shape-opening shape = refl

@@ -3,41 +3,51 @@ use Rattle.std.proofs.Common.{◌≡◌, ℕ, ◌+◌, ◌-◌, ◌*◌, ◌/◌
 use Rattle.std.specs.List.{range_with_len}
 use Rattle.std.proofs.lemmas.List.FromFn.{length-map-range_with_len}
 use Rattle.cmd_words.specs.declared.inputs.Drew.{Drew}
+use Rattle.cmd_words.specs.declared.replies.Reply.{Reply}
+use Rattle.cmd_words.specs.declared.replies.Reply.TheVariants.{Refused}
+use Rattle.cmd_words.specs.declared.replies.Refusal.TheVariants.{Syntax}
 use Rattle.kind_core.specs.declared.shapes.Shape.{Shape}
 use Rattle.desk_model.specs.Shapes.{area}
-use Rattle.desk_model.specs.Scene.{Scene}
+use Rattle.desk_model.specs.Desk.{Desk}
 use Rattle.desk_model.specs.Picture.{colour}
 use Rattle.desk_model.specs.Reach.{in_reach}
+use Rattle.desk_model.specs.Refusing.{is_memory}
+use Rattle.desk_model.specs.Clients.{step_connect, step_hello, step_bye}
+use Rattle.desk_model.specs.Commands.{step}
 use Rattle.desk_model.specs.Beat.{beat, in_band, band_count}
 use Rattle.desk_model.specs.State.{State, IsState, byte_at, is_dirty, index_of, dirty_count, count_true, seen_at}
 use Rattle.desk_model.specs.Events.{Event, Answer}
-use Rattle.desk_model.specs.Events.Event.{Ready, Show, Tick, CountDirty, LookAt}
-use Rattle.desk_model.specs.Events.Answer.{Done, Drawn, Counted, Seen}
-use Rattle.desk_model.specs.Step.{Step, Changed, Ticked, showing}
+use Rattle.desk_model.specs.Events.Event.{Connect, Hello, Bye, Ask, Misread, Tick, CountDirty, LookAt, Dump}
+use Rattle.desk_model.specs.Events.Answer.{Replied, Drawn, Counted, Seen, Dumped}
+use Rattle.desk_model.specs.Step.{Step, Changed, Answered, Ticked}
 use Rattle.desk_model.specs.Run.{Moment, Run, events_of}
-use Rattle.desk_model.proofs.Reach.{shape-showing}
+use Rattle.desk_model.proofs.Telling.{tell_desks}
+use Rattle.desk_model.proofs.Ample.{ample-connect, ample-hello, ample-bye, ample-command}
 use Rattle.desk_model.proofs.Beat.{shape-beat}
 use Rattle.desk_model.proofs.Marks.{cleaned_first, length-cleaned_first, cleaned_first-was, count_true-cleaned_first}
 use Rattle.desk_model.proofs.Pixels.{get_or-rows}
-use Rattle.desk_model.proofs.Steps.{IsState-step}
+use Rattle.desk_model.proofs.Steps.{IsState-step, shape-step_connect, shape-step_hello, shape-step_bye, shape-step_command}
 
 -- a change to a desk of the same shape has a state after it
-pub changed_state : (old : State) (next : Scene) → IsState old → next.shape ≡ old.desk.shape → (new : State) × Changed old next new
+pub changed_state : (old : State) (next : Desk) → IsState old → next.shape ≡ old.desk.shape → (new : State) × Changed old next new
 changed_state old next is same =
     let w = next.shape.width in
     let width : w ≡ old.desk.shape.width = ap (λ (s : Shape). s.width) same in
     let height : next.shape.height ≡ old.desk.shape.height = ap (λ (s : Shape). s.height) same in
     let n = length old.dirt in
-    let mark : ℕ → ℕ → ℕ → Bool = λ k x y. get_or old.dirt k false || in_reach old.desk next x y in
+    let told = tell_desks old.desk next in
+    let mark : ℕ → ℕ → ℕ → Bool = λ k x y. get_or old.dirt k false || in_reach told.0 old.desk next x y in
     let dirt = map (λ k. mark k (k % w) (k / w)) (range_with_len 0 n) in (
       record { desk = next; screen = old.screen; dirt = dirt },
       record {
         desk = refl;
         screen = refl;
         size = length-map-range_with_len (λ k. mark k (k % w) (k / w)) 0 n;
+        touched = told.0;
+        is_touched = told.1;
         dirt = λ x y hx hy.
             get_or-rows mark w next.shape.height n x y false (is.dirt ∙ ap area (sym same)) hx hy
-            ∙ ap (λ v. get_or old.dirt (y * v + x) false || in_reach old.desk next x y) width;
+            ∙ ap (λ v. get_or old.dirt (y * v + x) false || in_reach told.0 old.desk next x y) width;
       },
     )
 
@@ -73,14 +83,31 @@ ticked_state old is =
       },
     )
 
+-- a step without want of memory is answered and has a state after it
+answered_state : (old : State) (stepped : Bool → Reply × Desk) → ((short : Bool) → (stepped short).1.shape ≡ old.desk.shape) → is_memory (stepped false).0 ≡ false → IsState old → (answer : Reply) × (new : State) × Answered old stepped answer new
+answered_state old stepped same ample is =
+    let reply = (stepped false).0 in
+    let to = changed_state old (stepped (is_memory reply)).1 is (same (is_memory reply)) in
+    (reply, to.0, record { reply_is = ap (λ short. (stepped short).0) (sym ample); change = to.1 })
+
 pub next_state : (old : State) (event : Event) → IsState old → (answer : Answer) × (new : State) × Step old event answer new
-next_state old Ready is = (Done, old, refl)
-next_state old (Show w h) is =
-    let to = changed_state old (showing old.desk w h) is (shape-showing old.desk w h) in
-    (Done, to.0, to.1)
+next_state old (Connect client) is =
+    let to = answered_state old (λ short. step_connect old.desk client short) (shape-step_connect old.desk client) (ample-connect old.desk client) is in
+    (Replied to.0, to.1, to.2)
+next_state old Hello is =
+    let to = answered_state old (λ short. step_hello old.desk short) (shape-step_hello old.desk) (ample-hello old.desk) is in
+    (Replied to.0, to.1, to.2)
+next_state old (Bye client) is =
+    let to = answered_state old (λ short. step_bye old.desk client) (λ short. shape-step_bye old.desk client) (ample-bye old.desk client) is in
+    (Replied to.0, to.1, to.2)
+next_state old (Ask client command) is =
+    let to = answered_state old (λ short. step old.desk client command short) (shape-step_command old.desk client command) (ample-command old.desk client command) is in
+    (Replied to.0, to.1, to.2)
+next_state old (Misread client place) is = (Replied (Refused (Syntax place)), old, (refl, refl))
 next_state old Tick is = let to = ticked_state old is in (Drawn to.0, to.1, to.2)
 next_state old CountDirty is = (Counted (dirty_count old), old, (refl, refl))
 next_state old (LookAt x y) is = (Seen (seen_at old x y), old, (refl, refl))
+next_state old Dump is = (Dumped old.screen, old, (refl, refl))
 
 pub some_run : (from : State) (events : List Event) → IsState from → (moments : List Moment) × (events_of moments ≡ events) × Run from moments
 some_run from [] is = ([], refl, tt)

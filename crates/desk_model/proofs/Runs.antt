@@ -6,8 +6,8 @@ use Rattle.std.proofs.lemmas.List.Elements.{All-nil, All-cons, All-head, All-tai
 use Rattle.kind_core.specs.declared.shapes.Shape.{Shape}
 use Rattle.desk_model.specs.State.{State, IsState, dirty_count}
 use Rattle.desk_model.specs.Events.{Event, Answer}
-use Rattle.desk_model.specs.Events.Event.{Ready, Show, Tick, CountDirty, LookAt}
-use Rattle.desk_model.specs.Events.Answer.{Done, Drawn, Counted, Seen}
+use Rattle.desk_model.specs.Events.Event.{Connect, Hello, Bye, Ask, Misread, Tick, CountDirty, LookAt, Dump}
+use Rattle.desk_model.specs.Events.Answer.{Replied, Drawn, Counted, Seen, Dumped}
 use Rattle.desk_model.specs.Step.{Step}
 use Rattle.desk_model.specs.Run.{Moment, Run, state_after, events_of}
 use Rattle.desk_model.specs.Laws.{written, KeepsBudget, IsUndisturbed, ComesRight, ComesRightThroughout, KeepsLaws}
@@ -51,9 +51,10 @@ shape-run from (m ∷ moments) run = shape-run m.after moments run.1 ∙ shape-s
 
 -- no step writes more than the budget
 pub written-step : (old : State) (event : Event) (answer : Answer) (new : State) → IsState old → Step old event answer new → written answer ≤ old.desk.shape.budget
-written-step old event Done new is s = omega arith
+written-step old event (Replied reply) new is s = omega arith
 written-step old event (Counted n) new is s = omega arith
 written-step old event (Seen byte) new is s = omega arith
+written-step old event (Dumped bytes) new is s = omega arith
 written-step old Tick (Drawn drew) new is s = ticked-within_budget old drew new is s
 written-step old _ (Drawn drew) new is s = elim s [ ]
 
@@ -68,10 +69,14 @@ KeepsBudget-run from (m ∷ moments) is run =
 -- a step of the event Tick
 fewer-step : (old : State) (event : Event) (answer : Answer) (new : State) → IsState old → Step old event answer new → event ≡ Tick → dirty_count new ≤ dirty_count old - old.desk.shape.spare
 fewer-step old Tick (Drawn drew) new is s e = ticked-fewer old drew new is s
-fewer-step old Ready answer new is s e = cc
-fewer-step old (Show w h) answer new is s e = cc
+fewer-step old (Connect client) answer new is s e = cc
+fewer-step old Hello answer new is s e = cc
+fewer-step old (Bye client) answer new is s e = cc
+fewer-step old (Ask client command) answer new is s e = cc
+fewer-step old (Misread client place) answer new is s e = cc
 fewer-step old CountDirty answer new is s e = cc
 fewer-step old (LookAt x y) answer new is s e = cc
+fewer-step old Dump answer new is s e = cc
 fewer-step old Tick _ new is s e = elim s [ ]
 
 -- n ticks in a row

@@ -7,7 +7,7 @@ use Rattle.std.proofs.lemmas.List.FromFn.{fill_by_all}
 use Rattle.cmd_words.specs.declared.inputs.Drew.{Drew}
 use Rattle.kind_core.specs.declared.shapes.Shape.{Shape}
 use Rattle.desk_model.specs.Shapes.{area}
-use Rattle.desk_model.specs.Scene.{Scene}
+use Rattle.desk_model.specs.Desk.{Desk}
 use Rattle.desk_model.specs.Picture.{colour, colour_of_byte, picture}
 use Rattle.desk_model.specs.Beat.{beat, in_band, band_count}
 use Rattle.desk_model.specs.State.{State, IsState, byte_at, is_dirty, index_of, dirty_count, count_true}
@@ -54,7 +54,7 @@ drew-is drew bands queue left p q r =
 -- a tick of the machine is one with a chosen set: what the dirt map lost
 pub TickedWith-lost_marks : (old : State) (drew : Drew) (new : State) → IsState old → Ticked old drew new → TickedWith (lost_marks old.dirt new.dirt) old drew new
 TickedWith-lost_marks old drew new is t =
-    let shape : new.desk.shape ≡ old.desk.shape = ap (λ (d : Scene). d.shape) t.desk ∙ shape-beat old.desk in
+    let shape : new.desk.shape ≡ old.desk.shape = ap (λ (d : Desk). d.shape) t.desk ∙ shape-beat old.desk in
     let width : new.desk.shape.width ≡ old.desk.shape.width = ap (λ (s : Shape). s.width) shape in
     let lost = lost_marks old.dirt new.dirt in
     let moved : (x y : ℕ) → is_dirty new x y ≡ get_or new.dirt (index_of old x y) false = λ x y. ap (λ w. get_or new.dirt (y * w + x) false) width in

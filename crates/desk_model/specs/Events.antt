@@ -1,21 +1,32 @@
 -- What can happen to the machine, and what it can answer.
-use Rattle.std.specs.Prelude.{ℕ, Option}
+use Rattle.std.specs.Prelude.{ℕ, List, Option}
+use Rattle.cmd_words.specs.declared.commands.Command.{Command}
 use Rattle.cmd_words.specs.declared.inputs.Drew.{Drew}
+use Rattle.cmd_words.specs.declared.replies.Reply.{Reply}
 
 pub data Event : Type 0 where
-  -- a client readies its window, of which nothing is shown yet
-  Ready : Event
-  -- a window of this width and height opens at the screen's upper left corner, on top of all
-  Show : ℕ → ℕ → Event
+  -- the client of this number connects
+  Connect : ℕ → Event
+  -- a client connects under the least free number
+  Hello : Event
+  -- the client leaves
+  Bye : ℕ → Event
+  -- the client gives a command
+  Ask : ℕ → Command → Event
+  -- the client gives a line that is no command, with its place
+  Misread : ℕ → ℕ → Event
   -- time goes on by one tick
   Tick : Event
   -- how many pixels are dirty
   CountDirty : Event
   -- what the pixel (x, y) shows
   LookAt : ℕ → ℕ → Event
+  -- what the whole screen shows
+  Dump : Event
 
 pub data Answer : Type 0 where
-  Done : Answer
+  Replied : Reply → Answer
   Drawn : Drew → Answer
   Counted : ℕ → Answer
   Seen : Option ℕ → Answer
+  Dumped : List ℕ → Answer

@@ -3,8 +3,10 @@ use Rattle.std.specs.Prelude.{ℕ, ◌≡◌, ◌≤◌, Bool, true, ◌&&◌, n
 use Rattle.std.specs.List.{list_all}
 use Rattle.kind_core.specs.declared.kinds.Kind.{Kind}
 use Rattle.desk_model.specs.Nodes.{Node, id_named, node_at, count_of, any_kind, counts_with, is_number_of}
-use Rattle.desk_model.specs.Widgets.{Widgets, nodes, is_joined}
+use Rattle.desk_model.specs.Widgets.{Widgets, nodes, rows_of, is_joined}
 use Rattle.desk_model.specs.Links.{ties, all_lead}
+use Rattle.desk_model.specs.Planted.{IsPlanted}
+use Rattle.desk_model.specs.Fitting.{fits_table}
 
 -- No two nodes have one number.
 abbrev pub HaveOwnNumbers : List (ℕ × Node) → Type 0
@@ -30,7 +32,10 @@ pub record IsForest (clients : List ℕ) (entries : List (ℕ × Node)) : Type 0
   pub most : (client : ℕ) → count_of client any_kind entries ≤ 128
   pub most_alike : (client : ℕ) (kind : Kind) → count_of client (counts_with kind) entries ≤ 8
 
--- Of all widgets the same holds, and each link leads to a Variable of the same client.
+-- Of all widgets the same holds, each link leads to a Variable of the same client, they hang right in one
+-- another, and each one's values fit its kind's table.
 pub record IsWidgets (widgets : Widgets) : Type 0 where
   pub forest : IsForest widgets.clients (nodes widgets.entries)
   pub linked : all_lead (nodes widgets.entries) (ties widgets.entries) ≡ true
+  pub planted : IsPlanted (rows_of widgets)
+  pub fitting : list_all fits_table (rows_of widgets) ≡ true

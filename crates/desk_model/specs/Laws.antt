@@ -6,15 +6,13 @@ use Rattle.desk_model.specs.Picture.{picture}
 use Rattle.desk_model.specs.State.{State, dirty_count}
 use Rattle.desk_model.specs.Events.{Answer}
 use Rattle.desk_model.specs.Events.Event.{Tick}
-use Rattle.desk_model.specs.Events.Answer.{Done, Drawn, Counted, Seen}
+use Rattle.desk_model.specs.Events.Answer.{Drawn}
 use Rattle.desk_model.specs.Run.{Moment, state_after}
 
 -- the pixels that a tick wrote, one that it wrote twice counted twice
 abbrev pub written : Answer → ℕ
-written Done = 0
 written (Drawn drew) = drew.bands + drew.queue
-written (Counted n) = 0
-written (Seen byte) = 0
+written _ = 0
 
 -- No tick of the run writes more pixels than the budget.
 abbrev pub KeepsBudget : State → List Moment → Type 0

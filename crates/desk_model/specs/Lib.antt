@@ -1,6 +1,7 @@
 pub mod Shapes
-pub mod Scene
 pub mod Windows
+pub mod OpenWindows
+pub mod Budgeted
 pub mod Picture
 pub mod Reach
 pub mod Beat

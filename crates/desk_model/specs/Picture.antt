@@ -4,8 +4,9 @@ use Rattle.std.specs.Prelude.{ℕ, ◌-◌, ◌/◌, ◌%◌, Bool, ◌||◌, �
 use Rattle.std.specs.List.{range_with_len}
 use Rattle.desk_model.specs.declared.window.Window.{Window}
 use Rattle.desk_model.specs.Shapes.{area}
-use Rattle.desk_model.specs.Scene.{Scene}
+use Rattle.desk_model.specs.Desk.{Desk}
 use Rattle.desk_model.specs.Windows.{top_at, local}
+use Rattle.desk_model.specs.OpenWindows.{open_windows}
 
 -- an edge pixel of a part of w by h pixels
 abbrev pub is_edge : ℕ → ℕ → ℕ → ℕ → Bool
@@ -24,13 +25,13 @@ colour_through None x y = 2
 colour_through (Some window) x y = window_colour window x y
 
 -- the colour of the pixel (x, y)
-unfoldable pub colour : Scene → ℕ → ℕ → ℕ
-colour desk x y = colour_through (top_at desk.windows x y) x y
+unfoldable pub colour : Desk → ℕ → ℕ → ℕ
+colour desk x y = colour_through (top_at (open_windows desk) x y) x y
 
 -- The colour of the k-th byte of the screen, which is the pixel (k mod width, k / width).
-abbrev pub colour_of_byte : Scene → ℕ → ℕ
+abbrev pub colour_of_byte : Desk → ℕ → ℕ
 colour_of_byte desk k = colour desk (k % desk.shape.width) (k / desk.shape.width)
 
 -- the whole desk drawn afresh, row after row from the top
-unfoldable pub picture : Scene → List ℕ
+unfoldable pub picture : Desk → List ℕ
 picture desk = map (colour_of_byte desk) (range_with_len 0 (area desk.shape))

@@ -1,10 +1,10 @@
 -- How a command is answered: by the first refusal that holds, and then the desk stays; else by its effect.
-use Rattle.std.specs.Prelude.{Bool, not, List, [], ◌∷◌, Option, Some, None, if◌then◌else◌, is_none}
+use Rattle.std.specs.Prelude.{Bool, true, false, not, List, [], ◌∷◌, Option, Some, None, if◌then◌else◌, is_none}
 use Rattle.kind_core.specs.declared.kinds.Kind.{Kind}
 use Rattle.cmd_words.specs.declared.replies.Reply.{Reply}
 use Rattle.cmd_words.specs.declared.replies.Reply.TheVariants.{Refused}
 use Rattle.cmd_words.specs.declared.replies.Refusal.{Refusal}
-use Rattle.cmd_words.specs.declared.replies.Refusal.TheVariants.{NoSuchName, WrongKind}
+use Rattle.cmd_words.specs.declared.replies.Refusal.TheVariants.{Memory, NoSuchName, WrongKind}
 use Rattle.desk_model.specs.Rows.{Row}
 use Rattle.desk_model.specs.Named.{is_kind_of}
 use Rattle.desk_model.specs.Desk.{Desk}
@@ -31,3 +31,8 @@ unless_there row = when (is_none row) NoSuchName
 -- the row's kind doesn't pass the test
 abbrev pub unless_kind : (Kind → Bool) → Option Row → Option Refusal
 unless_kind test row = when (not (is_kind_of test row)) WrongKind
+
+-- The reply says that there is no memory.
+abbrev pub is_memory : Reply → Bool
+is_memory (Refused Memory) = true
+is_memory _ = false

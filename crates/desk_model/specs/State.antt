@@ -4,11 +4,12 @@ use Rattle.std.specs.Prelude.{◌≡◌, ℕ, ◌+◌, ◌*◌, ◌<◌, Bool, f
 use Rattle.std.specs.List.{count_by}
 use Rattle.kind_core.specs.declared.shapes.Shape.{Shape}
 use Rattle.desk_model.specs.Shapes.{area}
-use Rattle.desk_model.specs.Scene.{Scene, opening_scene, IsScene}
+use Rattle.desk_model.specs.Desk.{Desk, opening_desk}
+use Rattle.desk_model.specs.Budgeted.{IsBudgeted}
 use Rattle.desk_model.specs.Picture.{colour}
 
 pub record State : Type 0 where
-  pub desk : Scene
+  pub desk : Desk
   pub screen : List ℕ
   pub dirt : List Bool
 
@@ -39,11 +40,11 @@ seen_at state x y = if nat_lt x state.desk.shape.width && nat_lt y state.desk.sh
 
 -- At opening the screen has the desk's colour everywhere, and nothing is dirty.
 unfoldable pub opening : Shape → State
-opening shape = record { desk = opening_scene shape; screen = replicate (area shape) 2; dirt = replicate (area shape) false }
+opening shape = record { desk = opening_desk shape; screen = replicate (area shape) 2; dirt = replicate (area shape) false }
 
 -- Between any two events the lists have the screen's size, and each pixel is dirty or has its colour.
 pub record IsState (state : State) : Type 0 where
-  pub desk : IsScene state.desk
+  pub desk : IsBudgeted state.desk
   pub screen : length state.screen ≡ area state.desk.shape
   pub dirt : length state.dirt ≡ area state.desk.shape
   pub current : EachPixel state.desk.shape (λ x y. is_dirty state x y ≡ false → byte_at state x y ≡ colour state.desk x y)

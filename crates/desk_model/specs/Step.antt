@@ -1,27 +1,36 @@
 -- One step of the machine: an event takes a state to another, with an answer. What is free is which dirty
 -- pixels a tick cleans: those that are dirty before it and clean after.
-use Rattle.std.specs.Prelude.{◌≡◌, ℕ, ◌+◌, ◌-◌, min, pos, Bool, true, not, ◌&&◌, ◌||◌, if◌then◌else◌, ◌∷◌, length}
+use Rattle.std.specs.Prelude.{◌≡◌, ℕ, ◌+◌, ◌-◌, min, Bool, true, not, ◌&&◌, ◌||◌, if◌then◌else◌, length}
 use Rattle.cmd_words.specs.declared.inputs.Drew.{Drew}
-use Rattle.desk_model.specs.Scene.{Scene}
+use Rattle.cmd_words.specs.declared.replies.Reply.{Reply}
+use Rattle.cmd_words.specs.declared.replies.Reply.TheVariants.{Refused}
+use Rattle.cmd_words.specs.declared.replies.Refusal.TheVariants.{Syntax}
+use Rattle.desk_model.specs.Desk.{Desk}
 use Rattle.desk_model.specs.Picture.{colour}
-use Rattle.desk_model.specs.Reach.{in_reach}
+use Rattle.desk_model.specs.Reach.{IsTouched, in_reach}
+use Rattle.desk_model.specs.Refusing.{is_memory}
+use Rattle.desk_model.specs.Clients.{step_connect, step_hello, step_bye}
+use Rattle.desk_model.specs.Commands.{step}
 use Rattle.desk_model.specs.Beat.{beat, in_band, band_count}
 use Rattle.desk_model.specs.State.{State, byte_at, is_dirty, dirty_count, seen_at, EachPixel}
 use Rattle.desk_model.specs.Events.{Event, Answer}
-use Rattle.desk_model.specs.Events.Event.{Ready, Show, Tick, CountDirty, LookAt}
-use Rattle.desk_model.specs.Events.Answer.{Done, Drawn, Counted, Seen}
-
--- the desk with a window of w by h on top of all, at the screen's upper left corner
-unfoldable pub showing : Scene → ℕ → ℕ → Scene
-showing desk w h = record desk { windows = record { x = pos 0; y = pos 0; w = w; h = h } ∷ desk.windows }
+use Rattle.desk_model.specs.Events.Event.{Connect, Hello, Bye, Ask, Misread, Tick, CountDirty, LookAt, Dump}
+use Rattle.desk_model.specs.Events.Answer.{Replied, Drawn, Counted, Seen, Dumped}
 
 -- An event that isn't a tick takes the desk to another. The screen stays, and a pixel is dirty after it
 -- exactly where it was dirty or the change reaches it.
-pub record Changed (old : State) (next : Scene) (new : State) : Type 0 where
+pub record Changed (old : State) (next : Desk) (new : State) : Type 0 where
   pub desk : new.desk ≡ next
   pub screen : new.screen ≡ old.screen
   pub size : length new.dirt ≡ length old.dirt
-  pub dirt : EachPixel next.shape (λ x y. is_dirty new x y ≡ (is_dirty old x y || in_reach old.desk next x y))
+  pub touched : Bool
+  pub is_touched : IsTouched touched old.desk next
+  pub dirt : EachPixel next.shape (λ x y. is_dirty new x y ≡ (is_dirty old x y || in_reach touched old.desk next x y))
+
+-- The desk's step, under want of memory or not, gave this reply and the desk of the new state.
+pub record Answered (old : State) (stepped : Bool → Reply × Desk) (reply : Reply) (new : State) : Type 0 where
+  pub reply_is : reply ≡ (stepped (is_memory reply)).0
+  pub change : Changed old (stepped (is_memory reply)).1 new
 
 -- the tick cleaned the pixel
 abbrev pub was_cleaned : State → State → ℕ → ℕ → Bool
@@ -42,9 +51,13 @@ pub record Ticked (old : State) (drew : Drew) (new : State) : Type 0 where
 
 -- From `old` the machine may answer so to the event and go on to `new`.
 abbrev pub Step : State → Event → Answer → State → Type 0
-Step old Ready Done new = new ≡ old
-Step old (Show w h) Done new = Changed old (showing old.desk w h) new
+Step old (Connect client) (Replied reply) new = Answered old (λ short. step_connect old.desk client short) reply new
+Step old Hello (Replied reply) new = Answered old (λ short. step_hello old.desk short) reply new
+Step old (Bye client) (Replied reply) new = Answered old (λ short. step_bye old.desk client) reply new
+Step old (Ask client command) (Replied reply) new = Answered old (λ short. step old.desk client command short) reply new
+Step old (Misread client place) (Replied reply) new = (new ≡ old) × (reply ≡ Refused (Syntax place))
 Step old Tick (Drawn drew) new = Ticked old drew new
 Step old CountDirty (Counted n) new = (new ≡ old) × (n ≡ dirty_count old)
 Step old (LookAt x y) (Seen byte) new = (new ≡ old) × (byte ≡ seen_at old x y)
+Step old Dump (Dumped bytes) new = (new ≡ old) × (bytes ≡ old.screen)
 Step old _ _ new = ⊥

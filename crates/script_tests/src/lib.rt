@@ -14,3 +14,5 @@ mod played;
 mod refusals;
 #[cfg(test)]
 mod transcripts;
+#[cfg(test)]
+mod widgets;

@@ -19,7 +19,7 @@ fn an_empty_script_writes_nothing(rt: HostRuntime) -> Result<(), Fail> {
 
 #[test]
 fn a_script_gives_its_transcript_however_it_is_cut(rt: HostRuntime) -> Result<(), Fail> {
-    for step in 1..18 {
+    for step in 1..65 {
         let played = play_with(rt.alloc(), WORDS, SCRIPT, step, &[], &[])?;
         assert_eq!(rt; played.status, Status::Done, "at step {step}");
         assert_eq!(rt;
@@ -73,6 +73,33 @@ fn one_tick_draws_as_many_pixels_as_the_budget(rt: HostRuntime) -> Result<(), Fa
         narrow.held.as_slice(),
         b"1 ok\n1 ok\n1 ok\n1 ok\ndrew 0+7 left 393\n".as_slice()
     );
+    Ok(())
+}
+
+#[test]
+fn a_dump_shows_the_screen_row_after_row(rt: HostRuntime) -> Result<(), Fail> {
+    let blank = play(
+        rt.alloc(),
+        "play --width 16 --height 16 --budget 10 --spare 1",
+        "dump\n",
+    )?;
+    assert_eq!(rt; blank.status, Status::Done);
+    let mut expected = b"dump 16 16\n".to_vec(rt.alloc())?;
+    for _ in 0..256 {
+        expected.push(2)?;
+    }
+    expected.push(b'\n')?;
+    assert_eq!(rt; blank.held.as_slice(), expected.as_slice());
+
+    let mut script = ONE_TICK.to_string(rt.alloc())?;
+    script.push_str("dump\n")?;
+    let drawn = play(rt.alloc(), WORDS, script.as_str())?;
+    let head = b"1 ok\n1 ok\n1 ok\n1 ok\ndrew 0+100 left 300\ndump 32 32\n";
+    assert_eq!(rt; drawn.held.len(), head.len() + 1024 + 1);
+    assert!(rt; drawn.held.as_slice().starts_with(head));
+    let screen = drawn.held.iter().skip(head.len()).take(1024);
+    assert_eq!(rt; screen.filter(|byte| **byte != 2).count(), 100);
+    assert_eq!(rt; drawn.held.last().copied(), Some(b'\n'));
     Ok(())
 }
 

@@ -1,2 +1,4 @@
 pub mod Sweeps
+pub mod Marks
+pub mod Collecting
 pub mod Parts

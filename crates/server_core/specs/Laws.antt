@@ -1,11 +1,11 @@
 -- The laws of the machine, each a statement over its definitions alone.
-use Rattle.std.specs.Prelude.{◌≡◌, ◌≢◌, ℕ, false, List, ◌++◌}
+use Rattle.std.specs.Prelude.{◌≡◌, ◌≢◌, ℕ, Bool, false, List, ◌++◌}
 use Rattle.cmd_words.specs.declared.inputs.Drew.{Drew}
 use Rattle.kind_core.specs.declared.shapes.Shape.{Shape}
 use Rattle.desk_model.specs.Shapes.{IsShape}
-use Rattle.desk_model.specs.Scene.{Scene}
+use Rattle.desk_model.specs.Desk.{Desk}
 use Rattle.desk_model.specs.Picture.{colour, picture}
-use Rattle.desk_model.specs.Reach.{in_reach}
+use Rattle.desk_model.specs.Reach.{IsTouched, in_reach}
 use Rattle.desk_model.specs.Beat.{beat, in_band}
 use Rattle.desk_model.specs.State.{State, IsState, opening, dirty_count}
 use Rattle.desk_model.specs.Events.{Event, Answer}
@@ -19,12 +19,12 @@ use Rattle.desk_model.specs.Laws.{KeepsLaws}
 -- Between any two desks no pixel outside the reach has another colour.
 abbrev pub ColoursAgreeOutsideTheReach : Type 0
 ColoursAgreeOutsideTheReach =
-    (before after : Scene) (x y : ℕ) → in_reach before after x y ≡ false → colour before x y ≡ colour after x y
+    (before after : Desk) (touched : Bool) (x y : ℕ) → IsTouched touched before after → in_reach touched before after x y ≡ false → colour before x y ≡ colour after x y
 
 -- A beat changes colours only in the bands that it copies.
 abbrev pub BeatsChangeOnlyTheirBands : Type 0
 BeatsChangeOnlyTheirBands =
-    (desk : Scene) (x y : ℕ) → in_band (beat desk) x y ≡ false → colour desk x y ≡ colour (beat desk) x y
+    (desk : Desk) (x y : ℕ) → in_band (beat desk) x y ≡ false → colour desk x y ≡ colour (beat desk) x y
 
 -- The state at opening is valid.
 abbrev pub OpeningIsValid : Type 0

@@ -1,3 +1,4 @@
 pub mod Serving
 pub mod Sweeping
+pub mod Marking
 pub mod Laws

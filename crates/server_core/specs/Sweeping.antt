@@ -1,7 +1,7 @@
--- The two changes of the dirt map, place by place: a sweep from its front that cleans and draws, and marking.
-use Rattle.std.specs.Prelude.{◌≡◌, ℕ, ◌+◌, ◌/◌, ◌%◌, ◌<◌, ◌≤◌, min, Bool, true, false, not, ◌&&◌, ◌||◌, if◌then◌else◌, List, length, take, slice_index_or}
+-- A sweep from the front of the dirt map that cleans and draws, place by place.
+use Rattle.std.specs.Prelude.{◌≡◌, ℕ, ◌+◌, ◌/◌, ◌%◌, ◌<◌, ◌≤◌, min, Bool, true, false, not, ◌&&◌, if◌then◌else◌, List, length, take, slice_index_or}
 use Rattle.desk_model.specs.declared.window.Window.{Window}
-use Rattle.desk_model.specs.Windows.{shows, top_at}
+use Rattle.desk_model.specs.Windows.{top_at}
 use Rattle.desk_model.specs.Picture.{colour_through}
 use Rattle.desk_model.specs.State.{count_true}
 
@@ -11,10 +11,6 @@ mark_at marks k = slice_index_or marks k false
 -- the colour of the k-th pixel under these windows, in rows of `width` pixels
 abbrev pub colour_under : List Window → ℕ → ℕ → ℕ
 colour_under windows width k = colour_through (top_at windows (k % width) (k / width)) (k % width) (k / width)
-
--- whether the window shows the k-th pixel, in rows of `width` pixels
-abbrev pub shows_at : Window → ℕ → ℕ → Bool
-shows_at window width k = shows window (k % width) (k / width)
 
 -- A sweep has gone over the first i places. Each pixel that was dirty and is clean now has its colour, and the
 -- other bytes stay; it has cleaned as many dirty pixels of those places as there was room for.
@@ -26,10 +22,3 @@ pub record SweptTo (i : ℕ) (colours : ℕ → ℕ) (room : ℕ) (bytes : List 
   pub later : (k : ℕ) → i ≤ k → mark_at new_marks k ≡ mark_at marks k
   pub many : queue ≡ min (count_true (take i marks)) room
   pub cleaned : count_true new_marks + queue ≡ count_true marks
-
--- The first i places have been marked where the window shows them, and `count` is how many are true.
-pub record MarkedTo (i : ℕ) (window : Window) (width : ℕ) (marks : List Bool) (count : ℕ) (new_marks : List Bool) : Type 0 where
-  pub size : length new_marks ≡ length marks
-  pub before : (k : ℕ) → k < i → mark_at new_marks k ≡ (mark_at marks k || shows_at window width k)
-  pub later : (k : ℕ) → i ≤ k → mark_at new_marks k ≡ mark_at marks k
-  pub counted : count ≡ count_true new_marks

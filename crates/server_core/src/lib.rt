@@ -1,13 +1,16 @@
-//! The server: the desk, its screen and what is dirty on it. Opening a window makes dirt; a tick draws a slice
+//! The server: the desk, its screen and what is dirty on it. A change of the desk makes dirt; a tick draws a slice
 //! of it, at most a budget of pixels. Each call is one step of the machine of desk_model.
 #![tactic(auto)]
 
 pub mod laws;
+mod marking;
 mod no_memory;
 mod painting;
+mod places;
 mod server;
 mod sweeping;
 
+pub use cmd_words::{Command, Reply};
 pub use desk_model::{Drew, Shape};
 pub use no_memory::NoMemory;
 pub use server::Server;

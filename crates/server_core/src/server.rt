@@ -1,16 +1,21 @@
-ghost use Rattle.std.specs.Prelude.{◌≡◌, ◌+◌, ◌-◌, ◌≤◌, [], IfOk};
+ghost use Rattle.std.specs.Prelude.{◌≡◌, ◌+◌, ◌-◌, ◌≤◌, true, [], length, IfOk};
 ghost use Rattle.desk_model.specs.Shapes.{IsShape};
 ghost use Rattle.desk_model.specs.Picture.{picture};
+ghost use Rattle.desk_model.specs.Commands.{is_built};
 ghost use Rattle.desk_model.specs.State.{IsState, dirty_count, opening};
-ghost use Rattle.desk_model.specs.Events.Event.{Show, Tick};
-ghost use Rattle.desk_model.specs.Events.Answer.{Done, Drawn};
+ghost use Rattle.desk_model.specs.Events.Event.{Connect, Hello, Bye, Ask, Tick};
+ghost use Rattle.desk_model.specs.Events.Answer.{Replied, Drawn};
 ghost use Rattle.desk_model.specs.Step.{Step};
 ghost use Rattle.desk_model.specs.Chosen.{lost_marks, TickedWith};
 
+use crate::marking::follow;
 use crate::no_memory::NoMemory;
-use crate::sweeping::{mark_shown, sweep};
+use crate::places::Places;
+use crate::sweeping::sweep;
 use canvas_core::Canvas;
-use desk_model::{Drew, Shape, Window};
+use cmd_words::{Command, Reply};
+use desk_core::Desk;
+use desk_model::{Drew, Shape};
 use std::alloc::Global;
 use std::marker::Model;
 
@@ -22,7 +27,8 @@ use std::marker::Model;
 #[derive(Drop)]
 pub struct Server {
     shape: Shape,
-    window: Option<Window>,
+    desk: Desk,
+    windows: Places,
     canvas: Canvas,
     dirt: Vec<bool>,
     dirty: u32,
@@ -34,15 +40,15 @@ impl Model for Server {
     ghost Value = { Serving };
 
     ghost view = { λ s. record {
-      state = state_of s.shape s.window s.canvas.bytes s.dirt.items;
+      state = state_of s.desk.desk s.canvas.bytes s.dirt.items;
       writes = s.canvas.writes;
     } };
 
-    ghost invariant = { λ s. IsServing s.shape s.window s.canvas s.dirt.items s.dirty };
+    ghost invariant = { λ s. IsServing s.shape s.desk.desk s.windows s.canvas s.dirt.items s.dirty };
 }
 
 impl Server {
-    /// A server with these numbers: no window is open, each pixel has the desk's colour, and none is dirty.
+    /// A server with these numbers: nobody is connected, each pixel has the desk's colour, and none is dirty.
     /// `NoMemory` comes only for want of memory. docs/MACHINE.md, "The desk".
     pub fn new(alloc: Global, shape: Shape) -> Result<Server, NoMemory>
         requires { IsShape shape }
@@ -54,11 +60,14 @@ impl Server {
             Ok(canvas) => canvas,
             Err(_) => return Err(NoMemory),
         };
+        let desk = Desk::new(alloc, shape);
+        let windows = Places::new();
         let area = shape.width as usize * shape.height as usize;
         match Vec::from_elem(alloc, false, area) {
             Ok(dirt) => Ok(Server {
                 shape,
-                window: None,
+                desk,
+                windows,
                 canvas,
                 dirt,
                 dirty: 0,
@@ -67,21 +76,82 @@ impl Server {
         }
     }
 
-    /// Opens a window of `w` by `h` pixels, 16 to 1,024 each, at the screen's upper left corner. No window may
-    /// be open before. The pixels that it shows become dirty; none is written. docs/MACHINE.md, "Windows".
-    pub fn show(&mut self, w: u32, h: u32)
-        requires none_open { self.old.state.desk.windows ≡ [] }
-        requires least_width { 16 ≤ w }
-        requires greatest_width { w ≤ 1024 }
-        requires least_height { 16 ≤ h }
-        requires greatest_height { h ≤ 1024 }
-        ensures step { Step self.old.state (Show w h) Done self.new.state }
+    /// Connects a client, 1 to 16. docs/GUIDE.md, "Commands".
+    pub fn connect(&mut self, client: u32) -> Reply
+        requires low { 1 ≤ client }
+        requires high { client ≤ 16 }
+        ensures step { Step self.old.state (Connect client) (Replied result) self.new.state }
         ensures unwritten { self.new.writes ≡ self.old.writes }
         ensures valid { IsState self.new.state }
     {
-        let window = Window { x: 0, y: 0, w, h };
-        self.dirty = mark_shown(&mut self.dirt, self.dirty, &window, self.shape.width);
-        self.window = Some(window);
+        let reply = self.desk.connect(client);
+        self.dirty = follow(
+            &self.desk,
+            &mut self.windows,
+            &mut self.dirt,
+            self.dirty,
+            self.shape.width,
+        );
+        reply
+    }
+
+    /// Connects a client under the least free number, and answers that. docs/GUIDE.md, "Commands".
+    pub fn hello(&mut self) -> Reply
+        ensures step { Step self.old.state Hello (Replied result) self.new.state }
+        ensures unwritten { self.new.writes ≡ self.old.writes }
+        ensures valid { IsState self.new.state }
+    {
+        let reply = self.desk.hello();
+        self.dirty = follow(
+            &self.desk,
+            &mut self.windows,
+            &mut self.dirt,
+            self.dirty,
+            self.shape.width,
+        );
+        reply
+    }
+
+    /// A client's command, one of those that are built so far; none of them has a payload. Where it changes the
+    /// rows, the open windows or their order, the pixels that a window showed or shows become dirty; none is
+    /// written. docs/GUIDE.md, "Commands".
+    pub fn command(&mut self, client: u32, command: &Command, payload: &[u8]) -> Reply
+        requires low { 1 ≤ client }
+        requires high { client ≤ 16 }
+        requires built { is_built command.now ≡ true }
+        requires payload { payload.now ≡ [] }
+        ensures step { Step self.old.state (Ask client command.now) (Replied result) self.new.state }
+        ensures unwritten { self.new.writes ≡ self.old.writes }
+        ensures valid { IsState self.new.state }
+    {
+        let reply = self.desk.step(client, command, payload);
+        self.dirty = follow(
+            &self.desk,
+            &mut self.windows,
+            &mut self.dirt,
+            self.dirty,
+            self.shape.width,
+        );
+        reply
+    }
+
+    /// A client leaves with all that it made. docs/GUIDE.md, "Commands".
+    pub fn bye(&mut self, client: u32) -> Reply
+        requires low { 1 ≤ client }
+        requires high { client ≤ 16 }
+        ensures step { Step self.old.state (Bye client) (Replied result) self.new.state }
+        ensures unwritten { self.new.writes ≡ self.old.writes }
+        ensures valid { IsState self.new.state }
+    {
+        let reply = self.desk.bye(client);
+        self.dirty = follow(
+            &self.desk,
+            &mut self.windows,
+            &mut self.dirt,
+            self.dirty,
+            self.shape.width,
+        );
+        reply
     }
 
     /// One tick: draws dirty pixels, as many as the budget allows, and says how many it drew and how many stay
@@ -104,7 +174,7 @@ impl Server {
         let queue = sweep(
             &mut self.canvas,
             &mut self.dirt,
-            self.window.as_slice(),
+            self.windows.as_slice(),
             room,
         );
         self.dirty -= queue;
@@ -137,6 +207,14 @@ impl Server {
         ensures valid { IsState self.now.state }
     {
         self.shape
+    }
+
+    /// How many clients are connected.
+    pub fn live(&self) -> u32
+        ensures count { result ≡ length self.now.state.desk.clients }
+        ensures valid { IsState self.now.state }
+    {
+        self.desk.live()
     }
 }
 

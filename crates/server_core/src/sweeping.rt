@@ -1,11 +1,10 @@
-//! What calls do to the dirt map: a sweep cleans, and marking makes dirty.
+//! What a tick does to the dirt map: a sweep cleans.
 
-ghost use Rattle.std.specs.Prelude.{◌≡◌, ◌+◌, ◌^◌, ◌<◌, ◌≤◌, false, length, slice_set};
+ghost use Rattle.std.specs.Prelude.{◌≡◌, ◌+◌, ◌^◌, ◌<◌, false, length, slice_set};
 ghost use Rattle.canvas_core.specs.Screen.{IsScreen};
-ghost use Rattle.desk_model.specs.State.{count_true};
-ghost use Rattle.server_core.specs.Sweeping.{colour_under, SweptTo, MarkedTo};
+ghost use Rattle.server_core.specs.Sweeping.{colour_under, SweptTo};
 
-use crate::painting::{colour_at, is_shown};
+use crate::painting::colour_at;
 use canvas_core::Canvas;
 use desk_model::Window;
 
@@ -53,22 +52,4 @@ fn clean(canvas: &mut Canvas, dirt: &mut Vec<bool>, windows: &[Window], k: usize
     let y = k as u32 / width;
     canvas.put_row(x, y, &[colour_at(windows, x, y)]);
     dirt[k] = false;
-}
-
-/// Makes dirty each pixel that the window shows, in a map of rows of `width` pixels of which `dirty` are dirty.
-/// How many are dirty then.
-pub fn mark_shown(dirt: &mut Vec<bool>, dirty: u32, window: &Window, width: u32) -> u32
-    requires count { dirty ≡ count_true dirt.old.items }
-    requires small { length dirt.old.items < 2 ^ 31 }
-    requires width { 1 ≤ width }
-    ensures { MarkedTo (length dirt.old.items) window.now width dirt.old.items result dirt.new.items }
-{
-    let mut count = dirty;
-    for k in 0..dirt.len() {
-        if is_shown(window, k as u32 % width, k as u32 / width) && !dirt[k] {
-            dirt[k] = true;
-            count += 1;
-        }
-    }
-    count
 }

@@ -19,7 +19,7 @@ use Rattle.desk_model.specs.Links.{Tie, ties, is_variable, leads, all_lead, name
 use Rattle.desk_model.specs.Nodes.{Node, node_of, is_named, id_named, kind_named, node_at, count_of, any_kind, counts_with, first_number, is_number_of}
 use Rattle.desk_model.specs.Widgets.{row_at, row_kind, row_client, with_row, nodes, is_joined}
 use Rattle.desk_model.specs.Forest.{HaveOwnNumbers, HaveOwnNames, is_client, IsForest}
-use Rattle.tree_core.specs.Indexed.{same_key, IsIndexed, IsTree}
+use Rattle.tree_core.specs.Indexed.{same_key, IsIndexed}
 use Rattle.tree_core.specs.Refusals.{add_refusal}
 use Rattle.tree_core.specs.declared.refusal.AddRefusal.TheVariants.{NameTaken, Full}
 
@@ -129,7 +129,7 @@ HaveOwnNames-push (e ∷ es) id node own absent =
     by true p h = absurd (cc)
     by false p h = (p, h)
 
-list_all-push : {X : Type 0} (p : X → Bool) (xs : List X) (x : X) → list_all p xs ≡ true → p x ≡ true → list_all p (xs ++ x ∷ []) ≡ true
+pub list_all-push : {X : Type 0} (p : X → Bool) (xs : List X) (x : X) → list_all p xs ≡ true → p x ≡ true → list_all p (xs ++ x ∷ []) ≡ true
 list_all-push p xs x old new = list_all-append p xs (x ∷ []) ∙ rw (old, new) refl
 
 alike : (a b : Kind) → counts_with a b ≡ true → counts_with a ≡ counts_with b
@@ -340,18 +340,6 @@ ties-with_row (e ∷ es) id change same = by (ties-with_row es id change same) (
     by rest true = rw ((same e.1).1, ap (λ (n : Node). n.client) (same e.1).0, rest) refl
     by rest false = rw rest refl
 
--- a change of a row that leaves its node and link keeps the facts
-pub IsTree-with_row : (clients : List ℕ) (names : List ((ℕ × List ℕ) × ℕ)) (es : List (ℕ × Row)) (id : ℕ) (change : Row → Row) → ((row : Row) → (node_of (change row) ≡ node_of row) × ((change row).link ≡ row.link)) → IsTree clients names es → IsTree clients names (with_row id change es)
-IsTree-with_row clients names es id change same kept =
-    let nodes_same = nodes-with_row es id change (λ row. (same row).0) in
-    let P : List (ℕ × Node) → Type 0 = λ ns. IsIndexed names ns in
-    let Q : List (ℕ × Node) → Type 0 = λ ns. IsForest clients ns in
-    record {
-      indexed = subst P (sym nodes_same) kept.indexed;
-      forest = subst Q (sym nodes_same) kept.forest;
-      linked = ap (λ (ns : List (ℕ × Node)). all_lead ns (ties (with_row id change es))) nodes_same ∙ ap (all_lead (nodes es)) (ties-with_row es id change same) ∙ kept.linked;
-    }
-
 -- a new row, which isn't linked, keeps the links
 kind_named-push : (es : List (ℕ × Node)) (e : ℕ × Node) (client : ℕ) (name : List ℕ) → is_variable (kind_named es client name) ≡ true → is_variable (kind_named (es ++ e ∷ []) client name) ≡ true
 kind_named-push [] e client name h = absurd (true≢false (sym h))
@@ -418,7 +406,7 @@ kind_named-row (e ∷ es) id row own there = by (kind_named-row es id row own.1)
         rw (← same) (rw own refl)
     by rest false h = other h (is_named row.client row.name (node_of e.1)) refl (rest h)
 
-with_row_absent : (es : List (ℕ × Row)) (id : ℕ) (change : Row → Row) → node_at (nodes es) id ≡ None → with_row id change es ≡ es
+pub with_row_absent : (es : List (ℕ × Row)) (id : ℕ) (change : Row → Row) → node_at (nodes es) id ≡ None → with_row id change es ≡ es
 with_row_absent [] id change absent = refl
 with_row_absent (e ∷ es) id change absent = by (with_row_absent es id change) (nat_eq id e.0) absent
   where
@@ -427,7 +415,7 @@ with_row_absent (e ∷ es) id change absent = by (with_row_absent es id change) 
     by rest false h = rw (rest h) refl
 
 -- a link that leads to a Variable keeps the links
-linked-with_link : (ns : List (ℕ × Node)) (es : List (ℕ × Row)) (id : ℕ) (row : Row) (link : Option (List ℕ)) → HaveOwnNumbers (nodes es) → row_at es id ≡ Some row → leads ns row.client link ≡ true → all_lead ns (ties es) ≡ true → all_lead ns (ties (with_row id (with_link link) es)) ≡ true
+pub linked-with_link : (ns : List (ℕ × Node)) (es : List (ℕ × Row)) (id : ℕ) (row : Row) (link : Option (List ℕ)) → HaveOwnNumbers (nodes es) → row_at es id ≡ Some row → leads ns row.client link ≡ true → all_lead ns (ties es) ≡ true → all_lead ns (ties (with_row id (with_link link) es)) ≡ true
 linked-with_link ns [] id row link own there new old = refl
 linked-with_link ns (e ∷ es) id row link own there new old = by (linked-with_link ns es id row link own.1) (nat_eq id e.0) refl there
   where
@@ -441,17 +429,6 @@ linked-with_link ns (e ∷ es) id row link own there new old = by (linked-with_l
         let absent : node_at (nodes es) id ≡ None = rw (eqb-true id e.0 q) own.0 in
         rw (with_row_absent es id (with_link link) absent) (and_from _ _ here parts.1)
     by rest false q h = and_from _ _ parts.0 (rest h new parts.1)
-
-pub IsTree-with_link : (clients : List ℕ) (names : List ((ℕ × List ℕ) × ℕ)) (es : List (ℕ × Row)) (id : ℕ) (row : Row) (link : Option (List ℕ)) → row_at es id ≡ Some row → leads (nodes es) row.client link ≡ true → IsTree clients names es → IsTree clients names (with_row id (with_link link) es)
-IsTree-with_link clients names es id row link there new kept =
-    let nodes_same = nodes-with_row es id (with_link link) (λ row. refl) in
-    let P : List (ℕ × Node) → Type 0 = λ ns. IsIndexed names ns in
-    let Q : List (ℕ × Node) → Type 0 = λ ns. IsForest clients ns in
-    record {
-      indexed = subst P (sym nodes_same) kept.indexed;
-      forest = subst Q (sym nodes_same) kept.forest;
-      linked = ap (λ (ns : List (ℕ × Node)). all_lead ns (ties (with_row id (with_link link) es))) nodes_same ∙ linked-with_link (nodes es) es id row link kept.forest.own_numbers there new kept.linked;
-    }
 
 pub count_more_true : (client : ℕ) (test : Kind → Bool) (es : List (ℕ × Row)) (i id : ℕ) (row : Row) → i < length es → slice_get es i ≡ Some (id, row) → (nat_eq client row.client && test row.kind) ≡ true → count_of client test (nodes (take (i + 1) es)) ≡ count_of client test (nodes (take i es)) + 1
 count_more_true client test es i id row within there counts = count_more client test es i id row within there ∙ rw counts refl

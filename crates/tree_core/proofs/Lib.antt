@@ -1,2 +1,17 @@
 pub mod ShownLemmas
 pub mod ForestLemmas
+pub mod Listed
+pub mod Children
+pub mod Moves
+pub mod Groves
+pub mod Parents
+pub mod Ways
+pub mod Downward
+pub mod Taken
+pub mod TakenInTurn
+pub mod Newcomer
+pub mod Fits
+pub mod TreeKept
+pub mod TakenLinks
+pub mod TreeTaken
+pub mod Departures

@@ -1,12 +1,16 @@
 -- The index of names: what it finds under a client and a name is the number of the node so named.
-use Rattle.std.specs.Prelude.{ℕ, ◌≡◌, Bool, true, ◌&&◌, nat_eq, List}
+use Rattle.std.specs.Prelude.{ℕ, ◌≡◌, ◌≤◌, ◌*◌, Bool, true, ◌&&◌, nat_eq, List, Option, length}
+use Rattle.std.specs.List.{list_all}
 use Rattle.std.specs.Str.{bytes_eq}
 use Rattle.std.specs.Map.{lookup}
 use Rattle.desk_model.specs.Rows.{Row}
 use Rattle.desk_model.specs.Nodes.{Node, id_named}
-use Rattle.desk_model.specs.Widgets.{nodes}
+use Rattle.desk_model.specs.Widgets.{nodes, is_joined}
 use Rattle.desk_model.specs.Links.{ties, all_lead}
-use Rattle.desk_model.specs.Forest.{IsForest}
+use Rattle.desk_model.specs.Forest.{HaveOwnNumbers, HaveOwnNames, IsForest}
+use Rattle.desk_model.specs.Planted.{IsPlanted}
+use Rattle.desk_model.specs.Fitting.{fits_table}
+use Rattle.tree_core.specs.Cells.{rows_in, HasChildren}
 
 abbrev pub same_key : ℕ × List ℕ → ℕ × List ℕ → Bool
 same_key key other = nat_eq key.0 other.0 && bytes_eq key.1 other.1
@@ -14,8 +18,18 @@ same_key key other = nat_eq key.0 other.0 && bytes_eq key.1 other.1
 pub record IsIndexed (names : List ((ℕ × List ℕ) × ℕ)) (entries : List (ℕ × Node)) : Type 0 where
   pub finds : (client : ℕ) (name : List ℕ) → lookup (same_key (client, name)) names ≡ id_named entries client name
 
--- what the parts of a tree keep together
-pub record IsTree (clients : List ℕ) (names : List ((ℕ × List ℕ) × ℕ)) (entries : List (ℕ × Row)) : Type 0 where
+-- The rows have their own numbers and names and hang right in one another.
+pub record IsGrove (entries : List (ℕ × Row)) : Type 0 where
+  pub own_numbers : HaveOwnNumbers (nodes entries)
+  pub own_names : HaveOwnNames (nodes entries)
+  pub planted : IsPlanted (rows_in entries)
+
+-- What the parts of a tree keep together. The table of children has places for all numbers of joined clients.
+pub record IsTree (clients : List ℕ) (names : List ((ℕ × List ℕ) × ℕ)) (entries : List (ℕ × Row)) (cells : List (Option ℕ)) : Type 0 where
   pub indexed : IsIndexed names (nodes entries)
   pub forest : IsForest clients (nodes entries)
   pub linked : all_lead (nodes entries) (ties entries) ≡ true
+  pub planted : IsPlanted (rows_in entries)
+  pub fitting : list_all fits_table (rows_in entries) ≡ true
+  pub children : HasChildren entries cells
+  pub reach : (client : ℕ) → is_joined clients client ≡ true → 32768 * client ≤ length cells

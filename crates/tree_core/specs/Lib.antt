@@ -1,4 +1,5 @@
 pub mod Changes
 pub mod Shown
+pub mod Cells
 pub mod Indexed
 pub mod Refusals

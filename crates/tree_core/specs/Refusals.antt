@@ -1,9 +1,16 @@
 -- When a call refuses, and with what: the first that holds, in the order of the tests.
-use Rattle.std.specs.Prelude.{ℕ, ◌≡◌, List, Option, Some, None, is_some, nat_le, if◌then◌else◌}
+use Rattle.std.specs.Prelude.{ℕ, ◌≡◌, ◌+◌, ◌&&◌, not, List, Option, Some, None, is_some, nat_le, nat_lt, if◌then◌else◌}
+use Rattle.std.specs.Option.{option_map, option_and_then}
 use Rattle.kind_core.specs.declared.kinds.Kind.{Kind}
+use Rattle.kind_core.specs.declared.shapes.Cell.{Cell}
+use Rattle.desk_model.specs.Rows.{Row}
 use Rattle.desk_model.specs.Nodes.{Node, id_named, count_of, any_kind, counts_with}
+use Rattle.desk_model.specs.Widgets.{Widgets, rows_of, row_at}
+use Rattle.desk_model.specs.Trees.{hangs, has_children, can_be_child, child_in, depth_of, height_of, is_above, most_levels}
 use Rattle.tree_core.specs.declared.refusal.AddRefusal.{AddRefusal}
 use Rattle.tree_core.specs.declared.refusal.AddRefusal.TheVariants.{NameTaken, Full, NoMemory}
+use Rattle.tree_core.specs.declared.refusal.AttachRefusal.{AttachRefusal}
+use Rattle.tree_core.specs.declared.refusal.AttachRefusal.TheVariants.{WrongKind, HasParent, Cycle, TooDeep, CellTaken}
 
 -- A new widget is refused where the client has one of the name, then where it has 128, then where it would
 -- be the ninth Window or the ninth VScreen.
@@ -18,3 +25,19 @@ abbrev pub AnswersRefusal : Option AddRefusal → AddRefusal → Type 0
 AnswersRefusal refusal NoMemory = refusal ≡ None
 AnswersRefusal refusal NameTaken = refusal ≡ Some NameTaken
 AnswersRefusal refusal (Full limit) = refusal ≡ Some (Full limit)
+
+-- A parent refuses a child where one of the kinds doesn't suit, then where the child hangs already, then
+-- where the child is above the parent, then where the tree would have too many levels, then where the cell
+-- has a child.
+abbrev pub attach_refusal : List Row → Row → Row → Cell → Option AttachRefusal
+attach_refusal rows parent child cell =
+    if not (has_children parent.kind && can_be_child child.kind) then Some WrongKind else
+    (if hangs child then Some HasParent else
+    (if is_above rows parent.client child.name parent.name then Some Cycle else
+    (if nat_lt most_levels (depth_of rows parent.client parent.name + height_of rows child.client child.name) then Some TooDeep else
+    (if is_some (child_in rows parent.client parent.name cell.column cell.row) then Some CellTaken else None))))
+
+-- the same of two numbered rows
+abbrev pub attach_answer : Widgets → ℕ → ℕ → Cell → Option (Option AttachRefusal)
+attach_answer widgets parent child cell =
+    option_and_then (λ upper. option_map (λ lower. attach_refusal (rows_of widgets) upper lower cell) (row_at widgets.entries child)) (row_at widgets.entries parent)

@@ -2,18 +2,23 @@
 #![tactic(auto)]
 
 mod add;
+mod cells;
 mod change;
+mod going_down;
+mod going_up;
+mod hanging;
 mod id;
 mod links;
 mod names;
 mod places;
 mod refusal;
+mod removing;
 mod row;
 mod store;
 mod tree;
 
 pub use id::Id;
-pub use refusal::{AddRefusal, NoMemory};
+pub use refusal::{AddRefusal, AttachRefusal, InUse, NoMemory};
 pub use tree::Tree;
 
 #[cfg(test)]

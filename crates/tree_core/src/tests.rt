@@ -1,8 +1,12 @@
-ghost use Rattle.std.specs.Prelude.{IfOk};
-ghost use Rattle.desk_model.specs.Widgets.{IsLive};
+ghost use Rattle.std.specs.Prelude.{◌≡◌, true, IfOk, IfSome};
+ghost use Rattle.std.specs.List.{list_all};
+ghost use Rattle.desk_model.specs.Fitting.{fits_table};
+ghost use Rattle.desk_model.specs.Planted.{IsPlanted};
+ghost use Rattle.desk_model.specs.Widgets.{IsLive, KeepsLive, is_joined, rows_of};
+ghost use Rattle.tree_core.specs.Changes.{IsIndex};
 
 use super::*;
-use kind_core::{Attr, AttrRefusal, EventKind, Kind, Value, name_from};
+use kind_core::{Attr, AttrRefusal, Cell, EventKind, Kind, Name, Value, name_from};
 use std::alloc::Global;
 use std::test::Fail;
 
@@ -59,5 +63,235 @@ fn an_event_is_bound(rt: HostRuntime) -> Result<(), Fail> {
     let tag = name_from(b"moved").ok_or("a tag")?;
     tree.set_binding(id, EventKind::Move, Some(tag));
     assert_eq!(rt; tree.binding(id, EventKind::Move), Some(tag));
+    Ok(())
+}
+
+/// A tree with client 1 alone.
+fn one_client(alloc: Global) -> Result<Tree, Fail>
+    ensures { IfOk result (λ tree. is_joined tree.clients 1 ≡ true) }
+{
+    let mut tree = Tree::new(alloc);
+    match tree.join_client(1) {
+        Ok(()) => Ok(tree),
+        Err(_) => Err(Fail::from("joins")),
+    }
+}
+
+/// A new widget of client 1.
+fn added(tree: &mut Tree, name: &[u8], kind: Kind) -> Result<Id, Fail>
+    requires { is_joined tree.old.clients 1 ≡ true }
+    ensures joined { is_joined tree.new.clients 1 ≡ true }
+    ensures kept { KeepsLive tree.old tree.new }
+    ensures live { IfOk result (λ id. IsLive tree.new id.key) }
+{
+    let name = name_from(name).ok_or("a name")?;
+    match tree.add(1, name, kind) {
+        Ok(id) => Ok(id),
+        Err(_) => Err(Fail::from("adds")),
+    }
+}
+
+/// What hanging the child into that cell of a Grid answers.
+fn hung(
+    tree: &mut Tree,
+    grid: Id,
+    child: Id,
+    column: u32,
+    row: u32,
+) -> Result<Option<AttachRefusal>, Fail>
+    requires grid { IsLive tree.old grid.key }
+    requires child { IsLive tree.old child.key }
+    requires column { IsIndex column }
+    requires row { IsIndex row }
+    requires joined { is_joined tree.old.clients 1 ≡ true }
+    ensures joined { is_joined tree.new.clients 1 ≡ true }
+    ensures kept { KeepsLive tree.old tree.new }
+{
+    match tree.kind(grid) {
+        Kind::Grid => {}
+        _ => return Err(Fail::from("a Grid")),
+    }
+    if tree.owner(grid) != tree.owner(child) {
+        return Err(Fail::from("one owner"));
+    }
+    match tree.attach(
+        grid,
+        child,
+        Cell {
+            column,
+            row,
+            pad: 0,
+        },
+    ) {
+        Ok(()) => Ok(None),
+        Err(refusal) => Ok(Some(refusal)),
+    }
+}
+
+#[test]
+fn a_widget_hangs_where_it_was_hung(rt: HostRuntime) -> Result<(), Fail> {
+    let mut tree = one_client(rt.alloc())?;
+    let grid = added(&mut tree, b"g", Kind::Grid)?;
+    let label = added(&mut tree, b"l", Kind::Label)?;
+    assert_eq!(rt; hung(&mut tree, grid, label, 2, 3)?, None);
+    assert_eq!(rt; tree.parent(label), Some(grid));
+    assert_eq!(rt; tree.root(label), grid);
+    assert_eq!(rt; tree.child_at(grid, 2, 3), Some(label));
+    assert_eq!(rt; tree.child_at(grid, 3, 2), None);
+    assert_eq!(rt; tree.child_at(grid, 17, 1), None);
+    assert_eq!(rt;
+        tree.cell(label),
+        Some(Cell {
+            column: 2,
+            row: 3,
+            pad: 0
+        })
+    );
+    tree.detach(label);
+    assert_eq!(rt; tree.parent(label), None);
+    assert_eq!(rt; tree.child_at(grid, 2, 3), None);
+    assert_eq!(rt; tree.cell(label), None);
+    Ok(())
+}
+
+#[test]
+fn a_widget_hangs_below_itself_in_no_tree(rt: HostRuntime) -> Result<(), Fail> {
+    let mut tree = one_client(rt.alloc())?;
+    let a = added(&mut tree, b"a", Kind::Grid)?;
+    let b = added(&mut tree, b"b", Kind::Grid)?;
+    let c = added(&mut tree, b"c", Kind::Grid)?;
+    assert_eq!(rt; hung(&mut tree, a, b, 1, 1)?, None);
+    assert_eq!(rt; hung(&mut tree, b, c, 1, 1)?, None);
+    assert_eq!(rt; hung(&mut tree, c, a, 1, 1)?, Some(AttachRefusal::Cycle));
+    assert_eq!(rt; hung(&mut tree, a, a, 1, 1)?, Some(AttachRefusal::Cycle));
+    assert_eq!(rt;
+        hung(&mut tree, c, b, 1, 1)?,
+        Some(AttachRefusal::HasParent)
+    );
+    assert_eq!(rt; tree.root(c), a);
+    Ok(())
+}
+
+#[test]
+fn kinds_and_cells_are_refused(rt: HostRuntime) -> Result<(), Fail> {
+    let mut tree = one_client(rt.alloc())?;
+    let grid = added(&mut tree, b"g", Kind::Grid)?;
+    let window = added(&mut tree, b"w", Kind::Window)?;
+    let one = added(&mut tree, b"one", Kind::Label)?;
+    let other = added(&mut tree, b"other", Kind::Label)?;
+    assert_eq!(rt;
+        hung(&mut tree, grid, window, 1, 1)?,
+        Some(AttachRefusal::WrongKind)
+    );
+    assert_eq!(rt; hung(&mut tree, grid, one, 1, 1)?, None);
+    assert_eq!(rt;
+        hung(&mut tree, grid, other, 1, 1)?,
+        Some(AttachRefusal::CellTaken)
+    );
+    Ok(())
+}
+
+/// Hangs eleven new Grids below the first, each in the one before, and answers the last.
+fn eleven_below(tree: &mut Tree, first: Id) -> Result<Id, Fail>
+    requires first { IsLive tree.old first.key }
+    requires joined { is_joined tree.old.clients 1 ≡ true }
+    ensures joined { is_joined tree.new.clients 1 ≡ true }
+    ensures last { IfOk result (λ id. IsLive tree.new id.key) }
+{
+    let mut last = first;
+    for i in 0..11u8 {
+        let next = added(tree, &[b'g', b'a' + i], Kind::Grid)?;
+        match hung(tree, last, next, 1, 1)? {
+            None => last = next,
+            Some(_) => return Err(Fail::from("hangs")),
+        }
+    }
+    Ok(last)
+}
+
+#[test]
+fn a_tree_has_twelve_levels(rt: HostRuntime) -> Result<(), Fail> {
+    let mut tree = one_client(rt.alloc())?;
+    let first = added(&mut tree, b"first", Kind::Grid)?;
+    let last = eleven_below(&mut tree, first)?;
+    let more = added(&mut tree, b"more", Kind::Grid)?;
+    assert_eq!(rt;
+        hung(&mut tree, last, more, 1, 1)?,
+        Some(AttachRefusal::TooDeep)
+    );
+    Ok(())
+}
+
+#[test]
+fn a_widget_in_use_stays(rt: HostRuntime) -> Result<(), Fail> {
+    let mut tree = one_client(rt.alloc())?;
+    let grid = added(&mut tree, b"g", Kind::Grid)?;
+    let label = added(&mut tree, b"l", Kind::Label)?;
+    assert_eq!(rt; hung(&mut tree, grid, label, 1, 1)?, None);
+    assert_eq!(rt; tree.remove(grid), Err(InUse));
+    assert_eq!(rt; tree.remove(label), Err(InUse));
+    tree.detach(label);
+    assert_eq!(rt; tree.remove(grid), Ok(()));
+    Ok(())
+}
+
+#[test]
+fn numbers_stay_while_others_come_and_go(rt: HostRuntime) -> Result<(), Fail> {
+    let mut tree = one_client(rt.alloc())?;
+    let gone = added(&mut tree, b"gone", Kind::Label)?;
+    let stays = added(&mut tree, b"stays", Kind::Label)?;
+    let name = name_from(b"stays").ok_or("a name")?;
+    assert_eq!(rt; tree.remove(gone), Ok(()));
+    assert_eq!(rt; tree.find(1, &name), Some(stays));
+    let _ = added(&mut tree, b"new", Kind::Button)?;
+    assert_eq!(rt; tree.find(1, &name), Some(stays));
+    tree.drop_client(1);
+    assert_eq!(rt; tree.find(1, &name), None);
+    Ok(())
+}
+
+/// Adds that many Labels.
+fn labels(tree: &mut Tree, count: u8) -> Result<(), Fail>
+    requires { is_joined tree.old.clients 1 ≡ true }
+    ensures joined { is_joined tree.new.clients 1 ≡ true }
+{
+    for i in 0..count {
+        let _ = added(tree, &[b'l', b'a' + i / 16, b'a' + i % 16], Kind::Label)?;
+    }
+    Ok(())
+}
+
+#[test]
+fn a_client_has_128_widgets(rt: HostRuntime) -> Result<(), Fail> {
+    let mut tree = one_client(rt.alloc())?;
+    let name = name_from(b"more").ok_or("a name")?;
+    labels(&mut tree, 128)?;
+    assert_eq!(rt;
+        tree.add(1, name, Kind::Label),
+        Err(AddRefusal::Full { limit: 128 })
+    );
+    Ok(())
+}
+
+/// The widget beside the named one in its tree: what a caller may ask for with no test in between.
+fn in_root(tree: &Tree, client: u32, name: &Name, column: u32, row: u32) -> Option<Id>
+    ensures live { IfSome result (λ id. IsLive tree.now id.key) }
+    ensures planted { IfSome result (λ _. IsPlanted (rows_of tree.now)) }
+    ensures fitting { IfSome result (λ _. list_all fits_table (rows_of tree.now) ≡ true) }
+{
+    let id = tree.find(client, name)?;
+    let parent = tree.parent(id)?;
+    let root = tree.root(parent);
+    tree.child_at(root, column, row)
+}
+
+#[test]
+fn the_root_of_a_widget_has_it_below(rt: HostRuntime) -> Result<(), Fail> {
+    let mut tree = one_client(rt.alloc())?;
+    let grid = added(&mut tree, b"g", Kind::Grid)?;
+    let label = added(&mut tree, b"l", Kind::Label)?;
+    let name = name_from(b"l").ok_or("a name")?;
+    assert_eq!(rt; hung(&mut tree, grid, label, 1, 1)?, None);
+    assert_eq!(rt; in_root(&tree, 1, &name, 1, 1), Some(label));
     Ok(())
 }

@@ -1,23 +1,31 @@
-ghost use Rattle.std.specs.Prelude.{◌≡◌, ◌<◌, ◌≤◌, Some, None, true, false, IfSome, OnOk, OnErr, IfOk, IfErr};
-ghost use Rattle.std.specs.Option.{option_map, option_and_then};
+ghost use Rattle.std.specs.Prelude.{ℕ, ◌≡◌, ◌<◌, ◌≤◌, nat_eq, Some, None, true, false, is_err, IfSome, OnOk, OnErr, IfOk, IfErr};
+ghost use Rattle.std.specs.Option.{option_map, option_map_or, option_and_then};
+ghost use Rattle.std.specs.Result.{result_err};
 ghost use Rattle.kind_core.specs.Attributes.{domain_of, judged};
-ghost use Rattle.desk_model.specs.Rows.{new_row, attr_of, with_attr, column_rule_of, with_column_rule, row_rule_of, with_row_rule, binding_of, with_binding, with_link};
+ghost use Rattle.desk_model.specs.Rows.{new_row, attr_of, with_attr, column_rule_of, with_column_rule, row_rule_of, with_row_rule, binding_of, with_binding, with_link, with_spot};
 ghost use Rattle.desk_model.specs.Nodes.{id_named};
-ghost use Rattle.desk_model.specs.Widgets.{no_widgets, is_joined, row_at, nodes, IsLive, IsGrid, KeepsLive, edited, with_new, joined, row_kind, row_client};
+ghost use Rattle.desk_model.specs.Widgets.{no_widgets, is_joined, row_at, nodes, rows_of, IsLive, IsGrid, KeepsLive, edited, with_new, removed, joined, departed, row_kind, row_client};
 ghost use Rattle.desk_model.specs.Links.{linked_id, name_at};
 ghost use Rattle.desk_model.specs.Forest.{IsWidgets};
+ghost use Rattle.desk_model.specs.Trees.{is_used};
+ghost use Rattle.desk_model.specs.Planted.{takes_cell};
+ghost use Rattle.desk_model.specs.Places.{parent_id, child_id, root_id};
 ghost use Rattle.tree_core.specs.Changes.{IsIndex};
-ghost use Rattle.tree_core.specs.Refusals.{add_refusal, AnswersRefusal};
+ghost use Rattle.tree_core.specs.Refusals.{add_refusal, AnswersRefusal, attach_answer};
 
 use crate::add::{add_refusal, free_number};
+use crate::cells::Cells;
 use crate::change::Change;
+use crate::going_up::{parent_number, root_number};
+use crate::hanging::{attach_refusal, child_number, hang, unhang};
 use crate::id::Id;
 use crate::links::{link_of, name_of};
 use crate::names::{Names, number_of, put_new};
-use crate::refusal::{AddRefusal, NoMemory};
+use crate::refusal::{AddRefusal, AttachRefusal, InUse, NoMemory};
+use crate::removing::{drop_names, drop_number, drop_rows, is_used, take_out};
 use crate::store::Store;
 use indexmap::IndexMap;
-use kind_core::{Attr, AttrRefusal, EventKind, Kind, Name, Value, check};
+use kind_core::{Attr, AttrRefusal, Cell, EventKind, Kind, Name, Value, check};
 use std::alloc::Global;
 use std::marker::Model;
 
@@ -28,6 +36,7 @@ pub struct Tree {
     clients: Vec<u32>,
     names: Names,
     store: Store,
+    cells: Cells,
 }
 
 impl Model for Tree {
@@ -38,7 +47,7 @@ impl Model for Tree {
 
     ghost view = { λ t. record { clients = t.clients.items; entries = t.store } };
 
-    ghost invariant = { λ t. IsTree t.clients.items t.names.entries t.store };
+    ghost invariant = { λ t. IsTree t.clients.items t.names.entries t.store t.cells };
 }
 
 impl Tree {
@@ -51,6 +60,7 @@ impl Tree {
             clients: Vec::new(alloc),
             names: IndexMap::new(alloc),
             store: Store::new(alloc),
+            cells: Cells::new(alloc),
         }
     }
 
@@ -64,6 +74,10 @@ impl Tree {
         ensures kept { KeepsLive self.old self.new }
         ensures valid { IsWidgets self.new }
     {
+        match self.cells.grow(client) {
+            Ok(()) => {}
+            Err(_) => return Err(NoMemory),
+        }
         match self.clients.push(client) {
             Ok(()) => Ok(()),
             Err(_) => Err(NoMemory),
@@ -263,5 +277,129 @@ impl Tree {
         ensures valid { IsWidgets self.new }
     {
         self.store.change(id.key, Change::Binding { event, tag });
+    }
+
+    /// Hangs the child into that cell of the parent, both widgets of one client. Refuses WrongKind, HasParent,
+    /// Cycle, TooDeep and CellTaken, in this order, exactly where the type says. A refusal leaves the tree as
+    /// it was.
+    pub fn attach(&mut self, parent: Id, child: Id, cell: Cell) -> Result<(), AttachRefusal>
+        requires parent { IsLive self.old parent.key }
+        requires child { IsLive self.old child.key }
+        requires owner { row_client self.old.entries parent.key ≡ row_client self.old.entries child.key }
+        requires cell { option_map_or (λ kind. takes_cell kind cell) (row_kind self.old.entries parent.key) false ≡ true }
+        ensures answer { attach_answer self.old parent.key child.key cell ≡ Some (result_err result) }
+        ensures ok { OnOk result (self.new ≡ edited child.key (with_spot (option_map (λ name. (name, cell)) (name_at self.old.entries parent.key))) self.old) }
+        ensures err { OnErr result (self.new ≡ self.old) }
+        ensures kept { KeepsLive self.old self.new }
+        ensures valid { IsWidgets self.new }
+    {
+        match attach_refusal(
+            &self.names,
+            &self.store,
+            &self.cells,
+            parent.key,
+            child.key,
+            cell,
+        ) {
+            Some(refusal) => return Err(refusal),
+            None => {}
+        }
+        hang(
+            &mut self.store,
+            &mut self.cells,
+            parent.key,
+            child.key,
+            cell,
+        );
+        Ok(())
+    }
+
+    /// Takes the widget out of its parent. Without a parent nothing changes.
+    pub fn detach(&mut self, child: Id)
+        requires { IsLive self.old child.key }
+        ensures spot { self.new ≡ edited child.key (with_spot None) self.old }
+        ensures kept { KeepsLive self.old self.new }
+        ensures valid { IsWidgets self.new }
+    {
+        unhang(&self.names, &mut self.store, &mut self.cells, child.key);
+    }
+
+    /// Removes the widget. Refuses InUse exactly where it hangs in another, has a child, or is linked by
+    /// another, and leaves the tree as it was.
+    pub fn remove(&mut self, id: Id) -> Result<(), InUse>
+        requires { IsLive self.old id.key }
+        ensures answer { option_map (is_used (rows_of self.old)) (row_at self.old.entries id.key) ≡ Some (is_err result) }
+        ensures ok { OnOk result (self.new ≡ removed id.key self.old) }
+        ensures err { OnErr result (self.new ≡ self.old) }
+        ensures others { (other : ℕ) → nat_eq other id.key ≡ false → IsLive self.old other → IsLive self.new other }
+        ensures valid { IsWidgets self.new }
+    {
+        if is_used(&self.store, &self.cells, id.key) {
+            return Err(InUse);
+        }
+        take_out(&mut self.names, &mut self.store, id.key);
+        Ok(())
+    }
+
+    /// Removes all widgets of a joined client, which then isn't joined.
+    pub fn drop_client(&mut self, client: u32)
+        requires { is_joined self.old.clients client ≡ true }
+        ensures left { self.new ≡ departed client self.old }
+        ensures others { (other : ℕ) → IsLive self.old other → (row_client self.old.entries other ≡ Some client → ⊥) → IsLive self.new other }
+        ensures valid { IsWidgets self.new }
+    {
+        drop_number(&mut self.clients, client);
+        drop_names(&mut self.names, client);
+        drop_rows(&mut self.store, client);
+        self.cells.clear(client);
+    }
+
+    /// The widget in which this one hangs, None exactly where it hangs in none.
+    pub fn parent(&self, id: Id) -> Option<Id>
+        requires { IsLive self.now id.key }
+        ensures found { option_map (λ id. id.key) result ≡ parent_id self.now id.key }
+        ensures live { IfSome result (λ id. IsLive self.now id.key) }
+        ensures valid { IsWidgets self.now }
+    {
+        match parent_number(&self.names, &self.store, id.key) {
+            Some(key) => Some(Id { key }),
+            None => None,
+        }
+    }
+
+    /// The widget that is above this one, or is this one, and hangs in none.
+    pub fn root(&self, id: Id) -> Id
+        requires { IsLive self.now id.key }
+        ensures found { root_id self.now id.key ≡ Some result.key }
+        ensures live { IsLive self.now result.key }
+        ensures valid { IsWidgets self.now }
+    {
+        let key = root_number(&self.names, &self.store, id.key);
+        Id { key }
+    }
+
+    /// The widget that hangs in that column and row, None exactly where there is none, as outside 1 to 16.
+    pub fn child_at(&self, id: Id, column: u32, row: u32) -> Option<Id>
+        requires { IsLive self.now id.key }
+        ensures found { option_map (λ id. id.key) result ≡ child_id self.now id.key column row }
+        ensures live { IfSome result (λ id. IsLive self.now id.key) }
+        ensures valid { IsWidgets self.now }
+    {
+        match child_number(&self.store, &self.cells, id.key, column, row) {
+            Some(key) => Some(Id { key }),
+            None => None,
+        }
+    }
+
+    /// The cell of its parent in which the widget hangs, None exactly where it hangs in none.
+    pub fn cell(&self, id: Id) -> Option<Cell>
+        requires { IsLive self.now id.key }
+        ensures cell { option_map (λ row. option_map (λ spot. spot.1) row.spot) (row_at self.now.entries id.key) ≡ Some result }
+        ensures valid { IsWidgets self.now }
+    {
+        match self.store.row(id.key).spot() {
+            Some((_, cell)) => Some(cell),
+            None => None,
+        }
     }
 }

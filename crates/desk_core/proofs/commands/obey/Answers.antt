@@ -11,7 +11,7 @@ use Rattle.desk_model.specs.Commands.{row_step}
 use Rattle.desk_model.specs.Making.{step_new, step_set, step_get, step_drop}
 use Rattle.desk_model.specs.Hanging.{step_place, step_lift, step_column, step_line}
 use Rattle.desk_model.specs.Linking.{step_link, step_unlink, step_bind, step_open}
-use Rattle.desk_core.specs.Standing.{is_memory}
+use Rattle.desk_model.specs.Refusing.{is_memory}
 use Rattle.desk_core.specs.Did.{Did}
 use Rattle.desk_core.proofs.Obeying.{row_did, obeyed, rest_step, nothing_all}
 use Rattle.desk_core.proofs.Tells.{tells_all}

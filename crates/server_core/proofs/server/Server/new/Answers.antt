@@ -1,32 +1,31 @@
-use Rattle.std.proofs.Common.{sym, ap, ◌∙◌, None}
+use Rattle.std.proofs.Common.{sym, ap, ◌∙◌}
+use Rattle.desk_model.specs.Desk.{Desk}
 use Rattle.desk_model.specs.State.{dirty_count}
 use Rattle.desk_model.proofs.Opening.{IsState-opening, dirty_count-opening}
 use Rattle.desk_model.proofs.Steps.{IsState-same}
-use Rattle.server_core.specs.Serving.{state_of}
-use Rattle.server_core.proofs.Parts.{opened}
+use Rattle.server_core.proofs.Parts.{opened, open_windows-opening}
 use Rattle.server_core.proofs.server.Server.new.Goals as goal
+
+pub returns-in-Ok-from_elem-clause-opens : goal.returns-in-Ok-from_elem-clause-opens
+returns-in-Ok-from_elem-clause-opens c =
+    opened c.args.shape c.new-desk.result.desk c.in-Ok.canvas.bytes c.in-Ok-from_elem.dirt.items c.new-desk.ensures.opening c.in-Ok.ensures.bytes
+    (c.in-Ok-from_elem.ensures.items_if_clones_equal (λ y h. h))
+
+pub returns-in-Ok-from_elem-clause-valid : goal.returns-in-Ok-from_elem-clause-valid
+returns-in-Ok-from_elem-clause-valid c =
+    IsState-same _ _ (returns-in-Ok-from_elem-clause-opens c) (IsState-opening c.args.shape c.requires)
 
 pub invariant_of-result : goal.invariant_of-result
 invariant_of-result c =
     let shape = c.args.shape in
-    let bytes = c.in-Ok.canvas.bytes in
-    let dirt = c.in-Ok-from_elem.dirt.items in
-    let is = opened shape bytes dirt c.in-Ok.ensures.bytes (c.in-Ok-from_elem.ensures.items_if_clones_equal (λ y h. h)) in
-    let whole = state_of shape None bytes dirt in
+    let is = opened shape c.new-desk.result.desk c.in-Ok.canvas.bytes c.in-Ok-from_elem.dirt.items c.new-desk.ensures.opening c.in-Ok.ensures.bytes
+    (c.in-Ok-from_elem.ensures.items_if_clones_equal (λ y h. h)) in
     record {
-      state = IsState-same _ whole is (IsState-opening shape c.requires);
+      state = IsState-same _ _ is (IsState-opening shape c.requires);
+      shape_is = ap (λ (d : Desk). d.shape) c.new-desk.ensures.opening;
+      windows_are = c.new-windows.ensures ∙ open_windows-opening shape c.new-desk.result.desk c.new-desk.ensures.opening;
       screen = c.in-Ok.ensures.valid;
       width = c.in-Ok.ensures.width;
       height = c.in-Ok.ensures.height;
       count = sym (ap dirty_count is ∙ dirty_count-opening shape);
     }
-
-pub returns-in-Ok-from_elem-clause-opens : goal.returns-in-Ok-from_elem-clause-opens
-returns-in-Ok-from_elem-clause-opens c =
-    opened c.args.shape c.in-Ok.canvas.bytes c.in-Ok-from_elem.dirt.items c.in-Ok.ensures.bytes (c.in-Ok-from_elem.ensures.items_if_clones_equal (λ y h. h))
-
-pub returns-in-Ok-from_elem-clause-valid : goal.returns-in-Ok-from_elem-clause-valid
-returns-in-Ok-from_elem-clause-valid c =
-    let shape = c.args.shape in
-    let is = opened shape c.in-Ok.canvas.bytes c.in-Ok-from_elem.dirt.items c.in-Ok.ensures.bytes (c.in-Ok-from_elem.ensures.items_if_clones_equal (λ y h. h)) in
-    IsState-same _ _ is (IsState-opening shape c.requires)

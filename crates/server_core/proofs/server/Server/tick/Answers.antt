@@ -1,20 +1,20 @@
 use Rattle.std.proofs.Common.{◌∙◌}
 use Rattle.desk_model.specs.State.{IsState}
 use Rattle.desk_model.proofs.Ticks.{TickedWith-lost_marks, clean-is_picture}
-use Rattle.server_core.proofs.Parts.{tick_of_parts, colours-are}
+use Rattle.server_core.proofs.Parts.{tick_of_parts}
 use Rattle.server_core.proofs.server.Server.tick.Goals as goal
 
 pub invariant_of-self : goal.invariant_of-self
 invariant_of-self c =
     (tick_of_parts c.draw_bands-bands.result c.sweep-queue.new.canvas c.self.invariant c.sweep-queue.ensures.swept
-    (colours-are c.self.inside.window c.as_slice.result.now _ _ c.as_slice.ensures (c.start_count.ensures.width ∙ c.self.invariant.width)) c.start_count.ensures.bytes c.draw_bands-bands.ensures
+    c.as_slice.ensures c.start_count.ensures.width c.start_count.ensures.bytes c.draw_bands-bands.ensures
     c.sweep-queue.ensures.canvas (c.sweep-queue.ensures.width ∙ c.start_count.ensures.width) (c.sweep-queue.ensures.height ∙ c.start_count.ensures.height)).1
 
 pub returns-clause-step : goal.returns-clause-step
 returns-clause-step c =
     rw (← c.self.view_is)
     (tick_of_parts c.draw_bands-bands.result c.sweep-queue.new.canvas c.self.invariant c.sweep-queue.ensures.swept
-    (colours-are c.self.inside.window c.as_slice.result.now _ _ c.as_slice.ensures (c.start_count.ensures.width ∙ c.self.invariant.width)) c.start_count.ensures.bytes c.draw_bands-bands.ensures
+    c.as_slice.ensures c.start_count.ensures.width c.start_count.ensures.bytes c.draw_bands-bands.ensures
     c.sweep-queue.ensures.canvas (c.sweep-queue.ensures.width ∙ c.start_count.ensures.width) (c.sweep-queue.ensures.height ∙ c.start_count.ensures.height)).0
 
 pub returns-clause-valid : goal.returns-clause-valid

@@ -1,21 +1,23 @@
 use Rattle.std.proofs.Common.{ℕ, List, ◌∷◌, ◌++◌, [], is_ok}
-use Rattle.desk_model.specs.Widgets.{nodes}
-use Rattle.desk_model.specs.Forest.{IsForest}
-use Rattle.tree_core.proofs.ForestLemmas.{IsForest-join, maybe}
+use Rattle.tree_core.specs.Indexed.{IsTree}
+use Rattle.tree_core.proofs.ForestLemmas.{maybe}
+use Rattle.tree_core.proofs.TreeKept.{IsTree-join, IsTree-grown, IsWidgets-tree}
 use Rattle.tree_core.proofs.tree.Tree.join_client.Goals as goal
 
-pub invariant_of-self : goal.invariant_of-self
-invariant_of-self c =
-    let P : List ℕ → Type 0 = λ clients. IsForest clients (nodes c.self.inside.store) in
+pub invariant_of-self-2 : goal.invariant_of-self-2
+invariant_of-self-2 c =
     let old = c.self.inside.clients.items in
-    record {
-      indexed = c.self.invariant.indexed;
-      forest = rw c.push.ensures.items (maybe P (is_ok c.push.result) (old ++ c.args.client ∷ []) old (IsForest-join old c.args.client (nodes c.self.inside.store) c.self.invariant.forest c.requires.low c.requires.high) c.self.invariant.forest);
-      linked = c.self.invariant.linked;
-    }
+    let P : List ℕ → Type 0 = λ clients. IsTree clients c.self.inside.names.entries c.self.inside.store c.grow.new.self in
+    let grown = IsTree-grown old c.self.inside.names.entries c.self.inside.store c.self.inside.cells c.grow.new.self c.grow.ensures.kept c.grow.ensures.longer c.self.invariant in
+    let more = IsTree-join old c.self.inside.names.entries c.self.inside.store c.self.inside.cells c.grow.new.self c.args.client c.requires.low c.requires.high c.grow.ensures.kept c.grow.ensures.longer c.in-Ok.ensures.reach c.self.invariant in
+    let tree : P c.push.new.self.items = rw c.push.ensures.items (maybe P (is_ok c.push.result) (old ++ c.args.client ∷ []) old more grown) in
+    tree
 
 pub returns-clause-valid : goal.returns-clause-valid
 returns-clause-valid c =
-    let P : List ℕ → Type 0 = λ clients. IsForest clients (nodes c.self.inside.store) in
     let old = c.self.inside.clients.items in
-    record { forest = rw c.push.ensures.items (maybe P (is_ok c.push.result) (old ++ c.args.client ∷ []) old (IsForest-join old c.args.client (nodes c.self.inside.store) c.self.invariant.forest c.requires.low c.requires.high) c.self.invariant.forest); linked = c.self.invariant.linked }
+    let P : List ℕ → Type 0 = λ clients. IsTree clients c.self.inside.names.entries c.self.inside.store c.grow.new.self in
+    let grown = IsTree-grown old c.self.inside.names.entries c.self.inside.store c.self.inside.cells c.grow.new.self c.grow.ensures.kept c.grow.ensures.longer c.self.invariant in
+    let more = IsTree-join old c.self.inside.names.entries c.self.inside.store c.self.inside.cells c.grow.new.self c.args.client c.requires.low c.requires.high c.grow.ensures.kept c.grow.ensures.longer c.in-Ok.ensures.reach c.self.invariant in
+    let tree : P c.push.new.self.items = rw c.push.ensures.items (maybe P (is_ok c.push.result) (old ++ c.args.client ∷ []) old more grown) in
+    IsWidgets-tree _ _ _ c.grow.new.self tree

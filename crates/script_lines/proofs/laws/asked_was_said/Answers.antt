@@ -1,0 +1,5 @@
+use Rattle.script_lines.proofs.Heard.{asked_was_said}
+use Rattle.script_lines.proofs.laws.asked_was_said.Goals as goal
+
+pub returns : goal.returns
+returns c = asked_was_said

@@ -1,0 +1,5 @@
+use Rattle.script_lines.proofs.Heard.{misread_was_said}
+use Rattle.script_lines.proofs.laws.misread_was_said.Goals as goal
+
+pub returns : goal.returns
+returns c = misread_was_said

@@ -1,0 +1,5 @@
+use Rattle.script_lines.proofs.Spoken.{others_are_misread}
+use Rattle.script_lines.proofs.laws.others_are_misread.Goals as goal
+
+pub returns : goal.returns
+returns c = others_are_misread

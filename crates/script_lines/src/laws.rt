@@ -1,0 +1,28 @@
+//! Laws of a script's lines, over the definitions alone. Each is a function without parameters whose contract
+//! is the law.
+ghost use Rattle.script_lines.specs.Laws.{CommentsAskForNothing, CommandsAreAsked, OthersAreMisread, AskedWasSaid, MisreadWasSaid};
+
+/// An empty line and each comment ask for nothing.
+pub fn comments_ask_for_nothing()
+    ensures { CommentsAskForNothing }
+{}
+
+/// A client's line that stands for a command asks for that command, where it is built.
+pub fn commands_are_asked()
+    ensures { CommandsAreAsked }
+{}
+
+/// A client's line that stands for no command is misread, with its place in what the client said.
+pub fn others_are_misread()
+    ensures { OthersAreMisread }
+{}
+
+/// A command that a line asks for is the one that its client said in that line.
+pub fn asked_was_said()
+    ensures { AskedWasSaid }
+{}
+
+/// In a misread line its client said no command, and the place is that of what it said.
+pub fn misread_was_said()
+    ensures { MisreadWasSaid }
+{}

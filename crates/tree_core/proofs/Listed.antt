@@ -1,0 +1,167 @@
+-- Rows by number, by place and by name.
+use Rattle.std.proofs.Common.{◌≡◌, ◌<◌, ◌+◌, ℕ, zero, suc, length, take, get_or, Bool, true, false, cond, not, ◌&&◌, ◌||◌, nat_eq, List, [], ◌∷◌, ◌++◌, map, Option, Some, None, is_some, refl, sym, ap, ◌∙◌, subst, slice_get}
+use Rattle.std.proofs.lemmas.Bool.{true≢false, eqb-true, eq-eqb, ne_eqb, and_parts, and_from}
+use Rattle.std.proofs.lemmas.List.{take_more}
+use Rattle.std.proofs.lemmas.Option.{get_or_from_slice_get}
+use Rattle.std.specs.Cmp.{nat_eq_equiv}
+use Rattle.std.specs.List.{find, filter, list_any, list_all}
+use Rattle.std.specs.Option.{option_map}
+use Rattle.desk_model.specs.Rows.{Row}
+use Rattle.desk_model.specs.Nodes.{node_of, id_named, node_at, is_named}
+use Rattle.desk_model.specs.Named.{has_name, row_named}
+use Rattle.desk_model.specs.Widgets.{row_at, nodes, with_row, without_row}
+use Rattle.desk_model.specs.Forest.{HaveOwnNumbers, HaveOwnNames}
+use Rattle.desk_model.specs.DeskFacts.{AreNamedApart}
+use Rattle.desk_model.proofs.Naming.{row_named-found, id_named-row}
+use Rattle.tree_core.specs.Cells.{rows_in}
+
+-- what is found stands somewhere, and passes the test
+pub find_place : {X : Type 0} (p : X → Bool) (xs : List X) (x : X) → find p xs ≡ Some x → (i : ℕ) × (slice_get xs i ≡ Some x) × (p x ≡ true)
+find_place p [] x h = absurd (cc)
+find_place p (y ∷ ys) x h = by (find_place p ys x) (p y) refl h
+  where
+    by : (find p ys ≡ Some x → (i : ℕ) × (slice_get ys i ≡ Some x) × (p x ≡ true)) → (b : Bool) → p y ≡ b → cond b (Some y) (find p ys) ≡ Some x → (i : ℕ) × (slice_get (y ∷ ys) i ≡ Some x) × (p x ≡ true)
+    by rest true q k = let same : y ≡ x = cc in (0, k, ap p (sym same) ∙ q)
+    by rest false q k = let r = rest k in (suc r.0, r.1, r.2)
+
+-- what holds of all holds of the one at a place
+pub all_at : {X : Type 0} (p : X → Bool) (xs : List X) (i : ℕ) (x : X) → list_all p xs ≡ true → slice_get xs i ≡ Some x → p x ≡ true
+all_at p [] i x h there = absurd (cc)
+all_at p (y ∷ ys) zero x h there = let same : y ≡ x = cc in ap p (sym same) ∙ (and_parts (p y) (list_all p ys) h).0
+all_at p (y ∷ ys) (suc i) x h there = all_at p ys i x (and_parts (p y) (list_all p ys) h).1 there
+
+-- one that passes the test is found among the rest
+pub any_at : {X : Type 0} (p : X → Bool) (xs : List X) (i : ℕ) (x : X) → slice_get xs i ≡ Some x → p x ≡ true → list_any p xs ≡ true
+any_at p [] i x there h = absurd (cc)
+any_at p (y ∷ ys) zero x there h = let same : y ≡ x = cc in rw (same, h) refl
+any_at p (y ∷ ys) (suc i) x there h = by (p y) (any_at p ys i x there h)
+  where
+    by : (b : Bool) → list_any p ys ≡ true → (b || list_any p ys) ≡ true
+    by true k = refl
+    by false k = k
+
+-- where there is one that passes the test, it stands somewhere
+pub any_place : {X : Type 0} (p : X → Bool) (xs : List X) → list_any p xs ≡ true → (i : ℕ) × (x : X) × (slice_get xs i ≡ Some x) × (p x ≡ true)
+any_place p [] h = absurd (true≢false (sym h))
+any_place {X} p (y ∷ ys) h = by (any_place p ys) (p y) refl h
+  where
+    by : (list_any p ys ≡ true → (i : ℕ) × (x : X) × (slice_get ys i ≡ Some x) × (p x ≡ true)) → (b : Bool) → p y ≡ b → (b || list_any p ys) ≡ true → (i : ℕ) × (x : X) × (slice_get (y ∷ ys) i ≡ Some x) × (p x ≡ true)
+    by rest true q k = (0, y, refl, q)
+    by rest false q k = let r = rest k in (suc r.0, r.1, r.2, r.3)
+
+-- a number with a row is its node's
+node_at-row : (es : List (ℕ × Row)) (id : ℕ) (row : Row) → row_at es id ≡ Some row → is_some (node_at (nodes es) id) ≡ true
+node_at-row [] id row h = absurd (cc)
+node_at-row (e ∷ es) id row h = by (node_at-row es id row) (nat_eq id e.0) h
+  where
+    by : (row_at es id ≡ Some row → is_some (node_at (nodes es) id) ≡ true) → (b : Bool) → cond b (Some e.1) (row_at es id) ≡ Some row → is_some (cond b (Some (node_of e.1)) (node_at (nodes es) id)) ≡ true
+    by rest true k = refl
+    by rest false k = rest k
+
+-- the row at a place has a number
+pub listed_number : (es : List (ℕ × Row)) (i : ℕ) (row : Row) → HaveOwnNumbers (nodes es) → slice_get (rows_in es) i ≡ Some row → (id : ℕ) × (row_at es id ≡ Some row)
+listed_number [] i row own there = absurd (cc)
+listed_number (e ∷ es) zero row own there = (e.0, rw (nat_eq_equiv.refl e.0) there)
+listed_number (e ∷ es) (suc i) row own there =
+    let rest = listed_number es i row own.1 there in
+    let other : nat_eq rest.0 e.0 ≡ false = ne_eqb rest.0 e.0 (λ same. true≢false (sym (node_at-row es rest.0 row rest.1) ∙ ap is_some (ap (node_at (nodes es)) same ∙ own.0))) in
+    (rest.0, rw other rest.1)
+
+-- and a numbered row stands at a place
+pub numbered_place : (es : List (ℕ × Row)) (id : ℕ) (row : Row) → row_at es id ≡ Some row → (i : ℕ) × (slice_get (rows_in es) i ≡ Some row)
+numbered_place [] id row there = absurd (cc)
+numbered_place (e ∷ es) id row there = by (numbered_place es id row) (nat_eq id e.0) there
+  where
+    by : (row_at es id ≡ Some row → (i : ℕ) × (slice_get (rows_in es) i ≡ Some row)) → (b : Bool) → cond b (Some e.1) (row_at es id) ≡ Some row → (i : ℕ) × (slice_get (rows_in (e ∷ es)) i ≡ Some row)
+    by rest true k = (0, k)
+    by rest false k = let r = rest k in (suc r.0, r.1)
+
+-- a numbered row is the one of its name
+pub row_named-row : (es : List (ℕ × Row)) (id : ℕ) (row : Row) → HaveOwnNumbers (nodes es) → HaveOwnNames (nodes es) → row_at es id ≡ Some row → row_named (rows_in es) row.client row.name ≡ Some row
+row_named-row es id row numbers names there = row_named-found es row.client row.name id numbers (id_named-row es id row names there) ∙ there
+
+-- a name that no node has is no row's
+list_any-named : (es : List (ℕ × Row)) (client : ℕ) (name : List ℕ) → id_named (nodes es) client name ≡ None → list_any (has_name client name) (rows_in es) ≡ false
+list_any-named [] client name absent = refl
+list_any-named (e ∷ es) client name absent = by (list_any-named es client name) (has_name client name e.1) absent
+  where
+    by : (id_named (nodes es) client name ≡ None → list_any (has_name client name) (rows_in es) ≡ false) → (b : Bool) → cond b (Some e.0) (id_named (nodes es) client name) ≡ None → (b || list_any (has_name client name) (rows_in es)) ≡ false
+    by rest true h = absurd (cc)
+    by rest false h = rest h
+
+pub AreNamedApart-rows : (es : List (ℕ × Row)) → HaveOwnNames (nodes es) → AreNamedApart (rows_in es)
+AreNamedApart-rows [] own = tt
+AreNamedApart-rows (e ∷ es) own = (list_any-named es e.1.client e.1.name own.0, AreNamedApart-rows es own.1)
+
+-- the rows under the numbers after a change, a removal, a departure and a new row
+pub row_at-with_row : (es : List (ℕ × Row)) (id : ℕ) (change : Row → Row) (other : ℕ) → row_at (with_row id change es) other ≡ option_map (λ (row : Row). cond (nat_eq id other) (change row) row) (row_at es other)
+row_at-with_row [] id change other = refl
+row_at-with_row (e ∷ es) id change other = by (row_at-with_row es id change other) (nat_eq other e.0) refl (nat_eq id e.0) refl
+  where
+    by : row_at (with_row id change es) other ≡ option_map (λ (row : Row). cond (nat_eq id other) (change row) row) (row_at es other) → (d : Bool) → nat_eq other e.0 ≡ d → (b : Bool) → nat_eq id e.0 ≡ b → row_at (cond b (e.0, change e.1) e ∷ with_row id change es) other ≡ option_map (λ (row : Row). cond (nat_eq id other) (change row) row) (cond d (Some e.1) (row_at es other))
+    by rest true q true r = let same : nat_eq id other ≡ true = eq-eqb id other (eqb-true id e.0 r ∙ sym (eqb-true other e.0 q)) in rw (q, same) refl
+    by rest true q false r = let apart : nat_eq id other ≡ false = ap (nat_eq id) (eqb-true other e.0 q) ∙ r in rw (q, apart) refl
+    by rest false q true r = rw q rest
+    by rest false q false r = rw q rest
+
+pub row_at-without_row : (es : List (ℕ × Row)) (id other : ℕ) → row_at (without_row id es) other ≡ cond (nat_eq id other) None (row_at es other)
+row_at-without_row [] id other = by (nat_eq id other)
+  where
+    none : Option Row
+    none = None
+
+    by : (b : Bool) → None ≡ cond b none None
+    by true = refl
+    by false = refl
+row_at-without_row (e ∷ es) id other = by (row_at-without_row es id other) (nat_eq other e.0) refl (nat_eq id e.0) refl
+  where
+    by : row_at (without_row id es) other ≡ cond (nat_eq id other) None (row_at es other) → (d : Bool) → nat_eq other e.0 ≡ d → (b : Bool) → nat_eq id e.0 ≡ b → row_at (cond b (without_row id es) (e ∷ without_row id es)) other ≡ cond (nat_eq id other) None (cond d (Some e.1) (row_at es other))
+    by rest true q true r = let same : nat_eq id other ≡ true = eq-eqb id other (eqb-true id e.0 r ∙ sym (eqb-true other e.0 q)) in rest ∙ rw same refl
+    by rest true q false r = let apart : nat_eq id other ≡ false = ap (nat_eq id) (eqb-true other e.0 q) ∙ r in rw (q, apart) refl
+    by rest false q true r = rest
+    by rest false q false r = rw q rest
+
+pub row_at-filter : (es : List (ℕ × Row)) (test : ℕ → Bool) (other : ℕ) → row_at (filter (λ (e : ℕ × Row). test e.0) es) other ≡ cond (test other) (row_at es other) None
+row_at-filter [] test other = by (test other)
+  where
+    none : Option Row
+    none = None
+
+    by : (b : Bool) → None ≡ cond b none None
+    by true = refl
+    by false = refl
+row_at-filter (e ∷ es) test other = by (row_at-filter es test other) (nat_eq other e.0) refl (test e.0) refl
+  where
+    by : row_at (filter (λ (e : ℕ × Row). test e.0) es) other ≡ cond (test other) (row_at es other) None → (d : Bool) → nat_eq other e.0 ≡ d → (b : Bool) → test e.0 ≡ b → row_at (cond b (e ∷ filter (λ (e : ℕ × Row). test e.0) es) (filter (λ (e : ℕ × Row). test e.0) es)) other ≡ cond (test other) (cond d (Some e.1) (row_at es other)) None
+    by rest true q true r = let pass : test other ≡ true = ap test (eqb-true other e.0 q) ∙ r in rw (q, pass) refl
+    by rest true q false r = let fail : test other ≡ false = ap test (eqb-true other e.0 q) ∙ r in rest ∙ rw fail refl
+    by rest false q true r = rw q rest
+    by rest false q false r = rest
+
+pub row_at-push : (es : List (ℕ × Row)) (id : ℕ) (row : Row) (other : ℕ) → nat_eq other id ≡ false → row_at (es ++ (id, row) ∷ []) other ≡ row_at es other
+row_at-push [] id row other apart = rw apart refl
+row_at-push (e ∷ es) id row other apart = ap (cond (nat_eq other e.0) (Some e.1)) (row_at-push es id row other apart)
+
+pub row_at-last : (es : List (ℕ × Row)) (id : ℕ) (row : Row) → row_at es id ≡ None → row_at (es ++ (id, row) ∷ []) id ≡ Some row
+row_at-last [] id row absent = rw (nat_eq_equiv.refl id) refl
+row_at-last (e ∷ es) id row absent = by (row_at-last es id row) (nat_eq id e.0) absent
+  where
+    by : (row_at es id ≡ None → row_at (es ++ (id, row) ∷ []) id ≡ Some row) → (b : Bool) → cond b (Some e.1) (row_at es id) ≡ None → cond b (Some e.1) (row_at (es ++ (id, row) ∷ []) id) ≡ Some row
+    by rest true h = absurd (cc)
+    by rest false h = rest h
+
+-- the rows are those of the entries, place by place
+pub rows_in-at : (es : List (ℕ × Row)) (i id : ℕ) (row : Row) → slice_get es i ≡ Some (id, row) → slice_get (rows_in es) i ≡ Some row
+rows_in-at [] i id row there = absurd (cc)
+rows_in-at (e ∷ es) zero id row there = let same : e ≡ (id, row) = cc in ap (λ (x : ℕ × Row). Some x.1) same
+rows_in-at (e ∷ es) (suc i) id row there = rows_in-at es i id row there
+
+pub rows_in-push : (es : List (ℕ × Row)) (e : ℕ × Row) → rows_in (es ++ e ∷ []) ≡ rows_in es ++ e.1 ∷ []
+rows_in-push [] e = refl
+rows_in-push (f ∷ fs) e = rw (rows_in-push fs e) refl
+
+pub rows_in-take_more : (es : List (ℕ × Row)) (i id : ℕ) (row : Row) → i < length es → slice_get es i ≡ Some (id, row) → rows_in (take (i + 1) es) ≡ rows_in (take i es) ++ row ∷ []
+rows_in-take_more es i id row within there =
+    let here : get_or es i (id, row) ≡ (id, row) = get_or_from_slice_get es i (id, row) (id, row) there in
+    let more : take (i + 1) es ≡ take i es ++ (id, row) ∷ [] = take_more es i (id, row) within ∙ ap (λ (e : ℕ × Row). take i es ++ e ∷ []) here in
+    ap rows_in more ∙ rows_in-push (take i es) (id, row)

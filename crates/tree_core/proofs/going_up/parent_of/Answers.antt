@@ -1,0 +1,22 @@
+use Rattle.std.proofs.Common.{rules, ◌≡◌, ℕ, List, Some, None, Option, sym, ap, ◌∙◌}
+use Rattle.std.specs.Option.{option_map}
+use Rattle.kind_core.specs.declared.shapes.Cell.{Cell}
+use Rattle.tree_core.proofs.ForestLemmas.{named-live, row_live}
+use Rattle.tree_core.proofs.Ways.{parent_of-found, parent_of-none}
+use Rattle.tree_core.proofs.going_up.parent_of.Goals as goal
+
+pub row-requires : goal.row-requires
+row-requires c = row_live c.args.store.now c.in-Some.id ∙ named-live _ c.args.client c.args.name.now c.in-Some.id (sym c.number_of.ensures ∙ c.in-Some.is)
+
+pub returns-in-Some-spot : goal.returns-in-Some-spot
+returns-in-Some-spot c =
+    let way = parent_of-found c.args.store.now c.args.client c.args.name.now c.in-Some.id c.row.result.now c.requires.grove (sym c.number_of.ensures ∙ c.in-Some.is) c.row.ensures in
+    rw way (search rules)
+
+pub returns-in-None-spot : goal.returns-in-None-spot
+returns-in-None-spot c =
+    let way = parent_of-found c.args.store.now c.args.client c.args.name.now c.in-Some.id c.row.result.now c.requires.grove (sym c.number_of.ensures ∙ c.in-Some.is) c.row.ensures in
+    rw way (search rules)
+
+pub returns-in-None : goal.returns-in-None
+returns-in-None c = sym (parent_of-none c.args.store.now c.args.client c.args.name.now (sym c.number_of.ensures ∙ c.in-None.is))

@@ -1,0 +1,26 @@
+use Rattle.std.proofs.Common.{◌≡◌, ◌<◌, ℕ, List, length, Option, Some, IsSome, sym, ap, ◌∙◌, subst}
+use Rattle.std.specs.Option.{option_map}
+use Rattle.desk_model.specs.Rows.{Row, with_spot}
+use Rattle.desk_model.specs.Links.{name_at}
+use Rattle.desk_model.specs.Widgets.{row_at, with_row}
+use Rattle.tree_core.specs.Cells.{cell_place, HasChildren}
+use Rattle.tree_core.specs.Indexed.{IsGrove}
+use Rattle.tree_core.proofs.ShownLemmas.{none_or_some}
+use Rattle.tree_core.proofs.Children.{takes_cell-index}
+use Rattle.tree_core.proofs.Groves.{MayHang, MayHang-answer, MayHang-alone, IsGrove-hang}
+use Rattle.tree_core.proofs.Moves.{HasChildren-hang}
+use Rattle.tree_core.proofs.hanging.hang.Goals as goal
+
+pub returns-clause-grove : goal.returns-clause-grove
+returns-clause-grove c =
+    let found = none_or_some (row_at c.args.store.now c.args.child) c.requires.child in
+    let may = MayHang-answer c.args.store.now c.args.parent c.args.child c.args.cell c.row.result.now found.0 c.row.ensures found.1 c.requires.owner c.requires.cell c.requires.answer in
+    rw (c.change.ensures, c.name-name.ensures) (IsGrove-hang c.args.store.now c.args.parent c.args.child c.args.cell c.row.result.now found.0 c.requires.grove may)
+
+pub returns-clause-children : goal.returns-clause-children
+returns-clause-children c =
+    let found = none_or_some (row_at c.args.store.now c.args.child) c.requires.child in
+    let may = MayHang-answer c.args.store.now c.args.parent c.args.child c.args.cell c.row.result.now found.0 c.row.ensures found.1 c.requires.owner c.requires.cell c.requires.answer in
+    let new = IsGrove-hang c.args.store.now c.args.parent c.args.child c.args.cell c.row.result.now found.0 c.requires.grove may in
+    let index = takes_cell-index c.row.result.now.kind c.args.cell may.takes in
+    rw (c.put.ensures, c.change.ensures, c.name-name.ensures) (HasChildren-hang c.args.store.now c.args.cells.now c.args.parent c.args.child c.row.result.now found.0 c.args.cell c.requires.grove c.requires.children c.row.ensures found.1 may.owner index.0 index.1 c.requires.within (MayHang-alone c.args.store.now c.args.parent c.args.child c.args.cell c.row.result.now found.0 c.requires.grove may) new)

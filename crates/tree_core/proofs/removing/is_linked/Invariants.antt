@@ -1,0 +1,9 @@
+-- no row that was looked at is linked
+use Rattle.std.proofs.Common.{◌≡◌, false, take}
+use Rattle.std.specs.List.{list_any}
+use Rattle.desk_model.specs.Trees.{links_to}
+use Rattle.tree_core.specs.Cells.{rows_in}
+use Rattle.tree_core.proofs.removing.is_linked.Given as goal
+
+abbrev pub invariant-loop-i : goal.invariant-loop-i
+invariant-loop-i l = list_any (links_to l.client l.name) (rows_in (take l.i l.store)) ≡ false
