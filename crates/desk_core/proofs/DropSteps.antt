@@ -1,25 +1,24 @@
 -- The step of removing a widget.
-use Rattle.std.proofs.Common.{◌≡◌, ℕ, Bool, true, false, cond, not, ◌&&◌, ◌||◌, nat_eq, List, [], ◌∷◌, Option, Some, None, is_some, refl, sym, ap, ap₂, ◌∙◌, subst}
-use Rattle.std.proofs.lemmas.Bool.{true≢false, ne_eqb, eqb-false, eqb-true, and_parts, and_from, or_parts}
+use Rattle.std.proofs.Common.{◌≡◌, ℕ, Bool, true, false, cond, not, ◌||◌, nat_eq, List, [], ◌∷◌, Option, Some, None, refl, sym, ap, ap₂, ◌∙◌, subst}
+use Rattle.std.proofs.lemmas.Bool.{eqb-true, and_parts, and_from, or_parts}
 use Rattle.std.specs.List.{list_all}
-use Rattle.std.specs.Option.{option_map, option_map_or}
+use Rattle.std.specs.Option.{option_map_or}
 use Rattle.kind_core.specs.declared.kinds.Kind.{Kind}
-use Rattle.kind_core.specs.declared.shapes.Shape.{Shape}
 use Rattle.cmd_words.specs.declared.replies.Reply.{Reply}
 use Rattle.cmd_words.specs.declared.replies.Reply.TheVariants.{Done}
 use Rattle.cmd_words.specs.declared.replies.Refusal.TheVariants.{InUse}
 use Rattle.stack_core.specs.Stack.{holds_key}
 use Rattle.desk_model.specs.Rows.{Row}
-use Rattle.desk_model.specs.Nodes.{Node, node_of, node_at}
+use Rattle.desk_model.specs.Nodes.{node_of, node_at}
 use Rattle.desk_model.specs.Named.{has_name, row_named, without_named}
 use Rattle.desk_model.specs.Trees.{is_used}
-use Rattle.desk_model.specs.Widgets.{Widgets, nodes, rows_of, row_at, without_row, removed}
+use Rattle.desk_model.specs.Widgets.{Widgets, nodes, rows_of, without_row, removed}
 use Rattle.desk_model.specs.Forest.{IsWidgets}
 use Rattle.desk_model.specs.Desk.{Desk, is_open}
 use Rattle.desk_model.specs.Refusing.{when, first_refusal, outcome, unless_there}
 use Rattle.desk_model.specs.Making.{drop_effect, step_drop}
 use Rattle.desk_model.proofs.Naming.{rows, rows-without_row}
-use Rattle.desk_core.specs.Standing.{windows_at, desk_of, names_window, title_at, fits_rules, IsStanding}
+use Rattle.desk_core.specs.Standing.{windows_at, desk_of, names_window, fits_rules, IsStanding}
 use Rattle.desk_core.specs.Did.{DidAll, TellsAll, IsFound}
 use Rattle.desk_core.proofs.OpenSteps.{is_open-holds_key}
 

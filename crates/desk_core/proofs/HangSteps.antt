@@ -1,5 +1,5 @@
 -- The steps of hanging a widget in another, taking it out and removing it.
-use Rattle.std.proofs.Common.{◌≡◌, ℕ, zero, suc, ◌+◌, ◌≤◌, ◌<◌, ℤ, pos, negsuc, unsigned_abs, Bool, true, false, cond, not, ◌&&◌, nat_eq, nat_le, nat_lt, List, [], ◌∷◌, map, Option, Some, None, is_some, refl, sym, ap, ◌∙◌, subst, arith}
+use Rattle.std.proofs.Common.{◌≡◌, ℕ, ◌+◌, ◌≤◌, ℤ, pos, negsuc, unsigned_abs, Bool, true, false, cond, not, ◌&&◌, nat_le, nat_lt, List, [], ◌∷◌, map, Option, Some, None, is_some, refl, sym, ap, ◌∙◌, arith}
 use Rattle.std.proofs.lemmas.Bool.{true≢false, leb-true, le-leb, eq-eqb, and_parts, and_from}
 use Rattle.std.specs.Option.{option_map, option_map_or, option_and_then}
 use Rattle.kind_core.specs.declared.kinds.Kind.{Kind}
@@ -8,19 +8,19 @@ use Rattle.kind_core.specs.declared.shapes.Cell.{Cell}
 use Rattle.cmd_words.specs.declared.commands.PlaceOption.{PlaceOption}
 use Rattle.cmd_words.specs.declared.commands.PlaceOption.TheVariants as given
 use Rattle.cmd_words.specs.declared.replies.Refusal.{Refusal}
-use Rattle.cmd_words.specs.declared.replies.Refusal.TheVariants.{WrongKind, BadValue, HasParent, Cycle, TooDeep, CellTaken, NotHere}
+use Rattle.cmd_words.specs.declared.replies.Refusal.TheVariants.{WrongKind, BadValue, HasParent, Cycle, TooDeep, CellTaken}
 use Rattle.tree_core.specs.declared.refusal.AttachRefusal.{AttachRefusal}
 use Rattle.tree_core.specs.declared.refusal.AttachRefusal.TheVariants as attach
 use Rattle.tree_core.specs.Refusals.{attach_refusal, attach_answer}
 use Rattle.desk_model.specs.Rows.{Row, with_spot}
 use Rattle.desk_model.specs.Widgets.{Widgets, rows_of}
 use Rattle.desk_model.specs.Named.{row_named, is_kind_of}
-use Rattle.desk_model.specs.Trees.{hangs, has_children, can_be_child, parent_of, child_in, depth_of, height_of, is_above, most_levels}
+use Rattle.desk_model.specs.Trees.{hangs, has_children, can_be_child, child_in, depth_of, height_of, is_above, most_levels}
 use Rattle.desk_model.specs.Planted.{is_cell, takes_cell}
 use Rattle.desk_model.specs.Desk.{Desk}
 use Rattle.desk_model.specs.Refusing.{when, first_refusal, outcome, unless_there}
 use Rattle.desk_model.specs.PlaceOptions.{unless_within, last_cell, place_refusal, places_refusal, first_cell, with_place, with_places, cell_given}
-use Rattle.desk_model.specs.Hanging.{place_effect, lift_effect, step_place, step_lift}
+use Rattle.desk_model.specs.Hanging.{place_effect, step_place}
 use Rattle.desk_core.specs.Did.{IsFound, with_rows}
 use Rattle.desk_core.specs.Told.{told_attach}
 use Rattle.desk_core.proofs.Dids.{found-parts}

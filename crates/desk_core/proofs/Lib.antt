@@ -16,3 +16,4 @@ pub mod Leaving
 pub mod HangSteps
 pub mod LiftSteps
 pub mod DropSteps
+pub mod Departing

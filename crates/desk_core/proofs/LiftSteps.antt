@@ -1,31 +1,23 @@
 -- The steps of taking a widget out of its parent, and of removing it.
-use Rattle.std.proofs.Common.{◌≡◌, ℕ, Bool, true, false, cond, not, ◌&&◌, ◌||◌, nat_eq, List, [], ◌∷◌, Option, Some, None, is_some, refl, sym, ap, ◌∙◌, subst}
-use Rattle.std.proofs.lemmas.Bool.{true≢false, ne_eqb, eqb-false, eqb-true, and_parts, and_from, or_parts}
+use Rattle.std.proofs.Common.{◌≡◌, ℕ, Bool, true, false, not, List, [], ◌∷◌, Option, Some, None, refl, sym, ap, ◌∙◌}
+use Rattle.std.proofs.lemmas.Bool.{true≢false}
 use Rattle.std.proofs.lemmas.Slice.Eq.{bytes_eq-Decides}
-use Rattle.std.specs.List.{list_all}
 use Rattle.std.specs.Option.{option_map, option_map_or, option_and_then}
 use Rattle.std.specs.Str.{bytes_eq}
 use Rattle.kind_core.specs.declared.kinds.Kind.{Kind}
 use Rattle.kind_core.specs.declared.shapes.Cell.{Cell}
-use Rattle.kind_core.specs.declared.shapes.Shape.{Shape}
-use Rattle.cmd_words.specs.declared.replies.Reply.{Reply}
-use Rattle.cmd_words.specs.declared.replies.Reply.TheVariants.{Done}
-use Rattle.cmd_words.specs.declared.replies.Refusal.TheVariants.{NotHere, InUse}
-use Rattle.stack_core.specs.Stack.{holds_key}
+use Rattle.cmd_words.specs.declared.replies.Refusal.TheVariants.{NotHere}
 use Rattle.desk_model.specs.Rows.{Row, with_spot}
-use Rattle.desk_model.specs.Nodes.{Node, node_of, node_at, id_named}
-use Rattle.desk_model.specs.Named.{has_name, row_named, without_named}
-use Rattle.desk_model.specs.Trees.{is_used}
+use Rattle.desk_model.specs.Nodes.{id_named}
+use Rattle.desk_model.specs.Named.{row_named}
 use Rattle.desk_model.specs.Places.{parent_id}
-use Rattle.desk_model.specs.Widgets.{Widgets, nodes, rows_of, row_at, without_row, removed}
+use Rattle.desk_model.specs.Widgets.{Widgets, nodes, rows_of, row_at}
 use Rattle.desk_model.specs.Forest.{IsWidgets}
-use Rattle.desk_model.specs.Desk.{Desk, is_open}
+use Rattle.desk_model.specs.Desk.{Desk}
 use Rattle.desk_model.specs.Refusing.{when, first_refusal, outcome, unless_there}
 use Rattle.desk_model.specs.Hanging.{lift_effect, step_lift}
-use Rattle.desk_model.specs.Making.{drop_effect, step_drop}
-use Rattle.desk_model.proofs.Naming.{rows, row_named-found, row_named-parts, rows-without_row}
-use Rattle.desk_core.specs.Standing.{windows_at, desk_of, names_window, title_at, fits_rules, IsStanding}
-use Rattle.desk_core.specs.Did.{DidAll, TellsAll, IsFound}
+use Rattle.desk_model.proofs.Naming.{row_named-found, row_named-parts}
+use Rattle.desk_core.specs.Did.{IsFound}
 use Rattle.desk_core.proofs.Dids.{found-parts}
 
 pub step_lift-by : (desk : Desk) (client : ℕ) (parent child : List ℕ) (upper lower : Option Row) → row_named desk.rows client parent ≡ upper → row_named desk.rows client child ≡ lower → step_lift desk client parent child ≡ outcome desk (first_refusal (unless_there upper ∷ unless_there lower ∷ when (not (option_map_or (bytes_eq parent) (option_and_then (λ row. option_map (λ spot. spot.0) row.spot) lower) false)) NotHere ∷ [])) (lift_effect desk client child)

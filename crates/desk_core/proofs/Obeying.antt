@@ -1,6 +1,5 @@
 -- A command's step is that of its row.
-use Rattle.std.proofs.Common.{◌≡◌, ℕ, ℤ, Bool, true, List, refl, sym, ◌∙◌}
-use Rattle.std.proofs.lemmas.Bool.{true≢false}
+use Rattle.std.proofs.Common.{◌≡◌, ℕ, ℤ, Bool, List, refl, ◌∙◌}
 use Rattle.kind_core.specs.declared.kinds.Kind.{Kind}
 use Rattle.kind_core.specs.declared.kinds.Attr.{Attr}
 use Rattle.kind_core.specs.declared.kinds.EventKind.{EventKind}

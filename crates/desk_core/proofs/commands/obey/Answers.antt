@@ -1,4 +1,4 @@
-use Rattle.std.proofs.Common.{◌≡◌, ℕ, ℤ, List, Some, None, refl, sym, ap, ◌∙◌, subst, rules, to_z, of_z, SFits, w32}
+use Rattle.std.proofs.Common.{◌≡◌, ℤ, List, Some, None, sym, ap, ◌∙◌, subst, rules, to_z, of_z, SFits, w32}
 use Rattle.std.proofs.lemmas.Int.{to_z-of_z}
 use Rattle.kind_core.specs.declared.kinds.Attr.{Attr}
 use Rattle.kind_core.specs.declared.values.Value as value
@@ -6,7 +6,6 @@ use Rattle.cmd_words.specs.declared.commands.Command.{Command}
 use Rattle.cmd_words.specs.declared.commands.ConfigOption.{ConfigOption}
 use Rattle.cmd_words.specs.declared.commands.PlaceOption.{PlaceOption}
 use Rattle.cmd_words.specs.declared.replies.Reply.TheVariants.{NoEvent}
-use Rattle.desk_model.specs.Desk.{Desk}
 use Rattle.desk_model.specs.Commands.{row_step}
 use Rattle.desk_model.specs.Making.{step_new, step_set, step_get, step_drop}
 use Rattle.desk_model.specs.Hanging.{step_place, step_lift, step_column, step_line}

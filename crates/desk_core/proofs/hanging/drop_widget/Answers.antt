@@ -1,8 +1,7 @@
-use Rattle.std.proofs.Common.{◌≡◌, ℕ, ◌||◌, Some, None, true, false, is_some, refl, sym, ap, ◌∙◌, subst}
+use Rattle.std.proofs.Common.{◌≡◌, ◌||◌, Some, None, true, false, refl, sym, ap, ◌∙◌, subst}
 use Rattle.std.proofs.lemmas.Bool.{or_right}
 use Rattle.std.specs.Option.{option_map}
 use Rattle.cmd_words.specs.declared.replies.Refusal.TheVariants as told
-use Rattle.desk_model.specs.Rows.{Row}
 use Rattle.desk_model.specs.Trees.{is_used}
 use Rattle.desk_model.specs.Desk.{is_open}
 use Rattle.desk_model.specs.Making.{step_drop}

@@ -1,18 +1,17 @@
-use Rattle.std.proofs.Common.{◌≡◌, ℕ, not, ◌&&◌, List, Option, Some, None, true, false, is_some, refl, sym, ap, ap₂, ◌∙◌, subst}
+use Rattle.std.proofs.Common.{◌≡◌, ℕ, ◌&&◌, List, Option, Some, None, true, false, refl, sym, ap, ap₂, ◌∙◌, subst}
 use Rattle.std.proofs.lemmas.Bool.{true≢false}
-use Rattle.std.specs.Option.{option_map, option_map_or, option_and_then}
+use Rattle.std.specs.Option.{option_map, option_map_or}
 use Rattle.kind_core.specs.declared.kinds.Kind.{Kind}
 use Rattle.kind_core.specs.declared.shapes.Cell.{Cell}
 use Rattle.cmd_words.specs.declared.replies.Reply.TheVariants.{Done, Refused}
 use Rattle.cmd_words.specs.declared.replies.Refusal.TheVariants.{NoSuchName, WrongKind}
-use Rattle.tree_core.specs.Refusals.{attach_refusal, attach_answer}
 use Rattle.desk_model.specs.Rows.{Row, with_spot}
 use Rattle.desk_model.specs.Named.{row_named}
-use Rattle.desk_model.specs.Trees.{hangs, has_children, can_be_child}
+use Rattle.desk_model.specs.Trees.{has_children, can_be_child}
 use Rattle.desk_model.specs.Planted.{takes_cell}
 use Rattle.desk_model.specs.PlaceOptions.{places_refusal, cell_given}
 use Rattle.desk_model.specs.Hanging.{step_place}
-use Rattle.desk_model.specs.Widgets.{Widgets, rows_of, row_at, row_kind, row_client, edited}
+use Rattle.desk_model.specs.Widgets.{Widgets, rows_of, row_kind, edited}
 use Rattle.desk_model.specs.Links.{name_at}
 use Rattle.desk_core.specs.Did.{Did, with_rows}
 use Rattle.desk_core.specs.Told.{told_attach}
