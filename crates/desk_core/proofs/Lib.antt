@@ -13,3 +13,7 @@ pub mod LinkTells
 pub mod SetTells
 pub mod WindowPlaces
 pub mod Leaving
+pub mod HangSteps
+pub mod LiftSteps
+pub mod DropSteps
+pub mod Departing

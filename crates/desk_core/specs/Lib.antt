@@ -4,6 +4,5 @@ pub mod Did
 pub mod Finding
 pub mod Told
 pub mod Ruling
-pub mod Ready
 pub mod Given
 pub mod Open

@@ -6,9 +6,9 @@ ghost use Rattle.desk_model.specs.Commands.{row_step};
 ghost use Rattle.desk_core.specs.Standing.{IsStanding};
 ghost use Rattle.desk_model.specs.Refusing.{is_memory};
 ghost use Rattle.desk_core.specs.Did.{DidAll, TellsAll};
-ghost use Rattle.desk_core.specs.Ready.{is_ready};
 
 use crate::answer::Answer;
+use crate::hanging::{drop_widget, lift, place};
 use crate::linking::{bind, link, unlink};
 use crate::making::{get, make, set};
 use crate::opening::open_window;
@@ -21,7 +21,6 @@ use tree_core::Tree;
 pub(crate) fn obey(tree: &mut Tree, windows: &mut Stack, client: u32, command: &Command) -> Answer
     requires standing { IsStanding tree.old.clients tree.old windows.old }
     requires connected { is_joined tree.old.clients client ≡ true }
-    requires ready { is_ready command.now ≡ true }
     ensures tells { TellsAll tree.old tree.new windows.old windows.new result.changed }
     ensures did { DidAll (λ desk. row_step desk client command.now (is_memory result.reply)) tree.old tree.new windows.old windows.new result.reply }
 {
@@ -29,6 +28,12 @@ pub(crate) fn obey(tree: &mut Tree, windows: &mut Stack, client: u32, command: &
         Command::New { name, kind } => make(tree, client, name, *kind),
         Command::Set { name, options } => set(tree, client, name, options.as_slice()),
         Command::Get { name, attr } => get(tree, client, name, *attr),
+        Command::Place {
+            parent,
+            child,
+            options,
+        } => place(tree, client, parent, child, options.as_slice()),
+        Command::Lift { parent, child } => lift(tree, client, parent, child),
         Command::ColumnConfig {
             name,
             index,
@@ -44,6 +49,7 @@ pub(crate) fn obey(tree: &mut Tree, windows: &mut Stack, client: u32, command: &
         Command::Bind { name, event, tag } => bind(tree, client, name, *event, Some(*tag)),
         Command::Unbind { name, event } => bind(tree, client, name, *event, None),
         Command::OpenWindow { name } => open_window(tree, windows, client, name),
+        Command::DropWidget { name } => drop_widget(tree, windows, client, name),
         _ => Answer {
             reply: Reply::NoEvent,
             changed: false,

@@ -1,15 +1,14 @@
 ghost use Rattle.std.specs.Prelude.{◌≡◌, ◌<◌, ◌≤◌, ◌↔◌, IsSome, true, false, [], length};
 ghost use Rattle.desk_model.specs.Desk.{opening_desk};
-ghost use Rattle.desk_model.specs.Clients.{step_connect, step_hello};
+ghost use Rattle.desk_model.specs.Clients.{step_bye, step_connect, step_hello};
 ghost use Rattle.desk_model.specs.Commands.{is_built, step};
 ghost use Rattle.desk_core.specs.Standing.{TellsChange};
 ghost use Rattle.desk_model.specs.Refusing.{is_memory};
 ghost use Rattle.desk_core.specs.Open.{window_at};
-ghost use Rattle.desk_core.specs.Ready.{is_ready};
 
 use crate::clients::Clients;
 use crate::commands::obey;
-use crate::opening::place_of;
+use crate::opening::{close_windows, place_of};
 use cmd_words::{Command, Refusal, Reply};
 use kind_core::Shape;
 use stack_core::Stack;
@@ -104,7 +103,6 @@ impl Desk {
         requires low { 1 ≤ client }
         requires high { client ≤ 16 }
         requires built { is_built command.now ≡ true }
-        requires ready { is_ready command.now ≡ true }
         requires bare { payload.now ≡ [] }
         ensures changed { TellsChange self.old self.new }
         ensures step { (result, self.new.desk) ≡ step self.old.desk client command.now (is_memory result) }
@@ -116,6 +114,24 @@ impl Desk {
         let answer = obey(&mut self.tree, &mut self.windows, client, command);
         self.changed = answer.changed;
         answer.reply
+    }
+
+    /// A client, 1 to 16, leaves with its windows and widgets. Refuses NotConnected where it isn't connected.
+    /// See docs/GUIDE.md, "Commands".
+    #[tactic(auto, unfolding(desk_model::specs::Clients::step_bye))]
+    pub fn bye(&mut self, client: u32) -> Reply
+        requires low { 1 ≤ client }
+        requires high { client ≤ 16 }
+        ensures step { (result, self.new.desk) ≡ step_bye self.old.desk client }
+    {
+        self.changed = false;
+        if !self.clients.has(client) {
+            return Reply::Refused(Refusal::NotConnected);
+        }
+        close_windows(&self.tree, &mut self.windows, client);
+        self.tree.drop_client(client);
+        self.clients.leave(client);
+        Reply::Done
     }
 
     /// The place of the open window with that index, counted from 0 at the top: x, y, width and height in

@@ -6,6 +6,7 @@ mod clients;
 mod commands;
 mod desk;
 mod finding;
+mod hanging;
 mod linking;
 mod making;
 mod opening;

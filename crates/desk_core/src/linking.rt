@@ -37,7 +37,7 @@ fn can_lead(kind: Kind, other: Kind) -> bool
 }
 
 /// Whether this is the widget of that number.
-fn is_number(found: Option<Id>, key: u32) -> bool
+pub(crate) fn is_number(found: Option<Id>, key: u32) -> bool
     ensures { IsTrue result ↔ (option_map (λ id. id.key) found ≡ Some key) }
 {
     match found {

@@ -4,10 +4,11 @@ use Rattle.kind_core.specs.declared.kinds.Attr.{Attr}
 use Rattle.kind_core.specs.declared.values.Value as value
 use Rattle.cmd_words.specs.declared.commands.Command.{Command}
 use Rattle.cmd_words.specs.declared.commands.ConfigOption.{ConfigOption}
+use Rattle.cmd_words.specs.declared.commands.PlaceOption.{PlaceOption}
 use Rattle.cmd_words.specs.declared.replies.Reply.TheVariants.{NoEvent}
 use Rattle.desk_model.specs.Commands.{row_step}
-use Rattle.desk_model.specs.Making.{step_new, step_set, step_get}
-use Rattle.desk_model.specs.Hanging.{step_column, step_line}
+use Rattle.desk_model.specs.Making.{step_new, step_set, step_get, step_drop}
+use Rattle.desk_model.specs.Hanging.{step_place, step_lift, step_column, step_line}
 use Rattle.desk_model.specs.Linking.{step_link, step_unlink, step_bind, step_open}
 use Rattle.desk_model.specs.Refusing.{is_memory}
 use Rattle.desk_core.specs.Did.{Did}
@@ -35,6 +36,20 @@ returns-in-Get-clause-did c =
     obeyed c.args.client c.args.command.now (λ desk. step_get desk c.args.client c.in-Get.name c.in-Get.attr) c.args.tree.now c.args.tree.now c.args.windows.now c.get.result.reply
     (λ desk. ap (λ (command : Command). row_step desk c.args.client command (is_memory c.get.result.reply)) (sym c.in-Get.is))
     c.get.ensures.did c.requires.standing c.get.ensures.valid
+
+pub returns-in-Place-clause-did : goal.returns-in-Place-clause-did
+unfolding row_step
+returns-in-Place-clause-did c =
+    obeyed c.args.client c.args.command.now (λ desk. step_place desk c.args.client c.in-Place.parent c.in-Place.child c.as_slice-in-Place.result.now) c.args.tree.now c.place.new.tree c.args.windows.now c.place.result.reply
+    (λ desk. ap (λ (options : List (PlaceOption × ℤ)). step_place desk c.args.client c.in-Place.parent c.in-Place.child options) c.as_slice-in-Place.ensures.items ∙ ap (λ (command : Command). row_step desk c.args.client command (is_memory c.place.result.reply)) (sym c.in-Place.is))
+    c.place.ensures.did c.requires.standing c.place.ensures.valid
+
+pub returns-in-Lift-clause-did : goal.returns-in-Lift-clause-did
+unfolding row_step
+returns-in-Lift-clause-did c =
+    obeyed c.args.client c.args.command.now (λ desk. step_lift desk c.args.client c.in-Lift.parent c.in-Lift.child) c.args.tree.now c.lift.new.tree c.args.windows.now c.lift.result.reply
+    (λ desk. ap (λ (command : Command). row_step desk c.args.client command (is_memory c.lift.result.reply)) (sym c.in-Lift.is))
+    c.lift.ensures.did c.requires.standing c.lift.ensures.valid
 
 pub returns-in-ColumnConfig-clause-did : goal.returns-in-ColumnConfig-clause-did
 unfolding row_step
@@ -91,12 +106,19 @@ returns-in-OpenWindow-clause-did c =
     (λ desk. ap (λ (command : Command). row_step desk c.args.client command (is_memory c.open_window.result.reply)) (sym c.in-OpenWindow.is))
     c.open_window.ensures.did
 
+pub returns-in-DropWidget-clause-did : goal.returns-in-DropWidget-clause-did
+unfolding row_step
+returns-in-DropWidget-clause-did c =
+    row_did c.args.client c.args.command.now (λ desk. step_drop desk c.args.client c.in-DropWidget.name) c.args.tree.now c.drop_widget.new.tree c.args.windows.now c.args.windows.now c.drop_widget.result.reply
+    (λ desk. ap (λ (command : Command). row_step desk c.args.client command (is_memory c.drop_widget.result.reply)) (sym c.in-DropWidget.is))
+    c.drop_widget.ensures.did
+
 pub returns-in_default-clause-did : goal.returns-in_default-clause-did
 unfolding row_step
 returns-in_default-clause-did c =
     let rest = c.in_default in
     row_did c.args.client c.args.command.now (λ desk. (NoEvent, desk)) c.args.tree.now c.args.tree.now c.args.windows.now c.args.windows.now NoEvent
-    (λ desk. sym (rest_step desk c.args.client c.args.command.now (is_memory NoEvent) c.requires.ready rest.not-New rest.not-Set rest.not-Get rest.not-ColumnConfig rest.not-RowConfig rest.not-Link rest.not-Unlink rest.not-Bind rest.not-Unbind rest.not-OpenWindow))
+    (λ desk. sym (rest_step desk c.args.client c.args.command.now (is_memory NoEvent) rest.not-New rest.not-Set rest.not-Get rest.not-Place rest.not-Lift rest.not-ColumnConfig rest.not-RowConfig rest.not-Link rest.not-Unlink rest.not-Bind rest.not-Unbind rest.not-OpenWindow rest.not-DropWidget))
     (nothing_all c.args.tree.now c.args.windows.now c.requires.standing)
 
 pub returns-in-New-clause-tells : goal.returns-in-New-clause-tells
@@ -106,6 +128,14 @@ returns-in-New-clause-tells c =
 pub returns-in-Set-clause-tells : goal.returns-in-Set-clause-tells
 returns-in-Set-clause-tells c =
     tells_all _ c.args.tree.now c.set.new.tree c.args.windows.now c.set.result.reply c.set.result.changed c.set.ensures.did c.requires.standing.windows c.set.ensures.tells
+
+pub returns-in-Place-clause-tells : goal.returns-in-Place-clause-tells
+returns-in-Place-clause-tells c =
+    tells_all _ c.args.tree.now c.place.new.tree c.args.windows.now c.place.result.reply c.place.result.changed c.place.ensures.did c.requires.standing.windows c.place.ensures.tells
+
+pub returns-in-Lift-clause-tells : goal.returns-in-Lift-clause-tells
+returns-in-Lift-clause-tells c =
+    tells_all _ c.args.tree.now c.lift.new.tree c.args.windows.now c.lift.result.reply c.lift.result.changed c.lift.ensures.did c.requires.standing.windows c.lift.ensures.tells
 
 pub returns-in-ColumnConfig-clause-tells : goal.returns-in-ColumnConfig-clause-tells
 returns-in-ColumnConfig-clause-tells c =

@@ -1,0 +1,138 @@
+-- The steps of hanging a widget in another, taking it out and removing it.
+use Rattle.std.proofs.Common.{◌≡◌, ℕ, ◌+◌, ◌≤◌, ℤ, pos, negsuc, unsigned_abs, Bool, true, false, cond, not, ◌&&◌, nat_le, nat_lt, List, [], ◌∷◌, map, Option, Some, None, is_some, refl, sym, ap, ◌∙◌, arith}
+use Rattle.std.proofs.lemmas.Bool.{true≢false, leb-true, le-leb, eq-eqb, and_parts, and_from}
+use Rattle.std.specs.Option.{option_map, option_map_or, option_and_then}
+use Rattle.kind_core.specs.declared.kinds.Kind.{Kind}
+use Rattle.kind_core.specs.declared.kinds.Kind.TheVariants.{Window, Grid, Frame}
+use Rattle.kind_core.specs.declared.shapes.Cell.{Cell}
+use Rattle.cmd_words.specs.declared.commands.PlaceOption.{PlaceOption}
+use Rattle.cmd_words.specs.declared.commands.PlaceOption.TheVariants as given
+use Rattle.cmd_words.specs.declared.replies.Refusal.{Refusal}
+use Rattle.cmd_words.specs.declared.replies.Refusal.TheVariants.{WrongKind, BadValue, HasParent, Cycle, TooDeep, CellTaken}
+use Rattle.tree_core.specs.declared.refusal.AttachRefusal.{AttachRefusal}
+use Rattle.tree_core.specs.declared.refusal.AttachRefusal.TheVariants as attach
+use Rattle.tree_core.specs.Refusals.{attach_refusal, attach_answer}
+use Rattle.desk_model.specs.Rows.{Row, with_spot}
+use Rattle.desk_model.specs.Widgets.{Widgets, rows_of}
+use Rattle.desk_model.specs.Named.{row_named, is_kind_of}
+use Rattle.desk_model.specs.Trees.{hangs, has_children, can_be_child, child_in, depth_of, height_of, is_above, most_levels}
+use Rattle.desk_model.specs.Planted.{is_cell, takes_cell}
+use Rattle.desk_model.specs.Desk.{Desk}
+use Rattle.desk_model.specs.Refusing.{when, first_refusal, outcome, unless_there}
+use Rattle.desk_model.specs.PlaceOptions.{unless_within, last_cell, place_refusal, places_refusal, first_cell, with_place, with_places, cell_given}
+use Rattle.desk_model.specs.Hanging.{place_effect, step_place}
+use Rattle.desk_core.specs.Did.{IsFound, with_rows}
+use Rattle.desk_core.specs.Told.{told_attach}
+use Rattle.desk_core.proofs.Dids.{found-parts}
+
+-- the refusals that come after those of the options
+abbrev pub last_refusals : List Row → ℕ → List ℕ → List ℕ → Bool → Cell → List (Option Refusal)
+last_refusals rows client parent child hung cell =
+    when hung HasParent
+    ∷ when (is_above rows client child parent) Cycle
+    ∷ when (nat_lt most_levels (depth_of rows client parent + height_of rows client child)) TooDeep
+    ∷ when (is_some (child_in rows client parent cell.column cell.row)) CellTaken
+    ∷ []
+
+pub step_place-by : (desk : Desk) (client : ℕ) (parent child : List ℕ) (options : List (PlaceOption × ℤ)) (upper lower : Option Row) → row_named desk.rows client parent ≡ upper → row_named desk.rows client child ≡ lower → step_place desk client parent child options ≡ outcome desk (first_refusal (unless_there upper ∷ unless_there lower ∷ when (not (is_kind_of has_children upper && is_kind_of can_be_child lower)) WrongKind ∷ option_and_then (λ row. places_refusal row.kind options) upper ∷ last_refusals desk.rows client parent child (option_map_or hangs lower false) (cell_given options))) (place_effect desk client parent child options)
+unfolding step_place
+step_place-by desk client parent child options upper lower h k = rw (h, k) refl
+
+-- what the tree refuses is what comes last
+pub last_refusals-attach : (rows : List Row) (client : ℕ) (parent child : List ℕ) (upper lower : Row) (cell : Cell) → (has_children upper.kind && can_be_child lower.kind) ≡ true → upper.client ≡ client → upper.name ≡ parent → lower.client ≡ client → lower.name ≡ child → first_refusal (last_refusals rows client parent child (hangs lower) cell) ≡ option_map told_attach (attach_refusal rows upper lower cell)
+last_refusals-attach rows client parent child upper lower cell right uc un lc ln =
+    by (hangs lower) (is_above rows client child parent) (nat_lt most_levels (depth_of rows client parent + height_of rows client child)) (is_some (child_in rows client parent cell.column cell.row))
+    ∙ sym (rw (right, uc, un, lc, ln) refl)
+  where
+    by : (a b c d : Bool) → first_refusal (when a HasParent ∷ when b Cycle ∷ when c TooDeep ∷ when d CellTaken ∷ []) ≡ option_map told_attach (cond a (Some attach.HasParent) (cond b (Some attach.Cycle) (cond c (Some attach.TooDeep) (cond d (Some attach.CellTaken) None))))
+    by true b c d = refl
+    by false true c d = refl
+    by false false true d = refl
+    by false false false true = refl
+    by false false false false = refl
+
+pub hangs_not : (rows : List Row) (upper lower : Row) (cell : Cell) → attach_refusal rows upper lower cell ≡ None → hangs lower ≡ false
+hangs_not rows upper lower cell h = by (not (has_children upper.kind && can_be_child lower.kind)) (hangs lower) _ h
+  where
+    by : (a b : Bool) (rest : Option AttachRefusal) → cond a (Some attach.WrongKind) (cond b (Some attach.HasParent) rest) ≡ None → b ≡ false
+    by true b rest h = absurd (cc)
+    by false true rest h = absurd (cc)
+    by false false rest h = refl
+
+-- a cell whose numbers are within those of the kind
+last : Kind → ℕ
+last Grid = 16
+last _ = 1
+
+record IsWithin (kind : Kind) (cell : Cell) : Type 0 where
+  column : (1 ≤ cell.column) × (cell.column ≤ last kind)
+  line : (1 ≤ cell.row) × (cell.row ≤ last kind)
+  pad : cell.pad ≤ 16
+
+last_cell-last : (kind : Kind) → last_cell kind ≡ pos (last kind)
+unfolding last
+last_cell-last Grid = refl
+last_cell-last _ = refl
+
+in_ends : (least greatest : ℕ) (n : ℤ) → unless_within (pos least) (pos greatest) n ≡ None → (least ≤ unsigned_abs n) × (unsigned_abs n ≤ greatest)
+in_ends least greatest (pos k) h =
+    let parts = and_parts (nat_le least k) (nat_le k greatest) (by (nat_le least k && nat_le k greatest) h) in
+    (leb-true least k parts.0, leb-true k greatest parts.1)
+  where
+    by : (b : Bool) → when (not b) (BadValue (pos least) (pos greatest)) ≡ None → b ≡ true
+    by true h = refl
+    by false h = absurd (cc)
+in_ends least greatest (negsuc k) h = absurd (cc)
+
+option_within : (kind : Kind) (option : PlaceOption × ℤ) (cell : Cell) → place_refusal kind option ≡ None → IsWithin kind cell → IsWithin kind (with_place option cell)
+option_within kind (given.Column, n) cell h old = record { column = in_ends 1 (last kind) n (ap (λ (z : ℤ). unless_within (pos 1) z n) (sym (last_cell-last kind)) ∙ h); line = old.line; pad = old.pad }
+option_within kind (given.Row, n) cell h old = record { column = old.column; line = in_ends 1 (last kind) n (ap (λ (z : ℤ). unless_within (pos 1) z n) (sym (last_cell-last kind)) ∙ h); pad = old.pad }
+option_within kind (given.Pad, n) cell h old = record { column = old.column; line = old.line; pad = (in_ends 0 16 n h).1 }
+
+options_within : (kind : Kind) (options : List (PlaceOption × ℤ)) (cell : Cell) → places_refusal kind options ≡ None → IsWithin kind cell → IsWithin kind (with_places options cell)
+options_within kind [] cell h old = old
+options_within kind (option ∷ options) cell h old = by (options_within kind options (with_place option cell)) (place_refusal kind option) refl h
+  where
+    by : (places_refusal kind options ≡ None → IsWithin kind (with_place option cell) → IsWithin kind (with_places options (with_place option cell))) → (o : Option Refusal) → place_refusal kind option ≡ o → first_refusal (o ∷ map (place_refusal kind) options) ≡ None → IsWithin kind (with_places options (with_place option cell))
+    by rest None p h = rest h (option_within kind option cell p old)
+    by rest (Some refusal) p h = absurd (cc)
+
+first_within : (kind : Kind) → IsWithin kind first_cell
+unfolding last
+first_within Grid = record { column = (omega arith, omega arith); line = (omega arith, omega arith); pad = omega arith }
+first_within _ = record { column = (omega arith, omega arith); line = (omega arith, omega arith); pad = omega arith }
+
+cell_ok : (cell : Cell) → 1 ≤ cell.column → cell.column ≤ 16 → 1 ≤ cell.row → cell.row ≤ 16 → cell.pad ≤ 16 → is_cell cell ≡ true
+cell_ok cell a b c d e = and_from _ _ (and_from _ _ (le-leb 1 cell.column a) (le-leb cell.column 16 b)) (and_from _ _ (and_from _ _ (le-leb 1 cell.row c) (le-leb cell.row 16 d)) (le-leb cell.pad 16 e))
+
+within_takes : (kind : Kind) (cell : Cell) → IsWithin kind cell → takes_cell kind cell ≡ true
+unfolding last
+within_takes Window cell w = and_from _ _ (cell_ok cell w.column.0 (omega (arith, w.column.1)) w.line.0 (omega (arith, w.line.1)) w.pad) (and_from _ _ (eq-eqb cell.column 1 (omega (arith, w.column.0, w.column.1))) (eq-eqb cell.row 1 (omega (arith, w.line.0, w.line.1))))
+within_takes Frame cell w = and_from _ _ (cell_ok cell w.column.0 (omega (arith, w.column.1)) w.line.0 (omega (arith, w.line.1)) w.pad) (and_from _ _ (eq-eqb cell.column 1 (omega (arith, w.column.0, w.column.1))) (eq-eqb cell.row 1 (omega (arith, w.line.0, w.line.1))))
+within_takes Grid cell w = cell_ok cell w.column.0 w.column.1 w.line.0 w.line.1 w.pad
+within_takes _ cell w = cell_ok cell w.column.0 (omega (arith, w.column.1)) w.line.0 (omega (arith, w.line.1)) w.pad
+
+pub given_takes : (kind : Kind) (options : List (PlaceOption × ℤ)) → places_refusal kind options ≡ None → takes_cell kind (cell_given options) ≡ true
+given_takes kind options h = within_takes kind (cell_given options) (options_within kind options first_cell h (first_within kind))
+
+pub attach_refusal-is : (w : Widgets) (client : ℕ) (parent child : List ℕ) (options : List (PlaceOption × ℤ)) (key key' : ℕ) (kind kind' : Kind) (upper : IsFound w client parent key kind) (lower : IsFound w client child key' kind') (cell : Cell) (answer : Option AttachRefusal) → cell ≡ cell_given options → attach_answer w key key' cell ≡ Some answer → attach_refusal (rows_of w) upper.row lower.row (cell_given options) ≡ answer
+attach_refusal-is w client parent child options key key' kind kind' upper lower cell answer is answered =
+    let there : attach_answer w key key' (cell_given options) ≡ Some (attach_refusal (rows_of w) upper.row lower.row (cell_given options)) = rw (upper.there, lower.there) refl in
+    let some : Some (attach_refusal (rows_of w) upper.row lower.row (cell_given options)) ≡ Some answer = sym there ∙ ap (attach_answer w key key') (sym is) ∙ answered in
+    cc
+
+-- the answer of `place` where its options are within their ranges
+pub place_answer : (w : Widgets) (client : ℕ) (parent child : List ℕ) (options : List (PlaceOption × ℤ)) (key key' : ℕ) (kind kind' : Kind) (upper : IsFound w client parent key kind) (lower : IsFound w client child key' kind') (cell : Cell) (answer : Option AttachRefusal) → (has_children kind && can_be_child kind') ≡ true → places_refusal kind options ≡ None → cell ≡ cell_given options → attach_answer w key key' cell ≡ Some answer → (desk : Desk) → step_place (with_rows (rows_of w) desk) client parent child options ≡ outcome (with_rows (rows_of w) desk) (option_map told_attach answer) (place_effect (with_rows (rows_of w) desk) client parent child options)
+place_answer w client parent child options key key' kind kind' upper lower cell answer suits fit is answered desk =
+    let right : (has_children upper.row.kind && can_be_child lower.row.kind) ≡ true = rw (upper.has, lower.has) suits in
+    let none : places_refusal upper.row.kind options ≡ None = ap (λ (k : Kind). places_refusal k options) upper.has ∙ fit in
+    let one = found-parts w client parent key kind upper in
+    let two = found-parts w client child key' kind' lower in
+    step_place-by (with_rows (rows_of w) desk) client parent child options (Some upper.row) (Some lower.row) upper.named lower.named
+    ∙ rw (right, none) refl
+    ∙ ap (λ (r : Option Refusal). outcome (with_rows (rows_of w) desk) r (place_effect (with_rows (rows_of w) desk) client parent child options))
+    (last_refusals-attach (rows_of w) client parent child upper.row lower.row (cell_given options) right one.0 one.1 two.0 two.1 ∙ ap (option_map told_attach) (attach_refusal-is w client parent child options key key' kind kind' upper lower cell answer is answered))
+
+-- where the child was hung it isn't as it was
+pub spot_differs : (row : Row) (parent : List ℕ) (cell : Cell) → hangs row ≡ false → with_spot (Some (parent, cell)) row ≡ row → ⊥
+spot_differs row parent cell free same = true≢false (ap hangs same ∙ free)
