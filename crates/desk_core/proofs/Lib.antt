@@ -13,3 +13,4 @@ pub mod LinkTells
 pub mod SetTells
 pub mod WindowPlaces
 pub mod Leaving
+pub mod Valid

@@ -6,6 +6,7 @@ mod clients;
 mod commands;
 mod desk;
 mod finding;
+pub mod laws;
 mod linking;
 mod making;
 mod opening;
