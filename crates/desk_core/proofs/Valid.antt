@@ -9,7 +9,7 @@ use Rattle.desk_model.specs.Rows.{Row}
 use Rattle.desk_model.specs.Nodes.{Node, node_of, node_at, any_kind, counts_with}
 use Rattle.desk_model.specs.Named.{row_named, is_kind_of}
 use Rattle.desk_model.specs.Widgets.{Widgets, nodes, row_at, rows_of, is_joined}
-use Rattle.desk_model.specs.Forest.{IsForest}
+use Rattle.desk_model.specs.Forest.{IsForest, IsWidgets}
 use Rattle.desk_model.specs.Desk.{is_window}
 use Rattle.desk_model.specs.DeskFacts.{AreOpenOnce, IsDesk}
 use Rattle.desk_model.specs.Linking.{is_window_kind}
@@ -92,3 +92,15 @@ IsDesk-parts shape joined widgets keys kept =
       windows = windows-named widgets keys forest kept.windows;
       once = AreOpenOnce-windows_at widgets keys forest kept.windows kept.stack.distinct;
     }
+
+-- where the rows are as they were, as where a client connects
+pub IsDesk-same_entries : (shape : Shape) (joined : List ℕ) (old new : Widgets) (keys : List ℕ) → IsStanding joined old keys → IsWidgets new → new.entries ≡ old.entries → IsDesk (desk_of shape new keys)
+IsDesk-same_entries shape joined old new keys kept tree same =
+    IsDesk-parts shape new.clients new keys
+    (record {
+      clients = refl;
+      tree = tree;
+      stack = kept.stack;
+      windows = rw same kept.windows;
+      rules = rw same kept.rules;
+    })
