@@ -17,3 +17,4 @@ pub mod HangSteps
 pub mod LiftSteps
 pub mod DropSteps
 pub mod Departing
+pub mod Valid

@@ -7,6 +7,7 @@ mod commands;
 mod desk;
 mod finding;
 mod hanging;
+pub mod laws;
 mod linking;
 mod making;
 mod opening;
