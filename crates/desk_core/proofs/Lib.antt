@@ -18,3 +18,4 @@ pub mod LiftSteps
 pub mod DropSteps
 pub mod Departing
 pub mod Valid
+pub mod ByeTells

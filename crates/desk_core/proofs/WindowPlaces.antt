@@ -6,12 +6,16 @@ use Rattle.std.specs.Option.{option_map, option_and_then}
 use Rattle.kind_core.specs.declared.shapes.Shape.{Shape}
 use Rattle.desk_model.specs.Rows.{Row}
 use Rattle.desk_model.specs.Nodes.{Node, node_of, node_at}
-use Rattle.desk_model.specs.Named.{row_named}
+use Rattle.desk_model.specs.Named.{row_named, is_kind_of}
 use Rattle.desk_model.specs.Widgets.{Widgets, nodes, rows_of, row_at}
 use Rattle.desk_model.proofs.Naming.{row_named-found, id_named-row}
 use Rattle.tree_core.proofs.ForestLemmas.{node_at-nodes}
 use Rattle.desk_core.specs.Standing.{title_at, windows_at, desk_of, names_window, IsStanding}
 use Rattle.desk_core.specs.Open.{place_in, window_at}
+use Rattle.desk_model.specs.declared.window.Window.{Window}
+use Rattle.desk_model.specs.Desk.{Desk}
+use Rattle.desk_model.specs.Linking.{is_window_kind}
+use Rattle.desk_model.specs.OpenWindows.{open_windows, place_of_window, place_of_row}
 
 slice_get-map : {X Y : Type 0} (f : X → Y) (xs : List X) (i : ℕ) → slice_get (map f xs) i ≡ option_map f (slice_get xs i)
 slice_get-map f [] i = refl
@@ -72,3 +76,23 @@ index_within ns keys i key there = slice_get-within (windows_at ns keys) i (titl
 
 pub index_past : (ns : List (ℕ × Node)) (keys : List ℕ) (i : ℕ) → slice_get keys i ≡ None → length (windows_at ns keys) ≤ i
 index_past ns keys i past = slice_get-past (windows_at ns keys) i (slice_get-map (title_at ns) keys i ∙ ap (option_map (title_at ns)) past)
+
+-- the places of the open windows, one after another
+open_at : (rows : List Row) (windows : List (ℕ × List ℕ)) (index : ℕ) → list_all (λ (window : ℕ × List ℕ). is_kind_of is_window_kind (row_named rows window.0 window.1)) windows ≡ true → option_map (λ (w : Window). (w.x, w.y, w.w, w.h)) (slice_get (map (place_of_window rows) windows) index) ≡ option_and_then (λ (window : ℕ × List ℕ). option_map place_in (row_named rows window.0 window.1)) (slice_get windows index)
+open_at rows [] index all = refl
+open_at rows (window ∷ windows) zero all =
+    by (row_named rows window.0 window.1) (and_parts (is_kind_of is_window_kind (row_named rows window.0 window.1)) (list_all (λ (window : ℕ × List ℕ). is_kind_of is_window_kind (row_named rows window.0 window.1)) windows) all).0
+  where
+    by : (o : Option Row) → is_kind_of is_window_kind o ≡ true → Some ((place_of_row o).x, (place_of_row o).y, (place_of_row o).w, (place_of_row o).h) ≡ option_map place_in o
+    by None h = absurd (true≢false (sym h))
+    by (Some row) h = refl
+open_at rows (window ∷ windows) (suc index) all =
+    open_at rows windows index (and_parts (is_kind_of is_window_kind (row_named rows window.0 window.1)) (list_all (λ (window : ℕ × List ℕ). is_kind_of is_window_kind (row_named rows window.0 window.1)) windows) all).1
+
+pub window_at-open : (desk : Desk) (index : ℕ) → list_all (λ (window : ℕ × List ℕ). is_kind_of is_window_kind (row_named desk.rows window.0 window.1)) desk.windows ≡ true → window_at desk index ≡ option_map (λ (w : Window). (w.x, w.y, w.w, w.h)) (slice_get (open_windows desk) index)
+unfolding open_windows
+window_at-open desk index all = sym (open_at desk.rows desk.windows index all)
+
+pub length-windows_at : (ns : List (ℕ × Node)) (keys : List ℕ) → length (windows_at ns keys) ≡ length keys
+length-windows_at ns [] = refl
+length-windows_at ns (key ∷ keys) = ap suc (length-windows_at ns keys)

@@ -1,17 +1,11 @@
 -- Where an open window stands.
-use Rattle.std.specs.Prelude.{ℕ, ℤ, pos, unsigned_abs, Option, Some, slice_get}
+use Rattle.std.specs.Prelude.{ℕ, ℤ, unsigned_abs, Option, slice_get}
 use Rattle.std.specs.Option.{option_map, option_and_then}
 use Rattle.kind_core.specs.declared.kinds.Attr.TheVariants.{X, Y, W, H}
-use Rattle.kind_core.specs.declared.values.Value as value
-use Rattle.kind_core.specs.declared.values.Value.TheVariants.{Number}
 use Rattle.desk_model.specs.Rows.{Row, attr_of}
 use Rattle.desk_model.specs.Named.{row_named}
 use Rattle.desk_model.specs.Desk.{Desk}
-
--- the number that is the value, 0 where there is none
-abbrev pub number_in : Option value.Value → ℤ
-number_in (Some (Number n)) = n
-number_in _ = pos 0
+use Rattle.desk_model.specs.OpenWindows.{number_in}
 
 -- the row's x, y, width and height
 abbrev pub place_in : Row → ℤ × ℤ × ℕ × ℕ

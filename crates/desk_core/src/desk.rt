@@ -1,10 +1,12 @@
-ghost use Rattle.std.specs.Prelude.{◌≡◌, ◌<◌, ◌≤◌, ◌↔◌, IsSome, true, false, [], length};
+ghost use Rattle.std.specs.Prelude.{◌≡◌, ◌<◌, ◌≤◌, ◌↔◌, IsSome, true, false, [], length, slice_get};
+ghost use Rattle.std.specs.Option.{option_map};
 ghost use Rattle.desk_model.specs.Desk.{opening_desk};
+ghost use Rattle.desk_model.specs.DeskFacts.{IsDesk};
+ghost use Rattle.desk_model.specs.OpenWindows.{open_windows};
 ghost use Rattle.desk_model.specs.Clients.{step_bye, step_connect, step_hello};
 ghost use Rattle.desk_model.specs.Commands.{is_built, step};
 ghost use Rattle.desk_core.specs.Standing.{TellsChange};
 ghost use Rattle.desk_model.specs.Refusing.{is_memory};
-ghost use Rattle.desk_core.specs.Open.{window_at};
 
 use crate::clients::Clients;
 use crate::commands::obey;
@@ -42,6 +44,7 @@ impl Desk {
     /// A desk with no clients. See docs/MACHINE.md, "The desk".
     pub fn new(alloc: Global, shape: Shape) -> Desk
         ensures opening { result.desk ≡ opening_desk shape }
+        ensures valid { IsDesk result.desk }
         ensures changed { result.changed ≡ false }
     {
         Desk {
@@ -60,6 +63,7 @@ impl Desk {
         requires low { 1 ≤ client }
         requires high { client ≤ 16 }
         ensures step { (result, self.new.desk) ≡ step_connect self.old.desk client (is_memory result) }
+        ensures valid { IsDesk self.new.desk }
         ensures changed { TellsChange self.old self.new }
         ensures unchanged { self.new.changed ≡ false }
     {
@@ -80,6 +84,7 @@ impl Desk {
     #[tactic(auto, unfolding(desk_model::specs::Clients::step_hello))]
     pub fn hello(&mut self) -> Reply
         ensures step { (result, self.new.desk) ≡ step_hello self.old.desk (is_memory result) }
+        ensures valid { IsDesk self.new.desk }
         ensures changed { TellsChange self.old self.new }
         ensures unchanged { self.new.changed ≡ false }
     {
@@ -106,6 +111,7 @@ impl Desk {
         requires bare { payload.now ≡ [] }
         ensures changed { TellsChange self.old self.new }
         ensures step { (result, self.new.desk) ≡ step self.old.desk client command.now (is_memory result) }
+        ensures valid { IsDesk self.new.desk }
     {
         self.changed = false;
         if !self.clients.has(client) {
@@ -123,22 +129,28 @@ impl Desk {
         requires low { 1 ≤ client }
         requires high { client ≤ 16 }
         ensures step { (result, self.new.desk) ≡ step_bye self.old.desk client }
+        ensures changed { TellsChange self.old self.new }
+        ensures valid { IsDesk self.new.desk }
     {
         self.changed = false;
         if !self.clients.has(client) {
             return Reply::Refused(Refusal::NotConnected);
         }
+        let count = self.tree.count(client);
         close_windows(&self.tree, &mut self.windows, client);
         self.tree.drop_client(client);
         self.clients.leave(client);
+        self.changed = count > 0;
         Reply::Done
     }
 
     /// The place of the open window with that index, counted from 0 at the top: x, y, width and height in
     /// pixels. None exactly at and past the number of open windows. See docs/MACHINE.md, "Windows".
     pub fn window_at(&self, index: usize) -> Option<(i32, i32, u32, u32)>
-        ensures place { result ≡ window_at self.now.desk index }
+        ensures place { result ≡ option_map (λ w. (w.x, w.y, w.w, w.h)) (slice_get (open_windows self.now.desk) index) }
         ensures some { IsSome result ↔ (index < length self.now.desk.windows) }
+        ensures few { length self.now.desk.windows ≤ 128 }
+        ensures valid { IsDesk self.now.desk }
     {
         match self.windows.at(index) {
             Some(key) => Some(place_of(&self.tree, Id { key })),

@@ -39,7 +39,7 @@ fn counts(row: &Row, client: u32, alike: Option<Kind>) -> bool
 }
 
 /// How many widgets the client has: all of them, or those that are counted with a kind.
-fn count_of(store: &Store, client: u32, alike: Option<Kind>) -> usize
+pub(crate) fn count_of(store: &Store, client: u32, alike: Option<Kind>) -> usize
     ensures { result ≡ count_of client (counted alike) (nodes store.now) }
 {
     let mut n = 0;

@@ -3,7 +3,7 @@ ghost use Rattle.std.specs.Option.{option_map, option_map_or, option_and_then};
 ghost use Rattle.std.specs.Result.{result_err};
 ghost use Rattle.kind_core.specs.Attributes.{domain_of, judged};
 ghost use Rattle.desk_model.specs.Rows.{new_row, attr_of, with_attr, column_rule_of, with_column_rule, row_rule_of, with_row_rule, binding_of, with_binding, with_link, with_spot};
-ghost use Rattle.desk_model.specs.Nodes.{id_named};
+ghost use Rattle.desk_model.specs.Nodes.{id_named, count_of, any_kind};
 ghost use Rattle.desk_model.specs.Widgets.{no_widgets, is_joined, row_at, nodes, rows_of, IsLive, IsGrid, KeepsLive, edited, with_new, removed, joined, departed, row_kind, row_client};
 ghost use Rattle.desk_model.specs.Links.{linked_id, name_at};
 ghost use Rattle.desk_model.specs.Forest.{IsWidgets};
@@ -13,7 +13,7 @@ ghost use Rattle.desk_model.specs.Places.{parent_id, child_id, root_id};
 ghost use Rattle.tree_core.specs.Changes.{IsIndex};
 ghost use Rattle.tree_core.specs.Refusals.{add_refusal, AnswersRefusal, attach_answer};
 
-use crate::add::{add_refusal, free_number};
+use crate::add::{add_refusal, count_of, free_number};
 use crate::cells::Cells;
 use crate::change::Change;
 use crate::going_up::{parent_number, root_number};
@@ -109,6 +109,15 @@ impl Tree {
             Ok(()) => Ok(Id { key: id }),
             Err(_) => Err(AddRefusal::NoMemory),
         }
+    }
+
+    /// How many widgets the client, 0 to 16, has.
+    pub fn count(&self, client: u32) -> u32
+        requires { client ≤ 16 }
+        ensures count { result ≡ count_of client any_kind (nodes self.now.entries) }
+        ensures valid { IsWidgets self.now }
+    {
+        count_of(&self.store, client, None) as u32
     }
 
     /// The number of the client's widget of that name, None exactly where there is none.

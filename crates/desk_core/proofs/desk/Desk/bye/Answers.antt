@@ -1,9 +1,16 @@
-use Rattle.std.proofs.Common.{◌≡◌, ℕ, List, not, nat_eq, true, refl, sym, ap, ap₂, ◌∙◌, subst}
+use Rattle.std.proofs.Common.{◌≡◌, ◌↔◌, IsTrue, ℕ, List, not, nat_eq, nat_lt, true, refl, sym, ap, ap₂, ◌∙◌, subst, arith}
+use Rattle.std.proofs.lemmas.Bool.{ltb-true, lt-ltb}
 use Rattle.std.specs.List.{filter}
 use Rattle.stack_core.specs.Stack.{IsStack}
 use Rattle.cmd_words.specs.declared.replies.Reply.TheVariants.{Done}
 use Rattle.desk_model.specs.Widgets.{Widgets, nodes, departed, is_joined}
 use Rattle.desk_model.specs.Forest.{IsWidgets}
+use Rattle.desk_model.specs.Nodes.{any_kind}
+use Rattle.desk_model.specs.Named.{rows_counted}
+use Rattle.desk_model.specs.DeskFacts.{IsDesk}
+use Rattle.desk_model.proofs.Naming.{count_of-nodes}
+use Rattle.desk_core.proofs.Valid.{IsDesk-parts}
+use Rattle.desk_core.proofs.ByeTells.{tells_bye}
 use Rattle.desk_model.specs.Desk.{Desk}
 use Rattle.desk_model.specs.Clients.{step_bye, without_client}
 use Rattle.desk_core.specs.Standing.{Standing, desk_of, is_others, IsStanding}
@@ -25,16 +32,49 @@ invariant_of-self-2 c =
     subst P (sym c.leave.ensures)
     (subst Q (sym c.drop_client.ensures.left) (subst R (sym c.close_windows.ensures.closed) (IsStanding-departed c.self.inside.clients w client c.self.inside.windows c.self.invariant valid stack)))
 
-pub returns : goal.returns
+pub returns-clause-step : goal.returns-clause-step
 unfolding step_bye
-returns c =
+returns-clause-step c =
     let w = c.self.inside.tree in
     let client = c.args.client in
     let there : is_joined w.clients client ≡ true = ap (λ (cs : List ℕ). is_joined cs client) (sym c.self.invariant.clients) ∙ sym c.if-not-has.ensures in
-    record {
-      step =
-          ap₂ (λ (v : Widgets) (ks : List ℕ). (Done, desk_of c.self.inside.shape v ks)) c.drop_client.ensures.left c.close_windows.ensures.closed
-          ∙ ap (λ (d : Desk). (Done, d)) (desk_of-departed c.self.inside.shape w client c.self.inside.windows c.self.invariant.windows)
-          ∙ sym (let steps : step_bye (desk_of c.self.inside.shape w c.self.inside.windows) client ≡ (Done, without_client client (desk_of c.self.inside.shape w c.self.inside.windows)) = rw there refl in steps)
-          ∙ ap (λ (s : Standing). step_bye s.desk client) c.self.view_is;
-    }
+    ap₂ (λ (v : Widgets) (ks : List ℕ). (Done, desk_of c.self.inside.shape v ks)) c.drop_client.ensures.left c.close_windows.ensures.closed
+    ∙ ap (λ (d : Desk). (Done, d)) (desk_of-departed c.self.inside.shape w client c.self.inside.windows c.self.invariant.windows)
+    ∙ sym (let steps : step_bye (desk_of c.self.inside.shape w c.self.inside.windows) client ≡ (Done, without_client client (desk_of c.self.inside.shape w c.self.inside.windows)) = rw there refl in steps)
+    ∙ ap (λ (s : Standing). step_bye s.desk client) c.self.view_is
+
+pub returns-clause-changed : goal.returns-clause-changed
+returns-clause-changed c =
+    let w = c.self.inside.tree in
+    let client = c.args.client in
+    let old = c.args.self.now.desk in
+    let D : Standing → Type 0 = λ s. IsDesk s.desk in
+    let fine = subst D c.self.view_is (IsDesk-parts c.self.inside.shape c.self.inside.clients w c.self.inside.windows c.self.invariant) in
+    let left : desk_of c.self.inside.shape c.drop_client.new.self c.close_windows.new.windows ≡ without_client client old =
+    ap₂ (λ (v : Widgets) (ks : List ℕ). desk_of c.self.inside.shape v ks) c.drop_client.ensures.left c.close_windows.ensures.closed
+    ∙ desk_of-departed c.self.inside.shape w client c.self.inside.windows c.self.invariant.windows
+    ∙ ap (λ (s : Standing). without_client client s.desk) c.self.view_is in
+    let many : c.count-count.result ≡ rows_counted client any_kind old.rows =
+    c.count-count.ensures.count ∙ count_of-nodes w.entries client any_kind ∙ ap (λ (s : Standing). rows_counted client any_kind s.desk.rows) c.self.view_is in
+    let T : Desk → Type 0 = λ d. IsTrue (nat_lt 0 c.count-count.result) ↔ ((d.rows ≡ old.rows) × (d.windows ≡ old.windows) → ⊥) in
+    subst T (sym left)
+    (tells_bye client old.rows old.windows (nat_lt 0 c.count-count.result) (λ h. omega (arith, many, ltb-true 0 c.count-count.result h), λ h. lt-ltb 0 c.count-count.result (omega (arith, many, h))) fine.windows)
+
+pub returns-clause-valid : goal.returns-clause-valid
+returns-clause-valid c =
+    let w = c.self.inside.tree in
+    let client = c.args.client in
+    let keys = filter (is_others (nodes w.entries) client) c.self.inside.windows in
+    let joined = filter (λ other. not (nat_eq client other)) c.self.inside.clients in
+    let V : Widgets → Type 0 = λ v. IsWidgets v in
+    let S : List ℕ → Type 0 = λ ks. IsStack ks in
+    let valid = subst V c.drop_client.ensures.left c.drop_client.ensures.valid in
+    let stack = subst S c.close_windows.ensures.closed c.close_windows.ensures.valid in
+    let Q : Widgets → Type 0 = λ v. IsStanding joined v c.close_windows.new.windows in
+    let R : List ℕ → Type 0 = λ ks. IsStanding joined (departed client w) ks in
+    let kept : IsStanding joined c.drop_client.new.self c.close_windows.new.windows =
+    subst Q (sym c.drop_client.ensures.left) (subst R (sym c.close_windows.ensures.closed) (IsStanding-departed c.self.inside.clients w client c.self.inside.windows c.self.invariant valid stack)) in
+    IsDesk-parts c.self.inside.shape joined c.drop_client.new.self c.close_windows.new.windows kept
+
+pub returns-then-not-has-clause-valid : goal.returns-then-not-has-clause-valid
+returns-then-not-has-clause-valid c = IsDesk-parts _ _ _ _ c.self.invariant

@@ -1,8 +1,10 @@
-use Rattle.std.proofs.Common.{◌<◌, ◌≤◌, length, refl, sym, ap, ◌∙◌, subst, arith}
+use Rattle.std.proofs.Common.{◌≡◌, ◌<◌, ◌≤◌, length, map, refl, sym, ap, ◌∙◌, subst, arith}
 use Rattle.desk_model.specs.Widgets.{nodes}
+use Rattle.desk_model.specs.DeskFacts.{IsDesk}
 use Rattle.desk_core.specs.Standing.{Standing}
 use Rattle.desk_core.specs.Open.{window_at}
-use Rattle.desk_core.proofs.WindowPlaces.{window_live, window_at-key, window_at-past, index_within, index_past}
+use Rattle.desk_core.proofs.Valid.{IsDesk-parts}
+use Rattle.desk_core.proofs.WindowPlaces.{window_live, window_at-key, window_at-past, window_at-open, index_within, index_past, length-windows_at}
 use Rattle.desk_core.proofs.desk.Desk.window_at.Goals as goal
 
 pub place_of-requires : goal.place_of-requires
@@ -10,21 +12,47 @@ place_of-requires c = window_live c.self.inside.tree c.self.inside.windows c.arg
 
 pub returns-in-Some-clause-place : goal.returns-in-Some-clause-place
 returns-in-Some-clause-place c =
+    let D : Standing → Type 0 = λ s. IsDesk s.desk in
+    let fine = subst D c.self.view_is (IsDesk-parts c.self.inside.shape c.self.inside.clients c.self.inside.tree c.self.inside.windows c.self.invariant) in
     sym (window_at-key c.self.inside.shape c.self.inside.tree c.self.inside.clients c.self.inside.windows c.args.index c.in-Some.key c.self.invariant (sym c.in-Some.ensures.key) ∙ c.place_of.ensures)
     ∙ ap (λ (s : Standing). window_at s.desk c.args.index) c.self.view_is
+    ∙ window_at-open c.args.self.now.desk c.args.index fine.windows
 
 pub returns-in-Some-clause-some : goal.returns-in-Some-clause-some
 returns-in-Some-clause-some c =
     let P : Standing → Type 0 = λ s. c.args.index < length s.desk.windows in
     (λ h. subst P c.self.view_is (index_within (nodes c.self.inside.tree.entries) c.self.inside.windows c.args.index c.in-Some.key (sym c.in-Some.ensures.key)), λ h. refl)
 
+pub returns-in-Some-clause-few : goal.returns-in-Some-clause-few
+returns-in-Some-clause-few c =
+    let F : Standing → Type 0 = λ s. length s.desk.windows ≤ 128 in
+    subst F c.self.view_is (omega (arith, length-windows_at (nodes c.self.inside.tree.entries) c.self.inside.windows, c.self.invariant.stack.few))
+
+pub returns-in-Some-clause-valid : goal.returns-in-Some-clause-valid
+returns-in-Some-clause-valid c =
+    let D : Standing → Type 0 = λ s. IsDesk s.desk in
+    subst D c.self.view_is (IsDesk-parts c.self.inside.shape c.self.inside.clients c.self.inside.tree c.self.inside.windows c.self.invariant)
+
 pub returns-in-None-clause-place : goal.returns-in-None-clause-place
 returns-in-None-clause-place c =
+    let D : Standing → Type 0 = λ s. IsDesk s.desk in
+    let fine = subst D c.self.view_is (IsDesk-parts c.self.inside.shape c.self.inside.clients c.self.inside.tree c.self.inside.windows c.self.invariant) in
     sym (window_at-past c.self.inside.shape c.self.inside.tree c.self.inside.windows c.args.index (sym c.in-None.ensures.key))
     ∙ ap (λ (s : Standing). window_at s.desk c.args.index) c.self.view_is
+    ∙ window_at-open c.args.self.now.desk c.args.index fine.windows
 
 pub returns-in-None-clause-some : goal.returns-in-None-clause-some
 returns-in-None-clause-some c =
     let P : Standing → Type 0 = λ s. length s.desk.windows ≤ c.args.index in
     let past = subst P c.self.view_is (index_past (nodes c.self.inside.tree.entries) c.self.inside.windows c.args.index (sym c.in-None.ensures.key)) in
     (λ h. absurd (cc), λ h. absurd (omega (arith, h, past)))
+
+pub returns-in-None-clause-few : goal.returns-in-None-clause-few
+returns-in-None-clause-few c =
+    let F : Standing → Type 0 = λ s. length s.desk.windows ≤ 128 in
+    subst F c.self.view_is (omega (arith, length-windows_at (nodes c.self.inside.tree.entries) c.self.inside.windows, c.self.invariant.stack.few))
+
+pub returns-in-None-clause-valid : goal.returns-in-None-clause-valid
+returns-in-None-clause-valid c =
+    let D : Standing → Type 0 = λ s. IsDesk s.desk in
+    subst D c.self.view_is (IsDesk-parts c.self.inside.shape c.self.inside.clients c.self.inside.tree c.self.inside.windows c.self.invariant)
