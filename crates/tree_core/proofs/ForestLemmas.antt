@@ -1,11 +1,9 @@
 -- What the facts on all widgets are after a row is put last or changed.
-use Rattle.std.proofs.Common.{◌≡◌, ℕ, zero, suc, ◌+◌, ◌<◌, ◌≤◌, Bool, true, false, cond, ◌&&◌, ◌||◌, nat_eq, nat_le, nat_lt, List, [], ◌∷◌, ◌++◌, length, take, get_or, Option, Some, None, is_some, refl, sym, ap, ◌∙◌, arith, slice_get}
+use Rattle.std.proofs.Common.{◌≡◌, ℕ, zero, suc, ◌+◌, ◌<◌, ◌≤◌, Bool, true, false, cond, ◌&&◌, ◌||◌, nat_eq, nat_le, nat_lt, List, [], ◌∷◌, ◌++◌, Option, Some, None, is_some, refl, sym, ap, ◌∙◌, arith}
 use Rattle.std.proofs.lemmas.Bool.{true≢false, eqb-true, eq-eqb, ne_eqb, eqb-false, and_parts, and_from, leb-true, leb-false, ltb-true, le-leb, lt-ltb}
-use Rattle.std.proofs.lemmas.List.{take_more}
 use Rattle.std.proofs.lemmas.List.Sums.{sum_by_push, sum_by-cons}
 use Rattle.std.proofs.lemmas.List.Folds.{list_all-append, list_any-append}
 use Rattle.std.proofs.lemmas.Slice.Eq.{bytes_eq-Decides}
-use Rattle.std.proofs.lemmas.Option.{get_or_from_slice_get}
 use Rattle.std.specs.Cmp.{nat_eq_equiv}
 use Rattle.std.specs.Cmp.Lexicographic.{nat_list_eq_equiv}
 use Rattle.std.specs.List.{count_by, list_all}
@@ -45,14 +43,8 @@ nodes-with_row (e ∷ es) id change same = by (nodes-with_row es id change same)
     by rest false = rw rest refl
 
 -- how the counts go on
-count-push : (client : ℕ) (test : Kind → Bool) (es : List (ℕ × Node)) (e : ℕ × Node) → count_of client test (es ++ e ∷ []) ≡ count_of client test es + cond (nat_eq client e.1.client && test e.1.kind) 1 0
+pub count-push : (client : ℕ) (test : Kind → Bool) (es : List (ℕ × Node)) (e : ℕ × Node) → count_of client test (es ++ e ∷ []) ≡ count_of client test es + cond (nat_eq client e.1.client && test e.1.kind) 1 0
 count-push client test es e = sum_by_push (λ (x : ℕ × Node). cond (nat_eq client x.1.client && test x.1.kind) 1 0) es e
-
-pub count_more : (client : ℕ) (test : Kind → Bool) (es : List (ℕ × Row)) (i id : ℕ) (row : Row) → i < length es → slice_get es i ≡ Some (id, row) → count_of client test (nodes (take (i + 1) es)) ≡ count_of client test (nodes (take i es)) + cond (nat_eq client row.client && test row.kind) 1 0
-count_more client test es i id row within there =
-    let here : get_or es i (id, row) ≡ (id, row) = get_or_from_slice_get es i (id, row) (id, row) there in
-    let more : take (i + 1) es ≡ take i es ++ (id, row) ∷ [] = take_more es i (id, row) within ∙ ap (λ (e : ℕ × Row). take i es ++ e ∷ []) here in
-    ap (λ (xs : List (ℕ × Row)). count_of client test (nodes xs)) more ∙ ap (count_of client test) (nodes-push (take i es) id row) ∙ count-push client test (nodes (take i es)) (id, node_of row)
 
 -- the last one is found where no other is
 abbrev or_last : {X : Type 0} → Option X → Bool → X → Option X
@@ -429,12 +421,6 @@ linked-with_link ns (e ∷ es) id row link own there new old = by (linked-with_l
         let absent : node_at (nodes es) id ≡ None = rw (eqb-true id e.0 q) own.0 in
         rw (with_row_absent es id (with_link link) absent) (and_from _ _ here parts.1)
     by rest false q h = and_from _ _ parts.0 (rest h new parts.1)
-
-pub count_more_true : (client : ℕ) (test : Kind → Bool) (es : List (ℕ × Row)) (i id : ℕ) (row : Row) → i < length es → slice_get es i ≡ Some (id, row) → (nat_eq client row.client && test row.kind) ≡ true → count_of client test (nodes (take (i + 1) es)) ≡ count_of client test (nodes (take i es)) + 1
-count_more_true client test es i id row within there counts = count_more client test es i id row within there ∙ rw counts refl
-
-pub count_more_false : (client : ℕ) (test : Kind → Bool) (es : List (ℕ × Row)) (i id : ℕ) (row : Row) → i < length es → slice_get es i ≡ Some (id, row) → (nat_eq client row.client && test row.kind) ≡ false → count_of client test (nodes (take (i + 1) es)) ≡ count_of client test (nodes (take i es)) + 0
-count_more_false client test es i id row within there counts = count_more client test es i id row within there ∙ rw counts refl
 
 -- the name of a Variable of the client leads to it
 pub variable-leads : (es : List (ℕ × Row)) (id client : ℕ) → HaveOwnNames (nodes es) → row_kind es id ≡ Some Variable → row_client es id ≡ Some client → leads (nodes es) client (name_at es id) ≡ true

@@ -1,5 +1,6 @@
 pub mod ShownLemmas
 pub mod ForestLemmas
+pub mod CountsLemmas
 pub mod Listed
 pub mod Children
 pub mod Moves

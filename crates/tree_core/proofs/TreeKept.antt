@@ -19,7 +19,7 @@ use Rattle.tree_core.specs.Indexed.{IsIndexed, IsGrove, IsTree}
 use Rattle.tree_core.specs.Refusals.{add_refusal}
 use Rattle.tree_core.proofs.ShownLemmas.{none_or_some}
 use Rattle.tree_core.proofs.Listed.{all_at, numbered_place}
-use Rattle.tree_core.proofs.ForestLemmas.{nodes-with_row, nodes-push, node_at-nodes, ties-with_row, linked-with_link, linked-push, IsForest-join, IsForest-push, no_refusal}
+use Rattle.tree_core.proofs.ForestLemmas.{nodes-with_row, nodes-push, node_at-nodes, ties-with_row, linked-with_link, linked-push, IsForest-join, IsForest-push, no_refusal, joined_in_range}
 use Rattle.tree_core.proofs.Groves.{IsGrove-leaves}
 use Rattle.tree_core.proofs.Moves.{HasChildren-still}
 use Rattle.tree_core.proofs.Fits.{fitting-with_row, fitting-push, fits_table-new}
@@ -206,6 +206,12 @@ row-owned clients es id row forest there =
       to = omega (arith, ltb-true id (first_number row.client + 128) ends.1);
       joined = nodes-all (λ (e : ℕ × Node). is_joined clients e.1.client) es id row forest.owners there;
     }
+
+pub client-below : (clients : List ℕ) (es : List (ℕ × Row)) (id : ℕ) (row : Row) → IsForest clients (nodes es) → row_at es id ≡ Some row → row.client < 17
+client-below clients es id row forest there =
+    let owned = row-owned clients es id row forest there in
+    let range = joined_in_range clients row.client owned.joined forest.clients_in_range in
+    omega (arith, range.1)
 
 -- so the table has its places
 pub place_within : (clients : List ℕ) (names : List ((ℕ × List ℕ) × ℕ)) (es : List (ℕ × Row)) (cells : List (Option ℕ)) (id : ℕ) (row : Row) (column line : ℕ) → IsTree clients names es cells → row_at es id ≡ Some row → IsIndex column → IsIndex line → cell_place id column line < length cells

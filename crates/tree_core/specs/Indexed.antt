@@ -10,7 +10,9 @@ use Rattle.desk_model.specs.Links.{ties, all_lead}
 use Rattle.desk_model.specs.Forest.{HaveOwnNumbers, HaveOwnNames, IsForest}
 use Rattle.desk_model.specs.Planted.{IsPlanted}
 use Rattle.desk_model.specs.Fitting.{fits_table}
+use Rattle.tree_core.specs.declared.count.Count.{Count}
 use Rattle.tree_core.specs.Cells.{rows_in, HasChildren}
+use Rattle.tree_core.specs.Counts.{AreCounts}
 
 abbrev pub same_key : ℕ × List ℕ → ℕ × List ℕ → Bool
 same_key key other = nat_eq key.0 other.0 && bytes_eq key.1 other.1
@@ -33,3 +35,8 @@ pub record IsTree (clients : List ℕ) (names : List ((ℕ × List ℕ) × ℕ))
   pub fitting : list_all fits_table (rows_in entries) ≡ true
   pub children : HasChildren entries cells
   pub reach : (client : ℕ) → is_joined clients client ≡ true → 32768 * client ≤ length cells
+
+-- The tree, and how many widgets each client has.
+pub record IsCounted (clients : List ℕ) (names : List ((ℕ × List ℕ) × ℕ)) (entries : List (ℕ × Row)) (cells : List (Option ℕ)) (counts : List Count) : Type 0 where
+  pub tree : IsTree clients names entries cells
+  pub counted : AreCounts counts (nodes entries)

@@ -1,5 +1,6 @@
 pub mod Changes
 pub mod Shown
 pub mod Cells
+pub mod Counts
 pub mod Indexed
 pub mod Refusals

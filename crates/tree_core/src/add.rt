@@ -1,61 +1,25 @@
-ghost use Rattle.std.specs.Prelude.{◌≡◌, ◌+◌, ◌<◌, ◌≤◌, Some, None, true, ◌&&◌, nat_eq};
+ghost use Rattle.std.specs.Prelude.{◌≡◌, ◌<◌, ◌≤◌, ◌++◌, ◌∷◌, [], None, true, is_ok, if◌then◌else◌};
 ghost use Rattle.std.specs.List.{list_all};
-ghost use Rattle.desk_model.specs.Nodes.{count_of, counted, counts_with, any_kind, is_number_of};
+ghost use Rattle.desk_model.specs.Rows.{new_row};
+ghost use Rattle.desk_model.specs.Nodes.{id_named, count_of, any_kind, counts_with, is_number_of};
 ghost use Rattle.desk_model.specs.Widgets.{row_at, nodes};
+ghost use Rattle.tree_core.specs.Counts.{AreCounts};
 ghost use Rattle.tree_core.specs.Indexed.{IsIndexed};
 ghost use Rattle.tree_core.specs.Refusals.{add_refusal};
 
-use crate::names::{Names, number_of};
+use crate::counts::Counts;
+use crate::names::{Names, number_of, put_new};
 use crate::refusal::AddRefusal;
-use crate::row::Row;
 use crate::store::Store;
 use kind_core::{Kind, Name};
+use std::alloc::AllocError;
 
-/// Whether widgets of the two kinds are counted together.
-fn counts_with(kind: Kind, other: Kind) -> bool
-    ensures { result ≡ counts_with kind other }
-{
-    matches!(
-        (kind, other),
-        (Kind::Window, Kind::Window) | (Kind::VScreen, Kind::VScreen)
-    )
-}
-
-/// Whether a widget of the kind `other` is counted.
-fn counted(alike: Option<Kind>, other: Kind) -> bool
-    ensures { result ≡ counted alike other }
-{
-    match alike {
-        None => true,
-        Some(kind) => counts_with(kind, other),
-    }
-}
-
-/// Whether the row is one of the client's that are counted.
-fn counts(row: &Row, client: u32, alike: Option<Kind>) -> bool
-    ensures { result ≡ (nat_eq client row.now.client && counted alike row.now.kind) }
-{
-    client == row.client() && counted(alike, row.kind())
-}
-
-/// How many widgets the client has: all of them, or those that are counted with a kind.
-pub(crate) fn count_of(store: &Store, client: u32, alike: Option<Kind>) -> usize
-    ensures { result ≡ count_of client (counted alike) (nodes store.now) }
-{
-    let mut n = 0;
-    for i in 0..store.len() {
-        let (_, row) = store.at(i);
-        if counts(row, client, alike) {
-            n += 1;
-        }
-    }
-    n
-}
-
-/// A number of the client that no row has.
-pub(crate) fn free_number(store: &Store, client: u32) -> u32
+/// A number of the client that no row has: the first from the start on, which counts from the client's first
+/// number, and goes round.
+pub(crate) fn free_number(store: &Store, client: u32, start: u32) -> u32
     requires low { 1 ≤ client }
     requires high { client ≤ 16 }
+    requires start { start < 128 }
     requires room { count_of client any_kind (nodes store.now) < 128 }
     requires numbers { list_all (λ entry. is_number_of entry.1.client entry.0) (nodes store.now) ≡ true }
     ensures own { is_number_of client result ≡ true }
@@ -63,7 +27,8 @@ pub(crate) fn free_number(store: &Store, client: u32) -> u32
     ensures free { row_at store.now result ≡ None }
 {
     let first = 128 * (client - 1);
-    for id in first..first + 128 {
+    for k in 0..128 {
+        let id = first + (start + k) % 128;
         if store.get(id).is_none() {
             return id;
         }
@@ -75,21 +40,50 @@ pub(crate) fn free_number(store: &Store, client: u32) -> u32
 pub(crate) fn add_refusal(
     names: &Names,
     store: &Store,
+    counts: &Counts,
     client: u32,
     name: &Name,
     kind: Kind,
 ) -> Option<AddRefusal>
-    requires { IsIndexed names.now.entries (nodes store.now) }
+    requires client { client < 17 }
+    requires indexed { IsIndexed names.now.entries (nodes store.now) }
+    requires counted { AreCounts counts.now (nodes store.now) }
     ensures { result ≡ add_refusal (nodes store.now) client name.now kind }
 {
     if number_of(names, store, client, name).is_some() {
         return Some(AddRefusal::NameTaken);
     }
-    if count_of(store, client, None) >= 128 {
+    if counts.has(client, None) >= 128 {
         return Some(AddRefusal::Full { limit: 128 });
     }
-    if count_of(store, client, Some(kind)) >= 8 {
+    if counts.has(client, Some(kind)) >= 8 {
         return Some(AddRefusal::Full { limit: 8 });
     }
     None
+}
+
+/// Puts a new row last, under its number and its name, and counts it. An error leaves the rows as they were.
+pub(crate) fn put_counted(
+    names: &mut Names,
+    store: &mut Store,
+    counts: &mut Counts,
+    id: u32,
+    client: u32,
+    name: Name,
+    kind: Kind,
+) -> Result<(), AllocError>
+    requires client { client < 17 }
+    requires indexed { IsIndexed names.old.entries (nodes store.old) }
+    requires counted { AreCounts counts.old (nodes store.old) }
+    requires free { row_at store.old id ≡ None }
+    requires new_name { id_named (nodes store.old) client name ≡ None }
+    requires room { count_of client any_kind (nodes store.old) < 128 }
+    requires alike { count_of client (counts_with kind) (nodes store.old) < 8 }
+    ensures rows { store.new ≡ (if is_ok result then store.old ++ (id, new_row client name kind) ∷ [] else store.old) }
+    ensures indexed { IsIndexed names.new.entries (nodes store.new) }
+    ensures counted { AreCounts counts.new (nodes store.new) }
+{
+    put_new(names, store, id, client, name, kind)?;
+    counts.gain(client, kind, id);
+    Ok(())
 }

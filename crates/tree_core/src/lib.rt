@@ -4,6 +4,8 @@
 mod add;
 mod cells;
 mod change;
+mod count;
+mod counts;
 mod going_down;
 mod going_up;
 mod hanging;

@@ -13,14 +13,15 @@ ghost use Rattle.desk_model.specs.Places.{parent_id, child_id, root_id};
 ghost use Rattle.tree_core.specs.Changes.{IsIndex};
 ghost use Rattle.tree_core.specs.Refusals.{add_refusal, AnswersRefusal, attach_answer};
 
-use crate::add::{add_refusal, count_of, free_number};
+use crate::add::{add_refusal, free_number, put_counted};
 use crate::cells::Cells;
 use crate::change::Change;
+use crate::counts::Counts;
 use crate::going_up::{parent_number, root_number};
 use crate::hanging::{attach_refusal, child_number, hang, unhang};
 use crate::id::Id;
 use crate::links::{link_of, name_of};
-use crate::names::{Names, number_of, put_new};
+use crate::names::{Names, number_of};
 use crate::refusal::{AddRefusal, AttachRefusal, InUse, NoMemory};
 use crate::removing::{drop_names, drop_number, drop_rows, is_used, take_out};
 use crate::store::Store;
@@ -37,17 +38,18 @@ pub struct Tree {
     names: Names,
     store: Store,
     cells: Cells,
+    counts: Counts,
 }
 
 impl Model for Tree {
     ghost use Rattle.desk_model.specs.Widgets.{Widgets};
-    ghost use Rattle.tree_core.specs.Indexed.{IsTree};
+    ghost use Rattle.tree_core.specs.Indexed.{IsCounted};
 
     ghost Value = { Widgets };
 
     ghost view = { λ t. record { clients = t.clients.items; entries = t.store } };
 
-    ghost invariant = { λ t. IsTree t.clients.items t.names.entries t.store t.cells };
+    ghost invariant = { λ t. IsCounted t.clients.items t.names.entries t.store t.cells t.counts };
 }
 
 impl Tree {
@@ -61,6 +63,7 @@ impl Tree {
             names: IndexMap::new(alloc),
             store: Store::new(alloc),
             cells: Cells::new(alloc),
+            counts: Counts::new(),
         }
     }
 
@@ -86,7 +89,9 @@ impl Tree {
 
     /// Adds a widget of a joined client, last, with a number that wasn't live. Refuses NameTaken exactly
     /// where the client has a widget of that name, then Full with 128 exactly where it has 128, then Full
-    /// with 8 exactly for a ninth Window or a ninth VScreen. A refusal leaves the tree as it was.
+    /// with 8 exactly for a ninth Window or a ninth VScreen. A refusal leaves the tree as it was. The cost is
+    /// that of look-ups in hash maps and of at most 128 tries for a number, mostly one, whatever the number of
+    /// rows.
     pub fn add(&mut self, client: u32, name: Name, kind: Kind) -> Result<Id, AddRefusal>
         requires { is_joined self.old.clients client ≡ true }
         ensures ok { IfOk result (λ id. self.new ≡ with_new id.key (new_row client name kind) self.old) }
@@ -100,12 +105,20 @@ impl Tree {
         ensures kept { KeepsLive self.old self.new }
         ensures valid { IsWidgets self.new }
     {
-        match add_refusal(&self.names, &self.store, client, &name, kind) {
+        match add_refusal(&self.names, &self.store, &self.counts, client, &name, kind) {
             Some(refusal) => return Err(refusal),
             None => {}
         }
-        let id = free_number(&self.store, client);
-        match put_new(&mut self.names, &mut self.store, id, client, name, kind) {
+        let id = free_number(&self.store, client, self.counts.start(client));
+        match put_counted(
+            &mut self.names,
+            &mut self.store,
+            &mut self.counts,
+            id,
+            client,
+            name,
+            kind,
+        ) {
             Ok(()) => Ok(Id { key: id }),
             Err(_) => Err(AddRefusal::NoMemory),
         }
@@ -117,7 +130,7 @@ impl Tree {
         ensures count { result ≡ count_of client any_kind (nodes self.now.entries) }
         ensures valid { IsWidgets self.now }
     {
-        count_of(&self.store, client, None) as u32
+        self.counts.has(client, None)
     }
 
     /// The number of the client's widget of that name, None exactly where there is none.
@@ -346,7 +359,11 @@ impl Tree {
         if is_used(&self.store, &self.cells, id.key) {
             return Err(InUse);
         }
+        let row = self.store.row(id.key);
+        let client = row.client();
+        let kind = row.kind();
         take_out(&mut self.names, &mut self.store, id.key);
+        self.counts.lose(client, kind);
         Ok(())
     }
 
@@ -361,6 +378,7 @@ impl Tree {
         drop_names(&mut self.names, client);
         drop_rows(&mut self.store, client);
         self.cells.clear(client);
+        self.counts.forget(client);
     }
 
     /// The widget in which this one hangs, None exactly where it hangs in none.

@@ -1,4 +1,4 @@
-use Rattle.std.proofs.Common.{◌≡◌, ◌∷◌, ◌++◌, [], ℕ, List, is_ok, is_some, true, sym, ap, ◌∙◌, subst}
+use Rattle.std.proofs.Common.{◌≡◌, ◌∷◌, ◌++◌, [], ℕ, List, is_ok, is_some, true, sym, ap, ◌∙◌, subst, arith}
 use Rattle.desk_model.specs.Rows.{Row, new_row}
 use Rattle.desk_model.specs.Widgets.{Widgets, nodes, is_joined, row_at}
 use Rattle.tree_core.specs.Indexed.{IsIndexed, IsTree}
@@ -9,17 +9,27 @@ use Rattle.tree_core.proofs.tree.Tree.add.Goals.{in-Ok, in-Err}
 
 pub free_number-id-requires-clause-low : goal.free_number-id-requires-clause-low
 free_number-id-requires-clause-low c =
-    (joined_in_range c.self.inside.clients.items c.args.client (ap (λ (w : Widgets). is_joined w.clients c.args.client) c.self.view_is ∙ c.requires) c.self.invariant.forest.clients_in_range).0
+    (joined_in_range c.self.inside.clients.items c.args.client (ap (λ (w : Widgets). is_joined w.clients c.args.client) c.self.view_is ∙ c.requires) c.self.invariant.tree.forest.clients_in_range).0
 
 pub free_number-id-requires-clause-high : goal.free_number-id-requires-clause-high
 free_number-id-requires-clause-high c =
-    (joined_in_range c.self.inside.clients.items c.args.client (ap (λ (w : Widgets). is_joined w.clients c.args.client) c.self.view_is ∙ c.requires) c.self.invariant.forest.clients_in_range).1
+    (joined_in_range c.self.inside.clients.items c.args.client (ap (λ (w : Widgets). is_joined w.clients c.args.client) c.self.view_is ∙ c.requires) c.self.invariant.tree.forest.clients_in_range).1
 
 pub free_number-id-requires-clause-room : goal.free_number-id-requires-clause-room
 free_number-id-requires-clause-room c = (no_refusal (nodes c.self.inside.store) c.args.client c.args.name c.args.kind (sym c.in-None.ensures)).1
 
-pub put_new-requires-clause-new_name : goal.put_new-requires-clause-new_name
-put_new-requires-clause-new_name c = (no_refusal (nodes c.self.inside.store) c.args.client c.args.name c.args.kind (sym c.in-None.ensures)).0
+pub add_refusal-requires-clause-client : goal.add_refusal-requires-clause-client
+add_refusal-requires-clause-client c =
+    let high = (joined_in_range c.self.inside.clients.items c.args.client (ap (λ (w : Widgets). is_joined w.clients c.args.client) c.self.view_is ∙ c.requires) c.self.invariant.tree.forest.clients_in_range).1 in
+    omega (arith, high)
+
+pub start-requires : goal.start-requires
+start-requires c =
+    let high = (joined_in_range c.self.inside.clients.items c.args.client (ap (λ (w : Widgets). is_joined w.clients c.args.client) c.self.view_is ∙ c.requires) c.self.invariant.tree.forest.clients_in_range).1 in
+    omega (arith, high)
+
+pub put_counted-requires-clause-new_name : goal.put_counted-requires-clause-new_name
+put_counted-requires-clause-new_name c = (no_refusal (nodes c.self.inside.store) c.args.client c.args.name c.args.kind (sym c.in-None.ensures)).0
 
 pub invariant_of-self : goal.invariant_of-self
 invariant_of-self c =
@@ -27,12 +37,12 @@ invariant_of-self c =
     let member : is_joined c.self.inside.clients.items c.args.client ≡ true = ap (λ (w : Widgets). is_joined w.clients c.args.client) c.self.view_is ∙ c.requires in
     let row = new_row c.args.client c.args.name c.args.kind in
     let id = c.free_number-id.result in
-    let P : List (ℕ × Row) → Type 0 = λ es. IsIndexed c.put_new.new.names.entries (nodes es) → IsTree c.self.inside.clients.items c.put_new.new.names.entries es c.self.inside.cells in
-    let more : P (old ++ (id, row) ∷ []) = λ indexed. IsTree-push c.self.inside.clients.items c.self.inside.names.entries c.put_new.new.names.entries old c.self.inside.cells id c.args.client c.args.name c.args.kind c.free_number-id.ensures.free (sym c.in-None.ensures) c.free_number-id.ensures.own member indexed c.self.invariant in
-    let same : P old = λ indexed. IsTree-renamed c.self.inside.clients.items c.self.inside.names.entries c.put_new.new.names.entries old c.self.inside.cells indexed c.self.invariant in
-    let either : P c.put_new.new.store = subst P (sym c.put_new.ensures.rows) (maybe P (is_ok c.put_new.result) (old ++ (id, row) ∷ []) old more same) in
-    let tree = either c.put_new.ensures.indexed in
-    tree
+    let P : List (ℕ × Row) → Type 0 = λ es. IsIndexed c.put_counted.new.names.entries (nodes es) → IsTree c.self.inside.clients.items c.put_counted.new.names.entries es c.self.inside.cells in
+    let more : P (old ++ (id, row) ∷ []) = λ indexed. IsTree-push c.self.inside.clients.items c.self.inside.names.entries c.put_counted.new.names.entries old c.self.inside.cells id c.args.client c.args.name c.args.kind c.free_number-id.ensures.free (sym c.in-None.ensures) c.free_number-id.ensures.own member indexed c.self.invariant.tree in
+    let same : P old = λ indexed. IsTree-renamed c.self.inside.clients.items c.self.inside.names.entries c.put_counted.new.names.entries old c.self.inside.cells indexed c.self.invariant.tree in
+    let either : P c.put_counted.new.store = subst P (sym c.put_counted.ensures.rows) (maybe P (is_ok c.put_counted.result) (old ++ (id, row) ∷ []) old more same) in
+    let tree = either c.put_counted.ensures.indexed in
+    record { tree = tree; counted = c.put_counted.ensures.counted }
 
 pub returns-clause-valid : goal.returns-clause-valid
 returns-clause-valid c =
@@ -40,23 +50,23 @@ returns-clause-valid c =
     let member : is_joined c.self.inside.clients.items c.args.client ≡ true = ap (λ (w : Widgets). is_joined w.clients c.args.client) c.self.view_is ∙ c.requires in
     let row = new_row c.args.client c.args.name c.args.kind in
     let id = c.free_number-id.result in
-    let P : List (ℕ × Row) → Type 0 = λ es. IsIndexed c.put_new.new.names.entries (nodes es) → IsTree c.self.inside.clients.items c.put_new.new.names.entries es c.self.inside.cells in
-    let more : P (old ++ (id, row) ∷ []) = λ indexed. IsTree-push c.self.inside.clients.items c.self.inside.names.entries c.put_new.new.names.entries old c.self.inside.cells id c.args.client c.args.name c.args.kind c.free_number-id.ensures.free (sym c.in-None.ensures) c.free_number-id.ensures.own member indexed c.self.invariant in
-    let same : P old = λ indexed. IsTree-renamed c.self.inside.clients.items c.self.inside.names.entries c.put_new.new.names.entries old c.self.inside.cells indexed c.self.invariant in
-    let either : P c.put_new.new.store = subst P (sym c.put_new.ensures.rows) (maybe P (is_ok c.put_new.result) (old ++ (id, row) ∷ []) old more same) in
-    let tree = either c.put_new.ensures.indexed in
+    let P : List (ℕ × Row) → Type 0 = λ es. IsIndexed c.put_counted.new.names.entries (nodes es) → IsTree c.self.inside.clients.items c.put_counted.new.names.entries es c.self.inside.cells in
+    let more : P (old ++ (id, row) ∷ []) = λ indexed. IsTree-push c.self.inside.clients.items c.self.inside.names.entries c.put_counted.new.names.entries old c.self.inside.cells id c.args.client c.args.name c.args.kind c.free_number-id.ensures.free (sym c.in-None.ensures) c.free_number-id.ensures.own member indexed c.self.invariant.tree in
+    let same : P old = λ indexed. IsTree-renamed c.self.inside.clients.items c.self.inside.names.entries c.put_counted.new.names.entries old c.self.inside.cells indexed c.self.invariant.tree in
+    let either : P c.put_counted.new.store = subst P (sym c.put_counted.ensures.rows) (maybe P (is_ok c.put_counted.result) (old ++ (id, row) ∷ []) old more same) in
+    let tree = either c.put_counted.ensures.indexed in
     IsWidgets-tree _ _ _ c.self.inside.cells tree
 
 pub returns-clause-kept : goal.returns-clause-kept
 returns-clause-kept c = λ other live.
     let L : Widgets → Type 0 = λ w. is_some (row_at w.entries other) ≡ true in
     let old : is_some (row_at c.self.inside.store other) ≡ true = subst L (sym c.self.view_is) live in
-    rw c.put_new.ensures.rows (live-maybe_push (is_ok c.put_new.result) c.self.inside.store c.free_number-id.result (new_row c.args.client c.args.name c.args.kind) other old)
+    rw c.put_counted.ensures.rows (live-maybe_push (is_ok c.put_counted.result) c.self.inside.store c.free_number-id.result (new_row c.args.client c.args.name c.args.kind) other old)
 
 pub returns-clause-live : goal.returns-clause-live
 returns-clause-live c =
     let row = new_row c.args.client c.args.name c.args.kind in
-    elim c.match-put_new.branch [
+    elim c.match-put_counted.branch [
       | in-Ok w ↦ rw w.result-is (rw w.in-Ok.ensures.rows (live-last c.self.inside.store c.free_number-id.result row))
       | in-Err w ↦ rw w.result-is tt
     ]

@@ -1,15 +1,39 @@
-use Rattle.std.proofs.Common.{◌≡◌, ℕ, List, Bool, true, false, cond, Some, None, is_some, sym, ap, ◌∙◌, subst}
+use Rattle.std.proofs.Common.{◌≡◌, ℕ, List, Bool, true, false, cond, Some, None, is_some, refl, sym, ap, ◌∙◌, subst}
 use Rattle.std.specs.Cmp.{nat_eq_equiv}
 use Rattle.std.specs.Option.{option_map}
 use Rattle.desk_model.specs.Rows.{Row}
+use Rattle.desk_model.specs.Nodes.{counts_with}
 use Rattle.desk_model.specs.Trees.{is_used}
 use Rattle.desk_model.specs.Widgets.{Widgets, row_at, nodes, without_row}
 use Rattle.tree_core.specs.Cells.{rows_in}
+use Rattle.tree_core.specs.Counts.{AreCounts, lost}
 use Rattle.tree_core.specs.Indexed.{IsIndexed}
+use Rattle.tree_core.proofs.CountsLemmas.{AreCounts-lose, has_one}
 use Rattle.tree_core.proofs.Listed.{row_at-without_row}
-use Rattle.tree_core.proofs.TreeKept.{IsWidgets-tree, live_row}
+use Rattle.tree_core.proofs.TreeKept.{IsWidgets-tree, live_row, client-below}
 use Rattle.tree_core.proofs.TreeTaken.{IsTree-without, IsFree-unused}
 use Rattle.tree_core.proofs.tree.Tree.remove.Goals as goal
+
+pub lose-requires-clause-client : goal.lose-requires-clause-client
+lose-requires-clause-client c =
+    let row = c.row-row.result.now in
+    let below = client-below c.self.inside.clients.items c.self.inside.store c.args.id.key row c.self.invariant.tree.forest c.row-row.ensures in
+    rw c.client-client.ensures below
+
+pub lose-requires-clause-any : goal.lose-requires-clause-any
+lose-requires-clause-any c =
+    let row = c.row-row.result.now in
+    let below = client-below c.self.inside.clients.items c.self.inside.store c.args.id.key row c.self.invariant.tree.forest c.row-row.ensures in
+    let any = has_one c.self.inside.counts c.self.inside.store c.args.id.key row None below c.self.invariant.tree.forest.own_numbers c.row-row.ensures refl c.self.invariant.counted in
+    rw c.client-client.ensures any
+
+pub lose-requires-clause-alike : goal.lose-requires-clause-alike
+lose-requires-clause-alike c = λ alike.
+    let row = c.row-row.result.now in
+    let below = client-below c.self.inside.clients.items c.self.inside.store c.args.id.key row c.self.invariant.tree.forest c.row-row.ensures in
+    let passes : counts_with c.kind-kind.result row.kind ≡ true = rw (← c.kind-kind.ensures) alike in
+    let some = has_one c.self.inside.counts c.self.inside.store c.args.id.key row (Some c.kind-kind.result) below c.self.invariant.tree.forest.own_numbers c.row-row.ensures passes c.self.invariant.counted in
+    rw c.client-client.ensures some
 
 pub invariant_of-self : goal.invariant_of-self
 invariant_of-self c =
@@ -18,8 +42,12 @@ invariant_of-self c =
     let answer : Some (is_used (rows_in c.self.inside.store) found.0) ≡ Some c.is_used.result = ap (option_map (is_used (rows_in c.self.inside.store))) (sym found.1) ∙ c.is_used.ensures in
     let unused : is_used (rows_in c.self.inside.store) found.0 ≡ false = let same : is_used (rows_in c.self.inside.store) found.0 ≡ c.is_used.result = cc in same ∙ c.if-is_used.false in
     let indexed : IsIndexed c.take_out.new.names.entries (nodes (without_row c.args.id.key c.self.inside.store)) = subst I c.take_out.ensures.rows c.take_out.ensures.indexed in
-    let tree = IsTree-without c.self.inside.clients.items c.self.inside.names.entries c.take_out.new.names.entries c.self.inside.store c.self.inside.cells c.args.id.key found.0 c.self.invariant (IsFree-unused c.self.inside.store c.args.id.key found.0 found.1 unused) indexed in
-    rw c.take_out.ensures.rows tree
+    let tree = IsTree-without c.self.inside.clients.items c.self.inside.names.entries c.take_out.new.names.entries c.self.inside.store c.self.inside.cells c.args.id.key found.0 c.self.invariant.tree (IsFree-unused c.self.inside.store c.args.id.key found.0 found.1 unused) indexed in
+    let row = c.row-row.result.now in
+    let below = client-below c.self.inside.clients.items c.self.inside.store c.args.id.key row c.self.invariant.tree.forest c.row-row.ensures in
+    let fewer = AreCounts-lose c.self.inside.counts c.self.inside.store c.args.id.key row below c.self.invariant.tree.forest.own_numbers c.row-row.ensures c.self.invariant.counted in
+    let counted : AreCounts (lost c.client-client.result c.kind-kind.result c.self.inside.counts) (nodes (without_row c.args.id.key c.self.inside.store)) = rw (c.client-client.ensures, c.kind-kind.ensures) fewer in
+    rw (c.take_out.ensures.rows, c.lose.ensures) (record { tree = tree; counted = counted })
 
 pub returns-clause-valid : goal.returns-clause-valid
 returns-clause-valid c =
@@ -28,7 +56,7 @@ returns-clause-valid c =
     let answer : Some (is_used (rows_in c.self.inside.store) found.0) ≡ Some c.is_used.result = ap (option_map (is_used (rows_in c.self.inside.store))) (sym found.1) ∙ c.is_used.ensures in
     let unused : is_used (rows_in c.self.inside.store) found.0 ≡ false = let same : is_used (rows_in c.self.inside.store) found.0 ≡ c.is_used.result = cc in same ∙ c.if-is_used.false in
     let indexed : IsIndexed c.take_out.new.names.entries (nodes (without_row c.args.id.key c.self.inside.store)) = subst I c.take_out.ensures.rows c.take_out.ensures.indexed in
-    let tree = IsTree-without c.self.inside.clients.items c.self.inside.names.entries c.take_out.new.names.entries c.self.inside.store c.self.inside.cells c.args.id.key found.0 c.self.invariant (IsFree-unused c.self.inside.store c.args.id.key found.0 found.1 unused) indexed in
+    let tree = IsTree-without c.self.inside.clients.items c.self.inside.names.entries c.take_out.new.names.entries c.self.inside.store c.self.inside.cells c.args.id.key found.0 c.self.invariant.tree (IsFree-unused c.self.inside.store c.args.id.key found.0 found.1 unused) indexed in
     rw c.take_out.ensures.rows (IsWidgets-tree _ _ _ c.self.inside.cells tree)
 
 pub returns-clause-others : goal.returns-clause-others
