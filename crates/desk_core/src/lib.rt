@@ -15,3 +15,6 @@ mod places;
 mod rules;
 
 pub use desk::Desk;
+
+#[cfg(test)]
+mod tests;
