@@ -77,10 +77,10 @@ fn there_is_a_widget_of_each_kind(rt: HostRuntime) -> Result<(), Fail> {
     Ok(())
 }
 
-/// A script in which client 1 makes so many widgets of a kind, under the names a1, a2 and so on.
+/// A script in which client 1 makes so many widgets of a kind, under the names a0, a1 and so on.
 fn many(alloc: Global, count: u32, kind: &str) -> Result<String, Fail> {
     let mut script = "connect 1\n".to_string(alloc)?;
-    for number in 1..count + 1 {
+    for number in 0..count {
         let line = format!(in alloc; "1 a{number} = new {kind}()\n")?;
         script.push_str(line.as_str())?;
     }
