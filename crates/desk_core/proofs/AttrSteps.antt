@@ -14,7 +14,7 @@ use Rattle.desk_model.specs.Nodes.{node_of}
 use Rattle.desk_model.specs.Refusing.{first_refusal}
 use Rattle.desk_model.specs.AttrOptions.{told, attr_refusal, with_attrs}
 use Rattle.desk_model.specs.Widgets.{Widgets, edited}
-use Rattle.desk_core.specs.Standing.{fits_rules}
+use Rattle.desk_model.specs.Fitting.{fits_rules}
 use Rattle.desk_core.proofs.Edits.{edited-edited}
 
 -- where nothing is refused, no option is

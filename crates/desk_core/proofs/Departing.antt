@@ -12,7 +12,8 @@ use Rattle.desk_model.specs.Widgets.{Widgets, nodes, departed}
 use Rattle.desk_model.specs.Forest.{IsWidgets}
 use Rattle.desk_model.specs.Clients.{without_client}
 use Rattle.desk_model.proofs.Naming.{rows, rows_of-departed}
-use Rattle.desk_core.specs.Standing.{windows_at, desk_of, names_window, is_others, fits_rules, IsStanding}
+use Rattle.desk_core.specs.Standing.{windows_at, desk_of, names_window, is_others, IsStanding}
+use Rattle.desk_model.specs.Fitting.{fits_rules}
 use Rattle.desk_core.proofs.Leaving.{windows_at-filter, node_at-others}
 
 abbrev title : Option Node → ℕ × List ℕ

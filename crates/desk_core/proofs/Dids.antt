@@ -16,7 +16,8 @@ use Rattle.desk_model.specs.Desk.{Desk}
 use Rattle.desk_model.proofs.Naming.{rows, row_named-found, row_named-parts, rows-with_row}
 use Rattle.tree_core.proofs.ForestLemmas.{nodes-with_row}
 use Rattle.desk_model.specs.Linking.{is_window_kind}
-use Rattle.desk_core.specs.Standing.{windows_at, desk_of, names_window, fits_rules, IsStanding}
+use Rattle.desk_core.specs.Standing.{windows_at, desk_of, names_window, IsStanding}
+use Rattle.desk_model.specs.Fitting.{fits_rules}
 use Rattle.desk_core.specs.Did.{Did, DidAll, IsFound, with_rows}
 
 -- the widget that has the name's number

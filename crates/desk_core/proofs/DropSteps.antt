@@ -18,7 +18,8 @@ use Rattle.desk_model.specs.Desk.{Desk, is_open}
 use Rattle.desk_model.specs.Refusing.{when, first_refusal, outcome, unless_there}
 use Rattle.desk_model.specs.Making.{drop_effect, step_drop}
 use Rattle.desk_model.proofs.Naming.{rows, rows-without_row}
-use Rattle.desk_core.specs.Standing.{windows_at, desk_of, names_window, fits_rules, IsStanding}
+use Rattle.desk_core.specs.Standing.{windows_at, desk_of, names_window, IsStanding}
+use Rattle.desk_model.specs.Fitting.{fits_rules}
 use Rattle.desk_core.specs.Did.{DidAll, TellsAll, IsFound}
 use Rattle.desk_core.proofs.OpenSteps.{is_open-holds_key}
 

@@ -22,7 +22,7 @@ use Rattle.desk_model.specs.Refusing.{when, first_refusal, outcome, unless_there
 use Rattle.desk_model.specs.AttrOptions.{attrs_refusal}
 use Rattle.desk_model.specs.Making.{reply_with, set_effect, new_refusal, new_effect, step_new, step_set, step_get}
 use Rattle.desk_model.proofs.Naming.{rows, rows-push, count_of-nodes}
-use Rattle.desk_core.specs.Standing.{fits_rules}
+use Rattle.desk_model.specs.Fitting.{fits_rules}
 use Rattle.desk_model.specs.Refusing.{is_memory}
 use Rattle.desk_core.specs.Did.{Did, with_rows}
 use Rattle.desk_core.specs.Told.{told_add}

@@ -20,7 +20,7 @@ use Rattle.desk_model.specs.PlaceOptions.{unless_within}
 use Rattle.desk_model.specs.ConfigOptions.{config_refusal, configs_refusal, with_config, with_configs}
 use Rattle.desk_model.specs.Hanging.{config_refusal as ruling_refusal, with_column, with_line, column_effect, line_effect, step_column, step_line}
 use Rattle.desk_model.proofs.Naming.{rows}
-use Rattle.desk_core.specs.Standing.{fits_rule, fits_rules}
+use Rattle.desk_model.specs.Fitting.{fits_rule, fits_rules}
 use Rattle.desk_core.specs.Did.{Did, with_rows}
 use Rattle.desk_core.specs.Ruling.{IsRuled}
 use Rattle.desk_core.proofs.Dids.{done_did}

@@ -9,7 +9,8 @@ use Rattle.desk_model.specs.Nodes.{node_at, id_named}
 use Rattle.desk_model.specs.Named.{row_named}
 use Rattle.desk_model.specs.Widgets.{Widgets, nodes, rows_of, row_at}
 use Rattle.desk_model.specs.Desk.{Desk}
-use Rattle.desk_core.specs.Standing.{windows_at, desk_of, fits_rules, IsStanding}
+use Rattle.desk_core.specs.Standing.{windows_at, desk_of, IsStanding}
+use Rattle.desk_model.specs.Fitting.{fits_rules}
 
 -- the desk with other rows
 abbrev pub with_rows : List Row → Desk → Desk

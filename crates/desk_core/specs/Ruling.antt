@@ -7,7 +7,7 @@ use Rattle.desk_model.specs.ConfigOptions.{configs_refusal}
 use Rattle.desk_model.specs.Hanging.{config_refusal}
 use Rattle.desk_model.specs.Widgets.{Widgets, rows_of}
 use Rattle.desk_model.specs.Desk.{Desk}
-use Rattle.tree_core.specs.Changes.{IsIndex}
+use Rattle.desk_model.specs.Rows.{IsIndex}
 use Rattle.desk_core.specs.Did.{IsFound, with_rows}
 use Rattle.desk_core.specs.declared.rules.Ruled.{Ruled}
 

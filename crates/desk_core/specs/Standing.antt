@@ -1,13 +1,13 @@
 -- What contracts see of the desk: the desk itself, and whether the last call changed it.
-use Rattle.std.specs.Prelude.{ℕ, ◌≡◌, ◌↔◌, Bool, true, false, ◌&&◌, not, nat_eq, nat_le, IsTrue, List, [], map}
+use Rattle.std.specs.Prelude.{ℕ, ◌≡◌, ◌↔◌, Bool, true, false, not, nat_eq, IsTrue, List, [], map}
 use Rattle.std.specs.List.{list_all}
 use Rattle.std.specs.Option.{option_map_or}
 use Rattle.kind_core.specs.declared.shapes.Shape.{Shape}
 use Rattle.stack_core.specs.Stack.{IsStack}
-use Rattle.desk_model.specs.Rows.{Row}
 use Rattle.desk_model.specs.Nodes.{Node, node_at}
 use Rattle.desk_model.specs.Widgets.{Widgets, nodes, rows_of}
 use Rattle.desk_model.specs.Forest.{IsWidgets}
+use Rattle.desk_model.specs.Fitting.{fits_rules}
 use Rattle.desk_model.specs.Linking.{is_window_kind}
 use Rattle.desk_model.specs.Pointer.{opening_pointer}
 use Rattle.desk_model.specs.Desk.{Desk}
@@ -41,13 +41,6 @@ desk_of shape widgets keys =
 -- the number names a Window
 abbrev pub names_window : List (ℕ × Node) → ℕ → Bool
 names_window entries key = option_map_or (λ node. is_window_kind node.kind) (node_at entries key) false
-
--- A rule has a size of at most 1,024 pixels and a weight of at most 1,000.
-abbrev pub fits_rule : ℕ × ℕ → Bool
-fits_rule rule = nat_le rule.0 1024 && nat_le rule.1 1000
-
-abbrev pub fits_rules : Row → Bool
-fits_rules row = list_all fits_rule row.column_rules && list_all fits_rule row.row_rules
 
 -- the number names a widget of another client
 abbrev pub is_others : List (ℕ × Node) → ℕ → ℕ → Bool

@@ -7,7 +7,7 @@ ghost use Rattle.desk_model.specs.Hanging.{is_grid, step_column, step_line};
 ghost use Rattle.desk_model.specs.Widgets.{rows_of};
 ghost use Rattle.desk_model.specs.Forest.{IsWidgets};
 ghost use Rattle.std.specs.List.{list_all};
-ghost use Rattle.desk_core.specs.Standing.{fits_rules};
+ghost use Rattle.desk_model.specs.Fitting.{fits_rules};
 ghost use Rattle.desk_core.specs.Did.{Did, TellsRows};
 ghost use Rattle.desk_core.specs.Ruling.{AnswersRuled};
 

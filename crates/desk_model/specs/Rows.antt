@@ -1,7 +1,7 @@
 -- A row is one widget of a client: its name and kind, the values of its attributes, where it is attached,
 -- the rules of its columns and rows, the Variable that it is linked to, and the tags of its bindings.
 -- Other rows of the same client are named by their names.
-use Rattle.std.specs.Prelude.{ℕ, ◌-◌, List, [], ◌∷◌, Option, Some, None, map, replicate, slice_index_or, slice_set}
+use Rattle.std.specs.Prelude.{ℕ, ◌-◌, ◌≤◌, List, [], ◌∷◌, Option, Some, None, map, replicate, slice_index_or, slice_set}
 use Rattle.kind_core.specs.declared.kinds.Kind.{Kind}
 use Rattle.kind_core.specs.declared.kinds.Attr.{Attr}
 use Rattle.kind_core.specs.declared.kinds.Attr.TheVariants.{X, Y, W, H, Title, Text, Caret, Cols, Value, Max, Real, View, Vert}
@@ -81,6 +81,10 @@ attr_of row attr = slice_index_or row.values (attr_place attr) None
 
 abbrev pub with_attr : Attr → value.Value → Row → Row
 with_attr attr value row = record row { values = slice_set row.values (attr_place attr) (Some value) }
+
+-- columns and rows are 1 to 16
+abbrev pub IsIndex : ℕ → Type 0
+IsIndex index = (1 ≤ index) × (index ≤ 16)
 
 -- the rule of the column, which counts from 1
 abbrev pub column_rule_of : Row → ℕ → ℕ × ℕ

@@ -13,7 +13,7 @@ use Rattle.desk_model.specs.Planted.{has_cell, takes_cell, is_cell, hangs_right}
 use Rattle.desk_model.specs.Places.{child_id}
 use Rattle.desk_model.specs.Widgets.{row_at, nodes}
 use Rattle.desk_model.proofs.Naming.{row_named-found, row_named-none, id_named-row, row_named-parts}
-use Rattle.tree_core.specs.Changes.{IsIndex}
+use Rattle.desk_model.specs.Rows.{IsIndex}
 use Rattle.tree_core.specs.Cells.{cells_of, rows_in, widgets_in}
 use Rattle.tree_core.specs.Indexed.{IsGrove}
 use Rattle.tree_core.proofs.Listed.{find_place, all_at, listed_number, numbered_place}

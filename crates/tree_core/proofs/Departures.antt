@@ -10,7 +10,7 @@ use Rattle.desk_model.specs.Planted.{IsPlanted}
 use Rattle.desk_model.specs.Widgets.{row_at, nodes, is_joined}
 use Rattle.desk_model.specs.Forest.{is_client, IsForest}
 use Rattle.desk_model.proofs.Naming.{rows-filter_others}
-use Rattle.tree_core.specs.Changes.{IsIndex}
+use Rattle.desk_model.specs.Rows.{IsIndex}
 use Rattle.tree_core.specs.Cells.{cell_place, rows_in}
 use Rattle.tree_core.specs.Indexed.{same_key, IsIndexed, IsGrove, IsTree}
 use Rattle.tree_core.proofs.ShownLemmas.{none_or_some}

@@ -10,7 +10,7 @@ use Rattle.desk_model.specs.Rows.{Row, with_spot}
 use Rattle.desk_model.specs.Nodes.{Node, node_of}
 use Rattle.desk_model.specs.Places.{child_id}
 use Rattle.desk_model.specs.Widgets.{row_at, with_row}
-use Rattle.tree_core.specs.Changes.{IsIndex}
+use Rattle.desk_model.specs.Rows.{IsIndex}
 use Rattle.tree_core.specs.Cells.{cell_place, widgets_in, HasChildren}
 use Rattle.tree_core.specs.Indexed.{IsGrove}
 use Rattle.tree_core.proofs.Listed.{row_at-with_row}

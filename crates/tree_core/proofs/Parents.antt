@@ -10,7 +10,7 @@ use Rattle.desk_model.specs.Nodes.{id_named}
 use Rattle.desk_model.specs.Trees.{root_of}
 use Rattle.desk_model.specs.Places.{parent_id, child_id, root_id}
 use Rattle.desk_model.specs.Widgets.{row_at, nodes, with_row}
-use Rattle.tree_core.specs.Changes.{IsIndex}
+use Rattle.desk_model.specs.Rows.{IsIndex}
 use Rattle.tree_core.specs.Cells.{cell_place, rows_in, widgets_in, HasChildren}
 use Rattle.tree_core.specs.Indexed.{IsGrove}
 use Rattle.tree_core.proofs.ForestLemmas.{named-live, row_live}

@@ -10,7 +10,7 @@ use Rattle.desk_model.specs.Places.{child_id}
 use Rattle.desk_model.specs.Trees.{child_in}
 use Rattle.desk_model.specs.Widgets.{row_at, nodes}
 use Rattle.desk_model.specs.Forest.{HaveOwnNumbers, HaveOwnNames}
-use Rattle.tree_core.specs.Changes.{IsIndex}
+use Rattle.desk_model.specs.Rows.{IsIndex}
 use Rattle.tree_core.specs.Cells.{cell_place, rows_in, widgets_in, HasChildren}
 use Rattle.tree_core.specs.Indexed.{IsGrove}
 use Rattle.tree_core.proofs.ShownLemmas.{none_or_some}

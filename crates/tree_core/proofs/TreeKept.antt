@@ -13,7 +13,7 @@ use Rattle.desk_model.specs.Fitting.{fits_table}
 use Rattle.desk_model.specs.Links.{ties, leads, all_lead}
 use Rattle.desk_model.specs.Widgets.{Widgets, row_at, nodes, with_row, is_joined, IsLive, IsGrid}
 use Rattle.desk_model.specs.Forest.{IsForest, IsWidgets}
-use Rattle.tree_core.specs.Changes.{IsIndex}
+use Rattle.desk_model.specs.Rows.{IsIndex}
 use Rattle.tree_core.specs.Cells.{cell_place, rows_in, HasChildren}
 use Rattle.tree_core.specs.Indexed.{IsIndexed, IsGrove, IsTree}
 use Rattle.tree_core.specs.Refusals.{add_refusal}

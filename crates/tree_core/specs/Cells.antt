@@ -6,7 +6,7 @@ use Rattle.kind_core.specs.declared.kinds.Kind.TheVariants.{Window, Grid, Frame}
 use Rattle.desk_model.specs.Rows.{Row}
 use Rattle.desk_model.specs.Widgets.{Widgets}
 use Rattle.desk_model.specs.Places.{child_id}
-use Rattle.tree_core.specs.Changes.{IsIndex}
+use Rattle.desk_model.specs.Rows.{IsIndex}
 
 -- the place of the cell in that column and row, 1 to 16, of the widget with that number
 abbrev pub cell_place : ℕ → ℕ → ℕ → ℕ

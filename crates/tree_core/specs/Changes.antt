@@ -1,6 +1,5 @@
 -- What each change makes of a row.
-use Rattle.std.specs.Prelude.{ℕ, ◌≤◌}
-use Rattle.desk_model.specs.Rows.{Row, with_attr, with_column_rule, with_row_rule, with_link, with_binding, with_spot}
+use Rattle.desk_model.specs.Rows.{Row, IsIndex, with_attr, with_column_rule, with_row_rule, with_link, with_binding, with_spot}
 use Rattle.tree_core.specs.declared.change.Change.{Change}
 use Rattle.tree_core.specs.declared.change.Change.TheVariants.{Attribute, ColumnRule, RowRule, Link, Binding, Spot}
 
@@ -11,10 +10,6 @@ changed_by (RowRule index rule) row = with_row_rule index rule row
 changed_by (Link variable) row = with_link variable row
 changed_by (Binding event tag) row = with_binding event tag row
 changed_by (Spot spot) row = with_spot spot row
-
--- the number of a column or row is 1 to 16
-abbrev pub IsIndex : ℕ → Type 0
-IsIndex index = (1 ≤ index) × (index ≤ 16)
 
 -- a change of a rule names a column or row that there is
 abbrev pub CanBeMade : Change → Type 0

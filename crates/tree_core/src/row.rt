@@ -1,6 +1,6 @@
 ghost use Rattle.std.specs.Prelude.{◌≡◌};
-ghost use Rattle.desk_model.specs.Rows.{new_row, first_values, default_at, attr_of, column_rule_of, row_rule_of, binding_of};
-ghost use Rattle.tree_core.specs.Changes.{changed_by, CanBeMade, IsIndex};
+ghost use Rattle.desk_model.specs.Rows.{new_row, first_values, default_at, attr_of, IsIndex, column_rule_of, row_rule_of, binding_of};
+ghost use Rattle.tree_core.specs.Changes.{changed_by, CanBeMade};
 
 use crate::change::Change;
 use crate::places::{attr_place, event_place};

@@ -3,7 +3,7 @@ ghost use Rattle.std.specs.List.{list_all};
 ghost use Rattle.desk_model.specs.Fitting.{fits_table};
 ghost use Rattle.desk_model.specs.Planted.{IsPlanted};
 ghost use Rattle.desk_model.specs.Widgets.{IsLive, KeepsLive, is_joined, rows_of};
-ghost use Rattle.tree_core.specs.Changes.{IsIndex};
+ghost use Rattle.desk_model.specs.Rows.{IsIndex};
 
 use super::*;
 use kind_core::{Attr, AttrRefusal, Cell, EventKind, Kind, Name, Value, name_from};

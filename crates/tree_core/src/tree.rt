@@ -10,7 +10,7 @@ ghost use Rattle.desk_model.specs.Forest.{IsWidgets};
 ghost use Rattle.desk_model.specs.Trees.{is_used};
 ghost use Rattle.desk_model.specs.Planted.{takes_cell};
 ghost use Rattle.desk_model.specs.Places.{parent_id, child_id, root_id};
-ghost use Rattle.tree_core.specs.Changes.{IsIndex};
+ghost use Rattle.desk_model.specs.Rows.{IsIndex};
 ghost use Rattle.tree_core.specs.Refusals.{add_refusal, AnswersRefusal, attach_answer};
 
 use crate::add::{add_refusal, free_number, put_counted};

@@ -7,7 +7,7 @@ use Rattle.desk_model.specs.Desk.{Desk}
 use Rattle.desk_model.specs.Hanging.{config_refusal, step_line}
 use Rattle.desk_model.specs.Widgets.{rows_of}
 use Rattle.desk_core.specs.Did.{with_rows}
-use Rattle.desk_core.specs.Standing.{fits_rule}
+use Rattle.desk_model.specs.Fitting.{fits_rule}
 use Rattle.desk_core.specs.Ruling.{IsRuled}
 use Rattle.desk_core.proofs.Dids.{refused_did}
 use Rattle.desk_core.proofs.RuleSteps.{step_line-by, rule_of_row_fits, line_did, still_grid}
