@@ -11,6 +11,8 @@ mod faults;
 #[cfg(test)]
 mod limits;
 #[cfg(test)]
+mod panels;
+#[cfg(test)]
 mod played;
 #[cfg(test)]
 mod refusals;
