@@ -158,17 +158,19 @@ impl Desk {
         }
     }
 
-    /// Whether the last call that connects a client or answers one changed the rows, the open windows or
-    /// their order.
+    /// Whether the last call of `connect`, `hello`, `step` or `bye` changed the rows, the open windows or their
+    /// order; false before the first. See docs/MACHINE.md, "Commands".
     pub fn changed(&self) -> bool
         ensures { result ≡ self.now.changed }
     {
         self.changed
     }
 
-    /// The number of connected clients.
+    /// How many clients are connected, 0 to 16. See docs/MACHINE.md, "The desk".
     pub fn live(&self) -> u32
-        ensures { result ≡ length self.now.desk.clients }
+        ensures live { result ≡ length self.now.desk.clients }
+        ensures few { result ≤ 16 }
+        ensures valid { IsDesk self.now.desk }
     {
         self.clients.len()
     }

@@ -7,7 +7,7 @@ use Rattle.desk_model.specs.Widgets.{Widgets, nodes, departed, is_joined}
 use Rattle.desk_model.specs.Forest.{IsWidgets}
 use Rattle.desk_model.specs.Nodes.{any_kind}
 use Rattle.desk_model.specs.Named.{rows_counted}
-use Rattle.desk_model.specs.DeskFacts.{IsDesk}
+use Rattle.desk_model.specs.DeskFacts.{AreConnectedOnce, IsDesk}
 use Rattle.desk_model.proofs.Naming.{count_of-nodes}
 use Rattle.desk_core.proofs.Valid.{IsDesk-parts}
 use Rattle.desk_core.proofs.ByeTells.{tells_bye}
@@ -24,13 +24,15 @@ invariant_of-self-2 c =
     let keys = filter (is_others (nodes w.entries) client) c.self.inside.windows in
     let V : Widgets → Type 0 = λ v. IsWidgets v in
     let S : List ℕ → Type 0 = λ ks. IsStack ks in
+    let O : List ℕ → Type 0 = λ cs. AreConnectedOnce cs in
+    let once = subst O c.leave.ensures.left c.leave.ensures.once in
     let valid = subst V c.drop_client.ensures.left c.drop_client.ensures.valid in
     let stack = subst S c.close_windows.ensures.closed c.close_windows.ensures.valid in
     let P : List ℕ → Type 0 = λ cs. IsStanding cs c.drop_client.new.self c.close_windows.new.windows in
     let Q : Widgets → Type 0 = λ v. IsStanding (filter (λ other. not (nat_eq client other)) c.self.inside.clients) v c.close_windows.new.windows in
     let R : List ℕ → Type 0 = λ ks. IsStanding (filter (λ other. not (nat_eq client other)) c.self.inside.clients) (departed client w) ks in
-    subst P (sym c.leave.ensures)
-    (subst Q (sym c.drop_client.ensures.left) (subst R (sym c.close_windows.ensures.closed) (IsStanding-departed c.self.inside.clients w client c.self.inside.windows c.self.invariant valid stack)))
+    subst P (sym c.leave.ensures.left)
+    (subst Q (sym c.drop_client.ensures.left) (subst R (sym c.close_windows.ensures.closed) (IsStanding-departed c.self.inside.clients w client c.self.inside.windows c.self.invariant once valid stack)))
 
 pub returns-clause-step : goal.returns-clause-step
 unfolding step_bye
@@ -68,12 +70,14 @@ returns-clause-valid c =
     let joined = filter (λ other. not (nat_eq client other)) c.self.inside.clients in
     let V : Widgets → Type 0 = λ v. IsWidgets v in
     let S : List ℕ → Type 0 = λ ks. IsStack ks in
+    let O : List ℕ → Type 0 = λ cs. AreConnectedOnce cs in
+    let once = subst O c.leave.ensures.left c.leave.ensures.once in
     let valid = subst V c.drop_client.ensures.left c.drop_client.ensures.valid in
     let stack = subst S c.close_windows.ensures.closed c.close_windows.ensures.valid in
     let Q : Widgets → Type 0 = λ v. IsStanding joined v c.close_windows.new.windows in
     let R : List ℕ → Type 0 = λ ks. IsStanding joined (departed client w) ks in
     let kept : IsStanding joined c.drop_client.new.self c.close_windows.new.windows =
-    subst Q (sym c.drop_client.ensures.left) (subst R (sym c.close_windows.ensures.closed) (IsStanding-departed c.self.inside.clients w client c.self.inside.windows c.self.invariant valid stack)) in
+    subst Q (sym c.drop_client.ensures.left) (subst R (sym c.close_windows.ensures.closed) (IsStanding-departed c.self.inside.clients w client c.self.inside.windows c.self.invariant once valid stack)) in
     IsDesk-parts c.self.inside.shape joined c.drop_client.new.self c.close_windows.new.windows kept
 
 pub returns-then-not-has-clause-valid : goal.returns-then-not-has-clause-valid
