@@ -5,6 +5,7 @@ ghost use Rattle.desk_model.specs.DeskFacts.{IsDesk};
 ghost use Rattle.desk_model.specs.OpenWindows.{open_windows};
 ghost use Rattle.desk_model.specs.Clients.{step_bye, step_connect, step_hello};
 ghost use Rattle.desk_model.specs.Commands.{is_built, step};
+ghost use Rattle.desk_model.specs.OwnPart.{LeavesOthers};
 ghost use Rattle.desk_core.specs.Standing.{TellsChange};
 ghost use Rattle.desk_model.specs.Refusing.{is_memory};
 
@@ -63,6 +64,7 @@ impl Desk {
         requires low { 1 ≤ client }
         requires high { client ≤ 16 }
         ensures step { (result, self.new.desk) ≡ step_connect self.old.desk client (is_memory result) }
+        ensures others { LeavesOthers client self.old.desk self.new.desk }
         ensures valid { IsDesk self.new.desk }
         ensures changed { TellsChange self.old self.new }
         ensures unchanged { self.new.changed ≡ false }
@@ -111,6 +113,7 @@ impl Desk {
         requires bare { payload.now ≡ [] }
         ensures changed { TellsChange self.old self.new }
         ensures step { (result, self.new.desk) ≡ step self.old.desk client command.now (is_memory result) }
+        ensures others { LeavesOthers client self.old.desk self.new.desk }
         ensures valid { IsDesk self.new.desk }
     {
         self.changed = false;
@@ -129,6 +132,7 @@ impl Desk {
         requires low { 1 ≤ client }
         requires high { client ≤ 16 }
         ensures step { (result, self.new.desk) ≡ step_bye self.old.desk client }
+        ensures others { LeavesOthers client self.old.desk self.new.desk }
         ensures changed { TellsChange self.old self.new }
         ensures valid { IsDesk self.new.desk }
     {

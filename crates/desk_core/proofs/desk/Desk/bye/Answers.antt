@@ -15,6 +15,8 @@ use Rattle.desk_model.specs.Desk.{Desk}
 use Rattle.desk_model.specs.Clients.{step_bye, without_client}
 use Rattle.desk_core.specs.Standing.{Standing, desk_of, is_others, IsStanding}
 use Rattle.desk_core.proofs.Departing.{desk_of-departed, IsStanding-departed}
+use Rattle.desk_model.specs.OwnPart.{LeavesOthers}
+use Rattle.desk_model.proofs.OwnPart.{LeavesOthers-same, LeavesOthers-without_client}
 use Rattle.desk_core.proofs.desk.Desk.bye.Goals as goal
 
 pub invariant_of-self-2 : goal.invariant_of-self-2
@@ -82,3 +84,21 @@ returns-clause-valid c =
 
 pub returns-then-not-has-clause-valid : goal.returns-then-not-has-clause-valid
 returns-then-not-has-clause-valid c = IsDesk-parts _ _ _ _ c.self.invariant
+
+pub returns-clause-others : goal.returns-clause-others
+returns-clause-others c =
+    let shape = c.self.inside.shape in
+    let client = c.args.client in
+    let old = c.args.self.now.desk in
+    let left : desk_of shape c.drop_client.new.self c.close_windows.new.windows ≡ without_client client old =
+    ap₂ (λ (v : Widgets) (ks : List ℕ). desk_of shape v ks) c.drop_client.ensures.left c.close_windows.ensures.closed
+    ∙ desk_of-departed shape c.self.inside.tree client c.self.inside.windows c.self.invariant.windows
+    ∙ ap (λ (s : Standing). without_client client s.desk) c.self.view_is in
+    let P : Desk → Type 0 = λ d. LeavesOthers client old d in
+    subst P (sym left) (LeavesOthers-without_client client old)
+
+pub returns-then-not-has-clause-others : goal.returns-then-not-has-clause-others
+returns-then-not-has-clause-others c =
+    let now = desk_of c.self.inside.shape c.self.inside.tree c.self.inside.windows in
+    let P : Standing → Type 0 = λ s. LeavesOthers c.args.client s.desk now in
+    subst P c.self.view_is (LeavesOthers-same c.args.client now)
