@@ -1,12 +1,12 @@
 -- What a client that leaves changes: something exactly where it has a widget.
-use Rattle.std.proofs.Common.{◌≡◌, ◌↔◌, IsTrue, ℕ, zero, suc, ◌+◌, ◌<◌, Bool, true, false, cond, ◌&&◌, not, nat_eq, List, [], ◌∷◌, Option, Some, None, refl, sym, ap, ◌∙◌, subst, arith}
+use Rattle.std.proofs.Common.{◌≡◌, ◌↔◌, IsTrue, ℕ, zero, suc, ◌+◌, ◌<◌, Bool, true, false, cond, ◌&&◌, not, nat_eq, List, [], ◌∷◌, Some, None, refl, sym, ap, ◌∙◌, arith}
 use Rattle.std.proofs.lemmas.Bool.{true≢false, and_parts, eqb-true}
 use Rattle.std.proofs.lemmas.List.Sums.{sum_by-cons}
-use Rattle.std.specs.List.{list_all, filter, find, count_by}
+use Rattle.std.specs.List.{list_all, filter}
 use Rattle.std.specs.Str.{bytes_eq}
 use Rattle.desk_model.specs.Rows.{Row}
 use Rattle.desk_model.specs.Nodes.{any_kind}
-use Rattle.desk_model.specs.Named.{has_name, row_named, rows_of_others, rows_counted, is_kind_of}
+use Rattle.desk_model.specs.Named.{row_named, rows_of_others, rows_counted, is_kind_of}
 use Rattle.desk_model.specs.Linking.{is_window_kind}
 
 module _ (client : ℕ) where

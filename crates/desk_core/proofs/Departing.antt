@@ -14,6 +14,7 @@ use Rattle.desk_model.specs.Clients.{without_client}
 use Rattle.desk_model.proofs.Naming.{rows, rows_of-departed}
 use Rattle.desk_core.specs.Standing.{windows_at, desk_of, names_window, is_others, IsStanding}
 use Rattle.desk_model.specs.Fitting.{fits_rules}
+use Rattle.desk_model.specs.DeskFacts.{AreConnectedOnce}
 use Rattle.desk_core.proofs.Leaving.{windows_at-filter, node_at-others}
 
 abbrev title : Option Node → ℕ × List ℕ
@@ -67,6 +68,6 @@ pub desk_of-departed : (shape : Shape) (w : Widgets) (client : ℕ) (keys : List
 desk_of-departed shape w client keys windows =
     ap₂ (λ (rs : List Row) (ws : List (ℕ × List ℕ)). record (desk_of shape (departed client w) []) { rows = rs; windows = ws }) (rows_of-departed w client) (others_titles w.entries client keys windows ∙ windows_at-filter (nodes w.entries) client keys)
 
-pub IsStanding-departed : (joined : List ℕ) (w : Widgets) (client : ℕ) (keys : List ℕ) → IsStanding joined w keys → IsWidgets (departed client w) → IsStack (filter (is_others (nodes w.entries) client) keys) → IsStanding (filter (λ other. not (nat_eq client other)) joined) (departed client w) (filter (is_others (nodes w.entries) client) keys)
-IsStanding-departed joined w client keys kept valid stack =
-    record { clients = ap (filter (λ other. not (nat_eq client other))) kept.clients; tree = valid; stack = stack; windows = others_windows w.entries client keys kept.windows; rules = others_rules w.entries client kept.rules }
+pub IsStanding-departed : (joined : List ℕ) (w : Widgets) (client : ℕ) (keys : List ℕ) → IsStanding joined w keys → AreConnectedOnce (filter (λ other. not (nat_eq client other)) joined) → IsWidgets (departed client w) → IsStack (filter (is_others (nodes w.entries) client) keys) → IsStanding (filter (λ other. not (nat_eq client other)) joined) (departed client w) (filter (is_others (nodes w.entries) client) keys)
+IsStanding-departed joined w client keys kept once valid stack =
+    record { clients = ap (filter (λ other. not (nat_eq client other))) kept.clients; once = once; tree = valid; stack = stack; windows = others_windows w.entries client keys kept.windows; rules = others_rules w.entries client kept.rules }

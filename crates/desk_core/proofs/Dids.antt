@@ -18,6 +18,7 @@ use Rattle.tree_core.proofs.ForestLemmas.{nodes-with_row}
 use Rattle.desk_model.specs.Linking.{is_window_kind}
 use Rattle.desk_core.specs.Standing.{windows_at, desk_of, names_window, IsStanding}
 use Rattle.desk_model.specs.Fitting.{fits_rules}
+use Rattle.desk_model.specs.DeskFacts.{AreConnectedOnce}
 use Rattle.desk_core.specs.Did.{Did, DidAll, IsFound, with_rows}
 
 -- the widget that has the name's number
@@ -90,11 +91,12 @@ windows_kept old new (k ∷ ks) kept windows =
 
 pub did_all : (step : Desk → Reply × Desk) (old new : Widgets) (keys : List ℕ) (reply : Reply) → Did step old new reply → IsStanding old.clients old keys → IsWidgets new → DidAll step old new keys keys reply
 did_all step old new keys reply did standing valid =
+    let O : List ℕ → Type 0 = λ clients. AreConnectedOnce clients in
     let titles = titles_kept (nodes old.entries) (nodes new.entries) keys did.kept standing.windows in
     record {
       answer = λ shape.
           ap₂ (λ (clients : List ℕ) (windows : List (ℕ × List ℕ)). (reply, record (desk_of shape old keys) { clients = clients; rows = rows_of new; windows = windows })) did.clients titles
           ∙ did.answer (desk_of shape old keys);
       clients = did.clients;
-      kept = record { clients = refl; tree = valid; stack = standing.stack; windows = windows_kept (nodes old.entries) (nodes new.entries) keys did.kept standing.windows; rules = did.rules standing.rules };
+      kept = record { clients = refl; once = subst O (sym did.clients) standing.once; tree = valid; stack = standing.stack; windows = windows_kept (nodes old.entries) (nodes new.entries) keys did.kept standing.windows; rules = did.rules standing.rules };
     }

@@ -86,7 +86,7 @@ dropped_all w new client name key kind keys reply kept found closed unused left 
           ∙ ap (λ (r : Reply). (r, record (desk_of shape w keys) { rows = without_named client name (rows_of w) })) replied
           ∙ sym (step_drop-by (desk_of shape w keys) client name (Some found.row) false found.named shut ∙ rw unused refl);
       clients = refl;
-      kept = record { clients = refl; tree = sound; stack = kept.stack; windows = windows_left w.entries key keys closed kept.windows; rules = rules_left w.entries key kept.rules };
+      kept = record { clients = refl; once = kept.once; tree = sound; stack = kept.stack; windows = windows_left w.entries key keys closed kept.windows; rules = rules_left w.entries key kept.rules };
     })
     valid
 

@@ -11,6 +11,7 @@ use Rattle.desk_model.specs.Nodes.{Node, node_of, node_at}
 use Rattle.desk_model.specs.Widgets.{nodes, row_at}
 use Rattle.tree_core.proofs.ForestLemmas.{node_at-nodes}
 use Rattle.desk_core.specs.Joined.{IsJoined}
+use Rattle.desk_core.proofs.Joins.{distinct-once, once-distinct}
 use Rattle.desk_core.specs.Standing.{title_at, windows_at, is_others}
 
 -- without one key, as a filter
@@ -34,7 +35,7 @@ list_all-without p (k ∷ ks) key h = by (list_all-without p ks key parts.1) (na
     by rest false = and_from _ _ parts.0 rest
 
 pub IsJoined-without : (clients : List ℕ) (client : ℕ) → IsJoined clients → IsJoined (without clients client)
-IsJoined-without clients client kept = record { range = list_all-without _ clients client kept.range; distinct = AreDistinct-without clients client kept.distinct }
+IsJoined-without clients client kept = record { range = list_all-without _ clients client kept.range; once = once-distinct (without clients client) (AreDistinct-without clients client (distinct-once clients kept.once)) }
 
 -- a key that doesn't pass is left out anyway
 pub filter-without : (p : ℕ → Bool) (ks : List ℕ) (key : ℕ) → p key ≡ false → filter p (without ks key) ≡ filter p ks

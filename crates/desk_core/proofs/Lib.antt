@@ -17,5 +17,6 @@ pub mod HangSteps
 pub mod LiftSteps
 pub mod DropSteps
 pub mod Departing
+pub mod Linked
 pub mod Valid
 pub mod ByeTells

@@ -207,5 +207,5 @@ opened_all w client name key kind keys keys' reply kept found window new pushed 
           ∙ ap (λ (t : ℕ × List ℕ). (Done, record (desk_of shape w keys) { windows = t ∷ windows_at (nodes w.entries) keys })) title
           ∙ sym (step_open-by (desk_of shape w keys) client name (Some found.row) false found.named closed ∙ rw right refl);
       clients = refl;
-      kept = record { clients = kept.clients; tree = kept.tree; stack = stack; windows = subst P (sym pushed) (and_from _ _ (found-window w client name key kind found window) kept.windows); rules = kept.rules };
+      kept = record { clients = kept.clients; once = kept.once; tree = kept.tree; stack = stack; windows = subst P (sym pushed) (and_from _ _ (found-window w client name key kind found window) kept.windows); rules = kept.rules };
     }

@@ -1,5 +1,5 @@
 -- What the parts of a desk keep by number, the desk keeps by name.
-use Rattle.std.proofs.Common.{◌≡◌, ℕ, true, false, List, [], ◌∷◌, Option, Some, None, refl, sym, ap, ◌∙◌}
+use Rattle.std.proofs.Common.{◌≡◌, ℕ, true, false, List, [], ◌∷◌, Option, Some, None, ◌++◌, refl, sym, ap, ◌∙◌, subst}
 use Rattle.std.proofs.lemmas.Bool.{true≢false, and_parts, and_from}
 use Rattle.std.specs.List.{list_all, list_any}
 use Rattle.std.specs.Option.{option_map}
@@ -8,10 +8,10 @@ use Rattle.stack_core.specs.Stack.{AreDistinct}
 use Rattle.desk_model.specs.Rows.{Row}
 use Rattle.desk_model.specs.Nodes.{Node, node_of, node_at, any_kind, counts_with}
 use Rattle.desk_model.specs.Named.{row_named, is_kind_of}
-use Rattle.desk_model.specs.Widgets.{Widgets, nodes, row_at, rows_of, is_joined}
+use Rattle.desk_model.specs.Widgets.{Widgets, nodes, row_at, rows_of, is_joined, joined}
 use Rattle.desk_model.specs.Forest.{IsForest, IsWidgets}
 use Rattle.desk_model.specs.Desk.{is_window}
-use Rattle.desk_model.specs.DeskFacts.{AreOpenOnce, IsDesk}
+use Rattle.desk_model.specs.DeskFacts.{AreConnectedOnce, AreOpenOnce, IsDesk}
 use Rattle.desk_model.specs.Linking.{is_window_kind}
 use Rattle.desk_model.proofs.Naming.{rows, id_named-row, count_of-nodes}
 use Rattle.tree_core.proofs.ForestLemmas.{node_at-nodes}
@@ -19,6 +19,7 @@ use Rattle.tree_core.proofs.Listed.{AreNamedApart-rows, row_named-row}
 use Rattle.desk_core.specs.Standing.{title_at, windows_at, desk_of, names_window, IsStanding}
 use Rattle.desk_core.specs.Did.{IsFound}
 use Rattle.desk_core.proofs.OpenSteps.{is_open-holds_key}
+use Rattle.desk_core.proofs.Linked.{all_lead-rows}
 
 -- each row's client is joined where each node's is
 owners-rows : (clients : List ℕ) (es : List (ℕ × Row)) → list_all (λ (e : ℕ × Node). is_joined clients e.1.client) (nodes es) ≡ true → list_all (λ (row : Row). is_joined clients row.client) (rows es) ≡ true
@@ -78,29 +79,43 @@ AreOpenOnce-windows_at widgets (key ∷ keys) forest windows distinct =
     is_open-holds_key widgets row.client row.name key row.kind keys forest.own_names titled.found parts.1 ∙ distinct.0 in
     (rw titled.title apart, AreOpenOnce-windows_at widgets keys forest parts.1 distinct.1)
 
-pub IsDesk-parts : (shape : Shape) (joined : List ℕ) (widgets : Widgets) (keys : List ℕ) → IsStanding joined widgets keys → IsDesk (desk_of shape widgets keys)
-IsDesk-parts shape joined widgets keys kept =
+pub IsDesk-parts : (shape : Shape) (clients : List ℕ) (widgets : Widgets) (keys : List ℕ) → IsStanding clients widgets keys → IsDesk (desk_of shape widgets keys)
+IsDesk-parts shape clients widgets keys kept =
     let forest = kept.tree.forest in
+    let O : List ℕ → Type 0 = λ clients. AreConnectedOnce clients in
     record {
       clients = forest.clients_in_range;
+      connected_once = subst O kept.clients kept.once;
       owners = owners-rows widgets.clients widgets.entries forest.owners;
       names = AreNamedApart-rows widgets.entries forest.own_names;
       most = λ client. rw (← count_of-nodes widgets.entries client any_kind) (forest.most client);
       most_alike = λ client kind. rw (← count_of-nodes widgets.entries client (counts_with kind)) (forest.most_alike client kind);
       planted = kept.tree.planted;
+      linked = sym (all_lead-rows widgets.entries widgets.entries) ∙ kept.tree.linked;
       fitting = kept.tree.fitting;
+      rules = kept.rules;
       windows = windows-named widgets keys forest kept.windows;
       once = AreOpenOnce-windows_at widgets keys forest kept.windows kept.stack.distinct;
     }
 
--- where the rows are as they were, as where a client connects
-pub IsDesk-same_entries : (shape : Shape) (joined : List ℕ) (old new : Widgets) (keys : List ℕ) → IsStanding joined old keys → IsWidgets new → new.entries ≡ old.entries → IsDesk (desk_of shape new keys)
-IsDesk-same_entries shape joined old new keys kept tree same =
+-- where a client connects, the rows and the open windows are as they were
+pub IsDesk-joined : (shape : Shape) (clients now : List ℕ) (old new : Widgets) (client : ℕ) (keys : List ℕ) → IsStanding clients old keys → IsWidgets new → new ≡ joined client old → now ≡ clients ++ client ∷ [] → AreConnectedOnce now → IsDesk (desk_of shape new keys)
+IsDesk-joined shape clients now old new client keys kept tree left added once =
+    let O : List ℕ → Type 0 = λ cs. AreConnectedOnce cs in
+    let same : new.entries ≡ old.entries = ap (λ (w : Widgets). w.entries) left in
+    let more : now ≡ new.clients = added ∙ ap (λ (cs : List ℕ). cs ++ client ∷ []) kept.clients ∙ sym (ap (λ (w : Widgets). w.clients) left) in
     IsDesk-parts shape new.clients new keys
     (record {
       clients = refl;
+      once = subst O more once;
       tree = tree;
       stack = kept.stack;
       windows = rw same kept.windows;
       rules = rw same kept.rules;
     })
+
+-- where none could, all is as it was
+pub IsDesk-same : (shape : Shape) (clients : List ℕ) (old new : Widgets) (keys : List ℕ) → IsStanding clients old keys → new ≡ old → IsDesk (desk_of shape new keys)
+IsDesk-same shape clients old new keys kept same =
+    let D : Widgets → Type 0 = λ w. IsDesk (desk_of shape w keys) in
+    subst D (sym same) (IsDesk-parts shape clients old keys kept)

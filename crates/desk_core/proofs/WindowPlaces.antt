@@ -1,21 +1,24 @@
 -- Where the open windows stand, by number as by name.
-use Rattle.std.proofs.Common.{◌≡◌, ℕ, zero, suc, ◌<◌, ◌≤◌, true, List, [], ◌∷◌, length, map, slice_get, Option, Some, None, is_some, refl, sym, ap, ◌∙◌, arith}
+use Rattle.std.proofs.Common.{◌≡◌, ℕ, ℤ, unsigned_abs, zero, suc, ◌<◌, ◌≤◌, true, List, [], ◌∷◌, length, map, slice_get, Option, Some, None, is_some, refl, sym, ap, ◌∙◌, arith}
 use Rattle.std.proofs.lemmas.Bool.{true≢false, and_parts}
 use Rattle.std.specs.List.{list_all}
-use Rattle.std.specs.Option.{option_map, option_and_then}
+use Rattle.std.specs.Option.{option_map}
+use Rattle.kind_core.specs.declared.kinds.Attr.TheVariants.{X, Y, W, H}
 use Rattle.kind_core.specs.declared.shapes.Shape.{Shape}
-use Rattle.desk_model.specs.Rows.{Row}
+use Rattle.kind_core.specs.declared.values.Value as value
+use Rattle.desk_model.specs.Rows.{Row, attr_of}
 use Rattle.desk_model.specs.Nodes.{Node, node_of, node_at}
-use Rattle.desk_model.specs.Named.{row_named, is_kind_of}
+use Rattle.desk_model.specs.Named.{row_named}
 use Rattle.desk_model.specs.Widgets.{Widgets, nodes, rows_of, row_at}
 use Rattle.desk_model.proofs.Naming.{row_named-found, id_named-row}
 use Rattle.tree_core.proofs.ForestLemmas.{node_at-nodes}
 use Rattle.desk_core.specs.Standing.{title_at, windows_at, desk_of, names_window, IsStanding}
-use Rattle.desk_core.specs.Open.{place_in, window_at}
 use Rattle.desk_model.specs.declared.window.Window.{Window}
-use Rattle.desk_model.specs.Desk.{Desk}
-use Rattle.desk_model.specs.Linking.{is_window_kind}
-use Rattle.desk_model.specs.OpenWindows.{open_windows, place_of_window, place_of_row}
+use Rattle.desk_model.specs.OpenWindows.{number_in, open_windows, place_of_window, place_of_row}
+
+-- a place as its sides
+abbrev pub sides : Window → ℤ × ℤ × ℕ × ℕ
+sides w = (w.x, w.y, w.w, w.h)
 
 slice_get-map : {X Y : Type 0} (f : X → Y) (xs : List X) (i : ℕ) → slice_get (map f xs) i ≡ option_map f (slice_get xs i)
 slice_get-map f [] i = refl
@@ -59,39 +62,33 @@ title_row w clients keys key kept live = by (row_at w.entries key) refl (node_at
         let there : node_at (nodes w.entries) key ≡ Some (node_of row) = q ∙ ap (option_map node_of) p in
         rw there (row_named-found w.entries row.client row.name key kept.tree.forest.own_numbers (id_named-row w.entries key row kept.tree.forest.own_names p))
 
-pub window_at-key : (shape : Shape) (w : Widgets) (clients : List ℕ) (keys : List ℕ) (i key : ℕ) → IsStanding clients w keys → slice_get keys i ≡ Some key → window_at (desk_of shape w keys) i ≡ option_map place_in (row_at w.entries key)
-window_at-key shape w clients keys i key kept there =
+-- the sides that a row's attributes give are those of its place
+pub sides_of_row : (o : Option Row) (x y w h : Option value.Value) → option_map (λ (row : Row). attr_of row X) o ≡ Some x → option_map (λ (row : Row). attr_of row Y) o ≡ Some y → option_map (λ (row : Row). attr_of row W) o ≡ Some w → option_map (λ (row : Row). attr_of row H) o ≡ Some h → (number_in x, number_in y, unsigned_abs (number_in w), unsigned_abs (number_in h)) ≡ sides (place_of_row o)
+sides_of_row None x y w h a b d e = absurd (cc)
+sides_of_row (Some row) x y w h a b d e = cc
+
+-- the place of the window with that index is that of its number's row
+pub open_windows-key : (shape : Shape) (w : Widgets) (clients : List ℕ) (keys : List ℕ) (i key : ℕ) → IsStanding clients w keys → slice_get keys i ≡ Some key → slice_get (open_windows (desk_of shape w keys)) i ≡ Some (place_of_row (row_at w.entries key))
+unfolding open_windows
+open_windows-key shape w clients keys i key kept there =
     let ns = nodes w.entries in
     let found : slice_get (windows_at ns keys) i ≡ Some (title_at ns key) = slice_get-map (title_at ns) keys i ∙ ap (option_map (title_at ns)) there in
-    ap (option_and_then (λ (window : ℕ × List ℕ). option_map place_in (row_named (rows_of w) window.0 window.1))) found ∙ ap (option_map place_in) (title_row w clients keys key kept (window_live w keys i key kept.windows there))
+    slice_get-map (place_of_window (rows_of w)) (windows_at ns keys) i
+    ∙ ap (option_map (place_of_window (rows_of w))) found
+    ∙ ap (λ (o : Option Row). Some (place_of_row o)) (title_row w clients keys key kept (window_live w keys i key kept.windows there))
 
-pub window_at-past : (shape : Shape) (w : Widgets) (keys : List ℕ) (i : ℕ) → slice_get keys i ≡ None → window_at (desk_of shape w keys) i ≡ None
-window_at-past shape w keys i past =
+pub open_windows-past : (shape : Shape) (w : Widgets) (keys : List ℕ) (i : ℕ) → slice_get keys i ≡ None → slice_get (open_windows (desk_of shape w keys)) i ≡ None
+unfolding open_windows
+open_windows-past shape w keys i past =
     let ns = nodes w.entries in
     let none : slice_get (windows_at ns keys) i ≡ None = slice_get-map (title_at ns) keys i ∙ ap (option_map (title_at ns)) past in
-    ap (option_and_then (λ (window : ℕ × List ℕ). option_map place_in (row_named (rows_of w) window.0 window.1))) none
+    slice_get-map (place_of_window (rows_of w)) (windows_at ns keys) i ∙ ap (option_map (place_of_window (rows_of w))) none
 
 pub index_within : (ns : List (ℕ × Node)) (keys : List ℕ) (i key : ℕ) → slice_get keys i ≡ Some key → i < length (windows_at ns keys)
 index_within ns keys i key there = slice_get-within (windows_at ns keys) i (title_at ns key) (slice_get-map (title_at ns) keys i ∙ ap (option_map (title_at ns)) there)
 
 pub index_past : (ns : List (ℕ × Node)) (keys : List ℕ) (i : ℕ) → slice_get keys i ≡ None → length (windows_at ns keys) ≤ i
 index_past ns keys i past = slice_get-past (windows_at ns keys) i (slice_get-map (title_at ns) keys i ∙ ap (option_map (title_at ns)) past)
-
--- the places of the open windows, one after another
-open_at : (rows : List Row) (windows : List (ℕ × List ℕ)) (index : ℕ) → list_all (λ (window : ℕ × List ℕ). is_kind_of is_window_kind (row_named rows window.0 window.1)) windows ≡ true → option_map (λ (w : Window). (w.x, w.y, w.w, w.h)) (slice_get (map (place_of_window rows) windows) index) ≡ option_and_then (λ (window : ℕ × List ℕ). option_map place_in (row_named rows window.0 window.1)) (slice_get windows index)
-open_at rows [] index all = refl
-open_at rows (window ∷ windows) zero all =
-    by (row_named rows window.0 window.1) (and_parts (is_kind_of is_window_kind (row_named rows window.0 window.1)) (list_all (λ (window : ℕ × List ℕ). is_kind_of is_window_kind (row_named rows window.0 window.1)) windows) all).0
-  where
-    by : (o : Option Row) → is_kind_of is_window_kind o ≡ true → Some ((place_of_row o).x, (place_of_row o).y, (place_of_row o).w, (place_of_row o).h) ≡ option_map place_in o
-    by None h = absurd (true≢false (sym h))
-    by (Some row) h = refl
-open_at rows (window ∷ windows) (suc index) all =
-    open_at rows windows index (and_parts (is_kind_of is_window_kind (row_named rows window.0 window.1)) (list_all (λ (window : ℕ × List ℕ). is_kind_of is_window_kind (row_named rows window.0 window.1)) windows) all).1
-
-pub window_at-open : (desk : Desk) (index : ℕ) → list_all (λ (window : ℕ × List ℕ). is_kind_of is_window_kind (row_named desk.rows window.0 window.1)) desk.windows ≡ true → window_at desk index ≡ option_map (λ (w : Window). (w.x, w.y, w.w, w.h)) (slice_get (open_windows desk) index)
-unfolding open_windows
-window_at-open desk index all = sym (open_at desk.rows desk.windows index all)
 
 pub length-windows_at : (ns : List (ℕ × Node)) (keys : List ℕ) → length (windows_at ns keys) ≡ length keys
 length-windows_at ns [] = refl

@@ -5,4 +5,3 @@ pub mod Finding
 pub mod Told
 pub mod Ruling
 pub mod Given
-pub mod Open

@@ -8,6 +8,7 @@ use Rattle.desk_model.specs.Nodes.{Node, node_at}
 use Rattle.desk_model.specs.Widgets.{Widgets, nodes, rows_of}
 use Rattle.desk_model.specs.Forest.{IsWidgets}
 use Rattle.desk_model.specs.Fitting.{fits_rules}
+use Rattle.desk_model.specs.DeskFacts.{AreConnectedOnce}
 use Rattle.desk_model.specs.Linking.{is_window_kind}
 use Rattle.desk_model.specs.Pointer.{opening_pointer}
 use Rattle.desk_model.specs.Desk.{Desk}
@@ -49,6 +50,7 @@ is_others entries client key = not (nat_eq client (title_at entries key).0)
 -- what the parts of a desk keep together
 pub record IsStanding (joined : List ℕ) (widgets : Widgets) (keys : List ℕ) : Type 0 where
   pub clients : joined ≡ widgets.clients
+  pub once : AreConnectedOnce joined
   pub tree : IsWidgets widgets
   pub stack : IsStack keys
   pub windows : list_all (names_window (nodes widgets.entries)) keys ≡ true

@@ -2,6 +2,7 @@ ghost use Rattle.std.specs.Prelude.{◌≡◌, ◌≤◌, ◌+◌, ◌∷◌, �
 ghost use Rattle.std.specs.List.{filter};
 ghost use Rattle.stack_core.specs.Stack.{holds_key};
 ghost use Rattle.desk_model.specs.Clients.{free_client};
+ghost use Rattle.desk_model.specs.DeskFacts.{AreConnectedOnce};
 ghost use Rattle.desk_model.specs.Widgets.{is_joined};
 
 use arrayvec::ArrayVec;
@@ -63,14 +64,16 @@ impl Clients {
         requires low { 1 ≤ client }
         requires high { client ≤ 16 }
         requires new_client { is_joined self.old client ≡ false }
-        ensures { self.new ≡ self.old ++ client ∷ [] }
+        ensures added { self.new ≡ self.old ++ client ∷ [] }
+        ensures once { AreConnectedOnce self.new }
     {
         self.numbers.push(client);
     }
 
     /// Takes the client out; the others keep their order.
     pub(crate) fn leave(&mut self, client: u32)
-        ensures { self.new ≡ filter (λ other. not (nat_eq client other)) self.old }
+        ensures left { self.new ≡ filter (λ other. not (nat_eq client other)) self.old }
+        ensures once { AreConnectedOnce self.new }
     {
         match place_of(self.numbers.as_slice(), client) {
             Some(place) => {
@@ -82,7 +85,8 @@ impl Clients {
 
     /// How many there are, at most 16.
     pub(crate) fn len(&self) -> u32
-        ensures { result ≡ length self.now }
+        ensures many { result ≡ length self.now }
+        ensures few { result ≤ 16 }
     {
         self.numbers.len() as u32
     }

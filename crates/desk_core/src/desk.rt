@@ -5,6 +5,7 @@ ghost use Rattle.desk_model.specs.DeskFacts.{IsDesk};
 ghost use Rattle.desk_model.specs.OpenWindows.{open_windows};
 ghost use Rattle.desk_model.specs.Clients.{step_bye, step_connect, step_hello};
 ghost use Rattle.desk_model.specs.Commands.{is_built, step};
+ghost use Rattle.desk_model.specs.OwnPart.{LeavesOthers};
 ghost use Rattle.desk_core.specs.Standing.{TellsChange};
 ghost use Rattle.desk_model.specs.Refusing.{is_memory};
 
@@ -63,6 +64,7 @@ impl Desk {
         requires low { 1 ≤ client }
         requires high { client ≤ 16 }
         ensures step { (result, self.new.desk) ≡ step_connect self.old.desk client (is_memory result) }
+        ensures others { LeavesOthers client self.old.desk self.new.desk }
         ensures valid { IsDesk self.new.desk }
         ensures changed { TellsChange self.old self.new }
         ensures unchanged { self.new.changed ≡ false }
@@ -111,6 +113,7 @@ impl Desk {
         requires bare { payload.now ≡ [] }
         ensures changed { TellsChange self.old self.new }
         ensures step { (result, self.new.desk) ≡ step self.old.desk client command.now (is_memory result) }
+        ensures others { LeavesOthers client self.old.desk self.new.desk }
         ensures valid { IsDesk self.new.desk }
     {
         self.changed = false;
@@ -129,6 +132,7 @@ impl Desk {
         requires low { 1 ≤ client }
         requires high { client ≤ 16 }
         ensures step { (result, self.new.desk) ≡ step_bye self.old.desk client }
+        ensures others { LeavesOthers client self.old.desk self.new.desk }
         ensures changed { TellsChange self.old self.new }
         ensures valid { IsDesk self.new.desk }
     {
@@ -158,17 +162,19 @@ impl Desk {
         }
     }
 
-    /// Whether the last call that connects a client or answers one changed the rows, the open windows or
-    /// their order.
+    /// Whether the last call of `connect`, `hello`, `step` or `bye` changed the rows, the open windows or their
+    /// order; false before the first. See docs/MACHINE.md, "Commands".
     pub fn changed(&self) -> bool
         ensures { result ≡ self.now.changed }
     {
         self.changed
     }
 
-    /// The number of connected clients.
+    /// How many clients are connected, 0 to 16. See docs/MACHINE.md, "The desk".
     pub fn live(&self) -> u32
-        ensures { result ≡ length self.now.desk.clients }
+        ensures live { result ≡ length self.now.desk.clients }
+        ensures few { result ≤ 16 }
+        ensures valid { IsDesk self.now.desk }
     {
         self.clients.len()
     }

@@ -1,13 +1,11 @@
 //! The command that opens a window.
 
 ghost use Rattle.std.specs.Prelude.{◌≡◌, Some, true, false, MatchOption};
-ghost use Rattle.std.specs.Option.{option_map};
 ghost use Rattle.std.specs.List.{list_all, filter};
 ghost use Rattle.stack_core.specs.Stack.{holds_key, IsStack};
 ghost use Rattle.desk_model.specs.Linking.{is_window_kind, step_open};
 ghost use Rattle.desk_model.specs.Widgets.{IsLive, row_at, nodes};
-ghost use Rattle.desk_model.specs.OpenWindows.{number_in};
-ghost use Rattle.desk_core.specs.Open.{place_in};
+ghost use Rattle.desk_model.specs.OpenWindows.{number_in, place_of_row};
 ghost use Rattle.desk_core.specs.Standing.{IsStanding, names_window, is_others};
 ghost use Rattle.desk_core.specs.Did.{DidAll, TellsAll};
 
@@ -105,9 +103,10 @@ fn number_in(value: Option<Value>) -> i32
 }
 
 /// The window's x, y, width and height.
+#[tactic(auto, using(crate::proofs::WindowPlaces::sides_of_row))]
 pub(crate) fn place_of(tree: &Tree, id: Id) -> (i32, i32, u32, u32)
     requires { IsLive tree.now id.key }
-    ensures { option_map place_in (row_at tree.now.entries id.key) ≡ Some result }
+    ensures { let place = place_of_row (row_at tree.now.entries id.key) in result ≡ (place.x, place.y, place.w, place.h) }
 {
     let x = number_in(tree.attr(id, Attr::X));
     let y = number_in(tree.attr(id, Attr::Y));

@@ -39,7 +39,8 @@ LeavesOthers-rows client desk rows kept = record {
   rings = refl;
 }
 
-LeavesOthers-same : (client : ℕ) (desk : Desk) → LeavesOthers client desk desk
+-- a desk that stays
+pub LeavesOthers-same : (client : ℕ) (desk : Desk) → LeavesOthers client desk desk
 LeavesOthers-same client desk = LeavesOthers-rows client desk desk.rows refl
 
 -- a refused command leaves the whole desk
@@ -131,7 +132,7 @@ LeavesOthers-open desk client name =
     })
 
 -- each command that is built, and the others, which change nothing
-LeavesOthers-row_step : (desk : Desk) (client : ℕ) (command : Command) (short : Bool) → LeavesOthers client desk (row_step desk client command short).1
+pub LeavesOthers-row_step : (desk : Desk) (client : ℕ) (command : Command) (short : Bool) → LeavesOthers client desk (row_step desk client command short).1
 unfolding row_step
 LeavesOthers-row_step desk client (New name kind) short = LeavesOthers-new desk client name kind short
 LeavesOthers-row_step desk client (Set name options) short = LeavesOthers-set desk client name options
@@ -148,6 +149,30 @@ LeavesOthers-row_step desk client (OpenWindow name) short = LeavesOthers-open de
 LeavesOthers-row_step desk client (DropWidget name) short = LeavesOthers-drop desk client name
 LeavesOthers-row_step desk client _ short = LeavesOthers-same client desk
 
+-- the client comes
+pub LeavesOthers-with_client : (client : ℕ) (desk : Desk) → LeavesOthers client desk (with_client client desk)
+LeavesOthers-with_client client desk = record {
+  shape = refl;
+  clients = λ other differ. list_any-push_other client other desk.clients differ;
+  rows = refl;
+  windows = refl;
+  pointer = refl;
+  roster = refl;
+  rings = refl;
+}
+
+-- the client goes
+pub LeavesOthers-without_client : (client : ℕ) (desk : Desk) → LeavesOthers client desk (without_client client desk)
+LeavesOthers-without_client client desk = record {
+  shape = refl;
+  clients = λ other differ. list_any-without_other client other desk.clients differ;
+  rows = filter-filter (λ (row : Row). not (nat_eq client row.client)) desk.rows;
+  windows = filter-filter (λ (window : ℕ × List ℕ). not (nat_eq client window.0)) desk.windows;
+  pointer = refl;
+  roster = filter-filter (λ (admission : Admission). not (nat_eq client admission.client)) desk.roster;
+  rings = filter-filter (λ (ring : Ring). not (nat_eq client ring.client)) desk.rings;
+}
+
 -- the six laws
 pub commands_leave_others : CommandsLeaveOthers
 unfolding step
@@ -156,31 +181,11 @@ commands_leave_others desk client command short =
 
 pub connects_leave_others : ConnectsLeaveOthers
 unfolding step_connect
-connects_leave_others desk client short =
-    LeavesOthers-outcome client desk _ (Done, with_client client desk)
-    (record {
-      shape = refl;
-      clients = λ other differ. list_any-push_other client other desk.clients differ;
-      rows = refl;
-      windows = refl;
-      pointer = refl;
-      roster = refl;
-      rings = refl;
-    })
+connects_leave_others desk client short = LeavesOthers-outcome client desk _ (Done, with_client client desk) (LeavesOthers-with_client client desk)
 
 pub byes_leave_others : ByesLeaveOthers
 unfolding step_bye
-byes_leave_others desk client =
-    LeavesOthers-outcome client desk _ (Done, without_client client desk)
-    (record {
-      shape = refl;
-      clients = λ other differ. list_any-without_other client other desk.clients differ;
-      rows = filter-filter (λ (row : Row). not (nat_eq client row.client)) desk.rows;
-      windows = filter-filter (λ (window : ℕ × List ℕ). not (nat_eq client window.0)) desk.windows;
-      pointer = refl;
-      roster = filter-filter (λ (admission : Admission). not (nat_eq client admission.client)) desk.roster;
-      rings = filter-filter (λ (ring : Ring). not (nat_eq client ring.client)) desk.rings;
-    })
+byes_leave_others desk client = LeavesOthers-outcome client desk _ (Done, without_client client desk) (LeavesOthers-without_client client desk)
 
 pub answers_depend_on_own_part : AnswersDependOnOwnPart
 unfolding step

@@ -7,7 +7,7 @@ use Rattle.desk_model.specs.Widgets.{Widgets, nodes, departed, is_joined}
 use Rattle.desk_model.specs.Forest.{IsWidgets}
 use Rattle.desk_model.specs.Nodes.{any_kind}
 use Rattle.desk_model.specs.Named.{rows_counted}
-use Rattle.desk_model.specs.DeskFacts.{IsDesk}
+use Rattle.desk_model.specs.DeskFacts.{AreConnectedOnce, IsDesk}
 use Rattle.desk_model.proofs.Naming.{count_of-nodes}
 use Rattle.desk_core.proofs.Valid.{IsDesk-parts}
 use Rattle.desk_core.proofs.ByeTells.{tells_bye}
@@ -15,6 +15,8 @@ use Rattle.desk_model.specs.Desk.{Desk}
 use Rattle.desk_model.specs.Clients.{step_bye, without_client}
 use Rattle.desk_core.specs.Standing.{Standing, desk_of, is_others, IsStanding}
 use Rattle.desk_core.proofs.Departing.{desk_of-departed, IsStanding-departed}
+use Rattle.desk_model.specs.OwnPart.{LeavesOthers}
+use Rattle.desk_model.proofs.OwnPart.{LeavesOthers-same, LeavesOthers-without_client}
 use Rattle.desk_core.proofs.desk.Desk.bye.Goals as goal
 
 pub invariant_of-self-2 : goal.invariant_of-self-2
@@ -24,13 +26,15 @@ invariant_of-self-2 c =
     let keys = filter (is_others (nodes w.entries) client) c.self.inside.windows in
     let V : Widgets → Type 0 = λ v. IsWidgets v in
     let S : List ℕ → Type 0 = λ ks. IsStack ks in
+    let O : List ℕ → Type 0 = λ cs. AreConnectedOnce cs in
+    let once = subst O c.leave.ensures.left c.leave.ensures.once in
     let valid = subst V c.drop_client.ensures.left c.drop_client.ensures.valid in
     let stack = subst S c.close_windows.ensures.closed c.close_windows.ensures.valid in
     let P : List ℕ → Type 0 = λ cs. IsStanding cs c.drop_client.new.self c.close_windows.new.windows in
     let Q : Widgets → Type 0 = λ v. IsStanding (filter (λ other. not (nat_eq client other)) c.self.inside.clients) v c.close_windows.new.windows in
     let R : List ℕ → Type 0 = λ ks. IsStanding (filter (λ other. not (nat_eq client other)) c.self.inside.clients) (departed client w) ks in
-    subst P (sym c.leave.ensures)
-    (subst Q (sym c.drop_client.ensures.left) (subst R (sym c.close_windows.ensures.closed) (IsStanding-departed c.self.inside.clients w client c.self.inside.windows c.self.invariant valid stack)))
+    subst P (sym c.leave.ensures.left)
+    (subst Q (sym c.drop_client.ensures.left) (subst R (sym c.close_windows.ensures.closed) (IsStanding-departed c.self.inside.clients w client c.self.inside.windows c.self.invariant once valid stack)))
 
 pub returns-clause-step : goal.returns-clause-step
 unfolding step_bye
@@ -68,13 +72,33 @@ returns-clause-valid c =
     let joined = filter (λ other. not (nat_eq client other)) c.self.inside.clients in
     let V : Widgets → Type 0 = λ v. IsWidgets v in
     let S : List ℕ → Type 0 = λ ks. IsStack ks in
+    let O : List ℕ → Type 0 = λ cs. AreConnectedOnce cs in
+    let once = subst O c.leave.ensures.left c.leave.ensures.once in
     let valid = subst V c.drop_client.ensures.left c.drop_client.ensures.valid in
     let stack = subst S c.close_windows.ensures.closed c.close_windows.ensures.valid in
     let Q : Widgets → Type 0 = λ v. IsStanding joined v c.close_windows.new.windows in
     let R : List ℕ → Type 0 = λ ks. IsStanding joined (departed client w) ks in
     let kept : IsStanding joined c.drop_client.new.self c.close_windows.new.windows =
-    subst Q (sym c.drop_client.ensures.left) (subst R (sym c.close_windows.ensures.closed) (IsStanding-departed c.self.inside.clients w client c.self.inside.windows c.self.invariant valid stack)) in
+    subst Q (sym c.drop_client.ensures.left) (subst R (sym c.close_windows.ensures.closed) (IsStanding-departed c.self.inside.clients w client c.self.inside.windows c.self.invariant once valid stack)) in
     IsDesk-parts c.self.inside.shape joined c.drop_client.new.self c.close_windows.new.windows kept
 
 pub returns-then-not-has-clause-valid : goal.returns-then-not-has-clause-valid
 returns-then-not-has-clause-valid c = IsDesk-parts _ _ _ _ c.self.invariant
+
+pub returns-clause-others : goal.returns-clause-others
+returns-clause-others c =
+    let shape = c.self.inside.shape in
+    let client = c.args.client in
+    let old = c.args.self.now.desk in
+    let left : desk_of shape c.drop_client.new.self c.close_windows.new.windows ≡ without_client client old =
+    ap₂ (λ (v : Widgets) (ks : List ℕ). desk_of shape v ks) c.drop_client.ensures.left c.close_windows.ensures.closed
+    ∙ desk_of-departed shape c.self.inside.tree client c.self.inside.windows c.self.invariant.windows
+    ∙ ap (λ (s : Standing). without_client client s.desk) c.self.view_is in
+    let P : Desk → Type 0 = λ d. LeavesOthers client old d in
+    subst P (sym left) (LeavesOthers-without_client client old)
+
+pub returns-then-not-has-clause-others : goal.returns-then-not-has-clause-others
+returns-then-not-has-clause-others c =
+    let now = desk_of c.self.inside.shape c.self.inside.tree c.self.inside.windows in
+    let P : Standing → Type 0 = λ s. LeavesOthers c.args.client s.desk now in
+    subst P c.self.view_is (LeavesOthers-same c.args.client now)

@@ -1,10 +1,11 @@
-use Rattle.std.proofs.Common.{◌≡◌, ◌<◌, ◌≤◌, length, map, refl, sym, ap, ◌∙◌, subst, arith}
+use Rattle.std.proofs.Common.{◌<◌, ◌≤◌, length, Some, slice_get, refl, sym, ap, ◌∙◌, subst, arith}
+use Rattle.std.specs.Option.{option_map}
 use Rattle.desk_model.specs.Widgets.{nodes}
+use Rattle.desk_model.specs.OpenWindows.{open_windows}
 use Rattle.desk_model.specs.DeskFacts.{IsDesk}
 use Rattle.desk_core.specs.Standing.{Standing}
-use Rattle.desk_core.specs.Open.{window_at}
 use Rattle.desk_core.proofs.Valid.{IsDesk-parts}
-use Rattle.desk_core.proofs.WindowPlaces.{window_live, window_at-key, window_at-past, window_at-open, index_within, index_past, length-windows_at}
+use Rattle.desk_core.proofs.WindowPlaces.{sides, window_live, open_windows-key, open_windows-past, index_within, index_past, length-windows_at}
 use Rattle.desk_core.proofs.desk.Desk.window_at.Goals as goal
 
 pub place_of-requires : goal.place_of-requires
@@ -12,11 +13,9 @@ place_of-requires c = window_live c.self.inside.tree c.self.inside.windows c.arg
 
 pub returns-in-Some-clause-place : goal.returns-in-Some-clause-place
 returns-in-Some-clause-place c =
-    let D : Standing → Type 0 = λ s. IsDesk s.desk in
-    let fine = subst D c.self.view_is (IsDesk-parts c.self.inside.shape c.self.inside.clients c.self.inside.tree c.self.inside.windows c.self.invariant) in
-    sym (window_at-key c.self.inside.shape c.self.inside.tree c.self.inside.clients c.self.inside.windows c.args.index c.in-Some.key c.self.invariant (sym c.in-Some.ensures.key) ∙ c.place_of.ensures)
-    ∙ ap (λ (s : Standing). window_at s.desk c.args.index) c.self.view_is
-    ∙ window_at-open c.args.self.now.desk c.args.index fine.windows
+    ap Some c.place_of.ensures
+    ∙ sym (ap (option_map sides) (open_windows-key c.self.inside.shape c.self.inside.tree c.self.inside.clients c.self.inside.windows c.args.index c.in-Some.key c.self.invariant (sym c.in-Some.ensures.key)))
+    ∙ ap (λ (s : Standing). option_map sides (slice_get (open_windows s.desk) c.args.index)) c.self.view_is
 
 pub returns-in-Some-clause-some : goal.returns-in-Some-clause-some
 returns-in-Some-clause-some c =
@@ -35,11 +34,8 @@ returns-in-Some-clause-valid c =
 
 pub returns-in-None-clause-place : goal.returns-in-None-clause-place
 returns-in-None-clause-place c =
-    let D : Standing → Type 0 = λ s. IsDesk s.desk in
-    let fine = subst D c.self.view_is (IsDesk-parts c.self.inside.shape c.self.inside.clients c.self.inside.tree c.self.inside.windows c.self.invariant) in
-    sym (window_at-past c.self.inside.shape c.self.inside.tree c.self.inside.windows c.args.index (sym c.in-None.ensures.key))
-    ∙ ap (λ (s : Standing). window_at s.desk c.args.index) c.self.view_is
-    ∙ window_at-open c.args.self.now.desk c.args.index fine.windows
+    sym (ap (option_map sides) (open_windows-past c.self.inside.shape c.self.inside.tree c.self.inside.windows c.args.index (sym c.in-None.ensures.key)))
+    ∙ ap (λ (s : Standing). option_map sides (slice_get (open_windows s.desk) c.args.index)) c.self.view_is
 
 pub returns-in-None-clause-some : goal.returns-in-None-clause-some
 returns-in-None-clause-some c =
