@@ -14,19 +14,14 @@ ghost use Rattle.desk_model.specs.Rows.{IsIndex};
 ghost use Rattle.tree_core.specs.Refusals.{add_refusal, AnswersRefusal, attach_answer};
 
 use crate::add::{add_refusal, free_number, put_counted};
-use crate::cells::Cells;
-use crate::change::Change;
-use crate::counts::Counts;
 use crate::going_up::{parent_number, root_number};
 use crate::hanging::{attach_refusal, child_number, hang, unhang};
 use crate::id::Id;
 use crate::links::{link_of, name_of};
-use crate::names::{Names, number_of};
 use crate::refusal::{AddRefusal, AttachRefusal, InUse, NoMemory};
-use crate::removing::{drop_names, drop_number, drop_rows, is_used, take_out};
-use crate::store::Store;
-use indexmap::IndexMap;
+use crate::removing::{drop_number, is_used};
 use kind_core::{Attr, AttrRefusal, Cell, EventKind, Kind, Name, Value, check};
+use row_store::{Cells, Change, Counts, Names, Store, drop_names, drop_rows, number_of, take_out};
 use std::alloc::Global;
 use std::marker::Model;
 
@@ -43,13 +38,13 @@ pub struct Tree {
 
 impl Model for Tree {
     ghost use Rattle.desk_model.specs.Widgets.{Widgets};
-    ghost use Rattle.tree_core.specs.Indexed.{IsCounted};
+    ghost use Rattle.tree_core.specs.Kept.{IsCounted};
 
     ghost Value = { Widgets };
 
     ghost view = { λ t. record { clients = t.clients.items; entries = t.store } };
 
-    ghost invariant = { λ t. IsCounted t.clients.items t.names.entries t.store t.cells t.counts };
+    ghost invariant = { λ t. IsCounted t.clients.items t.names t.store t.cells t.counts };
 }
 
 impl Tree {
@@ -60,7 +55,7 @@ impl Tree {
     {
         Tree {
             clients: Vec::new(alloc),
-            names: IndexMap::new(alloc),
+            names: Names::new(alloc),
             store: Store::new(alloc),
             cells: Cells::new(alloc),
             counts: Counts::new(),
