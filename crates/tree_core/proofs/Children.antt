@@ -14,8 +14,8 @@ use Rattle.desk_model.specs.Places.{child_id}
 use Rattle.desk_model.specs.Widgets.{row_at, nodes}
 use Rattle.desk_model.proofs.Naming.{row_named-found, row_named-none, id_named-row, row_named-parts}
 use Rattle.desk_model.specs.Rows.{IsIndex}
-use Rattle.tree_core.specs.Cells.{cells_of, rows_in, widgets_in}
-use Rattle.tree_core.specs.Indexed.{IsGrove}
+use Rattle.tree_core.specs.Children.{cells_of, rows_in, widgets_in}
+use Rattle.tree_core.specs.Kept.{IsGrove}
 use Rattle.tree_core.proofs.Listed.{find_place, all_at, listed_number, numbered_place}
 use Rattle.desk_model.proofs.Cells.{child_in-stands, child_in-own}
 
@@ -89,12 +89,6 @@ child_in-free es above column line upper grove there empty =
     by : (o : Option Row) → child_in (rows_in es) upper.client upper.name column line ≡ o → option_and_then (λ (child : Row). id_named (nodes es) child.client child.name) o ≡ None → o ≡ None
     by None q k = refl
     by (Some child) q k = let number = child_in-number es upper.client upper.name column line child grove q in absurd (cc)
-
--- two numbers that are there together or not at all are the same
-pub option_same : (a b : Option ℕ) → ((n : ℕ) → a ≡ Some n → b ≡ Some n) → ((n : ℕ) → b ≡ Some n → a ≡ Some n) → a ≡ b
-option_same None None f g = refl
-option_same None (Some n) f g = g n refl
-option_same (Some n) b f g = sym (f n refl)
 
 -- two rows of one client and name have one number
 pub own_number : (es : List (ℕ × Row)) (a b : ℕ) (x y : Row) → IsGrove es → row_at es a ≡ Some x → row_at es b ≡ Some y → x.client ≡ y.client → x.name ≡ y.name → a ≡ b

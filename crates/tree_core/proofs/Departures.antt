@@ -11,11 +11,13 @@ use Rattle.desk_model.specs.Widgets.{row_at, nodes, is_joined}
 use Rattle.desk_model.specs.Forest.{is_client, IsForest}
 use Rattle.desk_model.proofs.Naming.{rows-filter_others}
 use Rattle.desk_model.specs.Rows.{IsIndex}
-use Rattle.tree_core.specs.Cells.{cell_place, rows_in}
-use Rattle.tree_core.specs.Indexed.{same_key, IsIndexed, IsGrove, IsTree}
-use Rattle.tree_core.proofs.ShownLemmas.{none_or_some}
+use Rattle.row_store.specs.Places.{cell_place}
+use Rattle.tree_core.specs.Children.{rows_in}
+use Rattle.row_store.specs.Index.{same_key, IsIndexed}
+use Rattle.tree_core.specs.Kept.{IsGrove, IsTree}
+use Rattle.row_store.proofs.Options.{none_or_some}
 use Rattle.desk_model.proofs.Planting.{IsPlanted-others}
-use Rattle.tree_core.proofs.Taken.{kept, nodes-kept, id_named-numbered, id_named-kept, id_named-gone}
+use Rattle.row_store.proofs.Taken.{kept, nodes-kept, id_named-numbered, id_named-kept, id_named-gone}
 use Rattle.tree_core.proofs.TakenLinks.{linked-kept, HasChildren-kept, row_at-kept}
 use Rattle.tree_core.proofs.TreeKept.{IsGrove-tree, nodes-all}
 use Rattle.tree_core.proofs.TreeTaken.{IsTree-kept, IsGrove-kept}

@@ -15,7 +15,7 @@ use Rattle.desk_model.specs.Nodes.{node_at}
 use Rattle.desk_model.specs.Widgets.{row_at, nodes, with_row}
 use Rattle.desk_model.specs.Forest.{HaveOwnNumbers}
 use Rattle.desk_model.specs.Fitting.{fits_attr, fits_table}
-use Rattle.tree_core.specs.Cells.{rows_in}
+use Rattle.tree_core.specs.Children.{rows_in}
 use Rattle.tree_core.proofs.Listed.{rows_in-push}
 use Rattle.tree_core.proofs.ForestLemmas.{with_row_absent, list_all-push}
 

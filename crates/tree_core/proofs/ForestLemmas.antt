@@ -17,74 +17,11 @@ use Rattle.desk_model.specs.Links.{Tie, ties, is_variable, leads, all_lead, name
 use Rattle.desk_model.specs.Nodes.{Node, node_of, is_named, id_named, kind_named, node_at, count_of, any_kind, counts_with, first_number, is_number_of}
 use Rattle.desk_model.specs.Widgets.{row_at, row_kind, row_client, with_row, nodes, is_joined}
 use Rattle.desk_model.specs.Forest.{HaveOwnNumbers, HaveOwnNames, is_client, IsForest}
-use Rattle.tree_core.specs.Indexed.{same_key, IsIndexed}
+use Rattle.row_store.proofs.Index.{or_last, id_named-push}
+pub use Rattle.row_store.proofs.Nodes.{node_at-nodes, nodes-with_row}
+use Rattle.row_store.proofs.Nodes.{nodes-push, count-push}
 use Rattle.tree_core.specs.Refusals.{add_refusal}
 use Rattle.tree_core.specs.declared.refusal.AddRefusal.TheVariants.{NameTaken, Full}
-
-pub nodes-push : (es : List (ℕ × Row)) (id : ℕ) (row : Row) → nodes (es ++ (id, row) ∷ []) ≡ nodes es ++ (id, node_of row) ∷ []
-nodes-push [] id row = refl
-nodes-push (e ∷ es) id row = rw (nodes-push es id row) refl
-
-pub node_at-nodes : (es : List (ℕ × Row)) (id : ℕ) → node_at (nodes es) id ≡ option_map node_of (row_at es id)
-node_at-nodes [] id = refl
-node_at-nodes (e ∷ es) id = by (node_at-nodes es id) (nat_eq id e.0)
-  where
-    by : node_at (nodes es) id ≡ option_map node_of (row_at es id) → (b : Bool) → cond b (Some (node_of e.1)) (node_at (nodes es) id) ≡ option_map node_of (cond b (Some e.1) (row_at es id))
-    by rest true = refl
-    by rest false = rest
-
--- a change that leaves a row's node leaves all nodes
-pub nodes-with_row : (es : List (ℕ × Row)) (id : ℕ) (change : Row → Row) → ((row : Row) → node_of (change row) ≡ node_of row) → nodes (with_row id change es) ≡ nodes es
-nodes-with_row [] id change same = refl
-nodes-with_row (e ∷ es) id change same = by (nodes-with_row es id change same) (nat_eq id e.0)
-  where
-    by : nodes (with_row id change es) ≡ nodes es → (b : Bool) → nodes (cond b (e.0, change e.1) e ∷ with_row id change es) ≡ nodes (e ∷ es)
-    by rest true = rw (same e.1, rest) refl
-    by rest false = rw rest refl
-
--- how the counts go on
-pub count-push : (client : ℕ) (test : Kind → Bool) (es : List (ℕ × Node)) (e : ℕ × Node) → count_of client test (es ++ e ∷ []) ≡ count_of client test es + cond (nat_eq client e.1.client && test e.1.kind) 1 0
-count-push client test es e = sum_by_push (λ (x : ℕ × Node). cond (nat_eq client x.1.client && test x.1.kind) 1 0) es e
-
--- the last one is found where no other is
-abbrev or_last : {X : Type 0} → Option X → Bool → X → Option X
-or_last (Some x) b y = Some x
-or_last None true y = Some y
-or_last None false y = None
-
-id_named-push : (es : List (ℕ × Node)) (e : ℕ × Node) (client : ℕ) (name : List ℕ) → id_named (es ++ e ∷ []) client name ≡ or_last (id_named es client name) (is_named client name e.1) e.0
-id_named-push [] e client name = by (is_named client name e.1)
-  where
-    by : (b : Bool) → cond b (Some e.0) None ≡ or_last None b e.0
-    by true = refl
-    by false = refl
-id_named-push (f ∷ fs) e client name = by (id_named-push fs e client name) (is_named client name f.1)
-  where
-    by : id_named (fs ++ e ∷ []) client name ≡ or_last (id_named fs client name) (is_named client name e.1) e.0 → (b : Bool) → cond b (Some f.0) (id_named (fs ++ e ∷ []) client name) ≡ or_last (cond b (Some f.0) (id_named fs client name)) (is_named client name e.1) e.0
-    by rest true = refl
-    by rest false = rest
-
-lookup-push : (test : ℕ × List ℕ → Bool) (es : List ((ℕ × List ℕ) × ℕ)) (e : (ℕ × List ℕ) × ℕ) → lookup test (es ++ e ∷ []) ≡ or_last (lookup test es) (test e.0) e.1
-lookup-push test [] e = by (test e.0)
-  where
-    by : (b : Bool) → cond b (Some e.1) None ≡ or_last None b e.1
-    by true = refl
-    by false = refl
-lookup-push test (f ∷ fs) e = by (lookup-push test fs e) (test f.0)
-  where
-    by : lookup test (fs ++ e ∷ []) ≡ or_last (lookup test fs) (test e.0) e.1 → (b : Bool) → cond b (Some f.1) (lookup test (fs ++ e ∷ [])) ≡ or_last (cond b (Some f.1) (lookup test fs)) (test e.0) e.1
-    by rest true = refl
-    by rest false = rest
-
--- the index finds a new last one too
-pub IsIndexed-push : (names : List ((ℕ × List ℕ) × ℕ)) (es : List (ℕ × Node)) (id : ℕ) (node : Node) → IsIndexed names es → IsIndexed (names ++ ((node.client, node.name), id) ∷ []) (es ++ (id, node) ∷ [])
-IsIndexed-push names es id node kept =
-    record {
-      finds = λ client name.
-          lookup-push (same_key (client, name)) names ((node.client, node.name), id)
-          ∙ ap (λ (found : Option ℕ). or_last found (is_named client name node) id) (kept.finds client name)
-          ∙ sym (id_named-push es (id, node) client name);
-    }
 
 node_at-push : (es : List (ℕ × Node)) (e : ℕ × Node) (id : ℕ) → nat_eq id e.0 ≡ false → node_at es id ≡ None → node_at (es ++ e ∷ []) id ≡ None
 node_at-push [] e id other absent = rw other refl
@@ -191,26 +128,6 @@ IsForest-join clients client es kept low high =
     each (e ∷ es) h =
         let parts = and_parts (is_joined clients e.1.client) (list_all (λ (e : ℕ × Node). is_joined clients e.1.client) es) h in
         and_from _ _ (one e.1.client parts.0) (each es parts.1)
-
--- the number that a name has is live
-pub named-live : (es : List (ℕ × Node)) (client : ℕ) (name : List ℕ) (id : ℕ) → id_named es client name ≡ Some id → is_some (node_at es id) ≡ true
-named-live [] client name id found = absurd (cc)
-named-live (e ∷ es) client name id found = by (named-live es client name id) (is_named client name e.1) found
-  where
-    later : (b : Bool) → is_some (node_at es id) ≡ true → is_some (cond b (Some e.1) (node_at es id)) ≡ true
-    later true h = refl
-    later false h = h
-
-    by : (id_named es client name ≡ Some id → is_some (node_at es id) ≡ true) → (b : Bool) → cond b (Some e.0) (id_named es client name) ≡ Some id → is_some (node_at (e ∷ es) id) ≡ true
-    by rest true h = let same : e.0 ≡ id = cc in rw (eq-eqb id e.0 (sym same)) refl
-    by rest false h = later (nat_eq id e.0) (rest h)
-
-pub row_live : (es : List (ℕ × Row)) (id : ℕ) → is_some (row_at es id) ≡ is_some (node_at (nodes es) id)
-row_live es id = by (row_at es id) ∙ sym (ap is_some (node_at-nodes es id))
-  where
-    by : (o : Option Row) → is_some o ≡ is_some (option_map node_of o)
-    by None = refl
-    by (Some row) = refl
 
 -- A client's 128 numbers can't all be live where it has fewer than 128 rows.
 without : ℕ → List (ℕ × Node) → List (ℕ × Node)

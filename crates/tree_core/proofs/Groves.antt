@@ -13,11 +13,12 @@ use Rattle.desk_model.specs.Widgets.{row_at, with_row}
 use Rattle.desk_model.specs.Forest.{HaveOwnNumbers, HaveOwnNames}
 use Rattle.desk_model.proofs.Naming.{rows-with_row, id_named-row}
 use Rattle.tree_core.specs.declared.refusal.AttachRefusal.TheVariants.{WrongKind, HasParent, Cycle, TooDeep, CellTaken}
-use Rattle.tree_core.specs.Cells.{rows_in, widgets_in}
-use Rattle.tree_core.specs.Indexed.{IsGrove}
+use Rattle.tree_core.specs.Children.{rows_in, widgets_in}
+use Rattle.tree_core.specs.Kept.{IsGrove}
 use Rattle.tree_core.specs.Refusals.{attach_refusal, attach_answer}
 use Rattle.tree_core.proofs.Listed.{AreNamedApart-rows, row_named-row}
-use Rattle.tree_core.proofs.ForestLemmas.{nodes-with_row}
+use Rattle.row_store.proofs.Nodes.{nodes-with_row}
+use Rattle.row_store.proofs.Options.{is_none_of}
 use Rattle.desk_model.proofs.Planting.{LeavesPlace, IsPlanted-change, IsPlanted-attach, IsPlanted-detach}
 use Rattle.desk_model.proofs.Cells.{CanHang}
 
@@ -48,10 +49,6 @@ pub IsGrove-unhang : (es : List (ℕ × Row)) (id : ℕ) (row : Row) → IsGrove
 IsGrove-unhang es id row grove there = IsGrove-with_row es id (with_spot None) row (λ row. refl) grove there (IsPlanted-detach (rows_in es) row.client row.name grove.planted)
 
 -- the tests behind a refusal, where there is none
-pub is_none_of : {X : Type 0} (o : Option X) → is_some o ≡ false → o ≡ None
-is_none_of None h = refl
-is_none_of (Some x) h = absurd (true≢false h)
-
 pub no_attach_refusal : (rows : List Row) (upper lower : Row) (cell : Cell) → lower.client ≡ upper.client → takes_cell upper.kind cell ≡ true → row_named rows upper.client upper.name ≡ Some upper → row_named rows lower.client lower.name ≡ Some lower → attach_refusal rows upper lower cell ≡ None → CanHang rows upper.client upper.name lower.name cell upper lower
 no_attach_refusal rows upper lower cell owner takes upper_there lower_there h =
     by (has_children upper.kind && can_be_child lower.kind) refl (hangs lower) refl (is_above rows upper.client lower.name upper.name) refl (nat_lt most_levels (depth_of rows upper.client upper.name + height_of rows lower.client lower.name)) refl (is_some (child_in rows upper.client upper.name cell.column cell.row)) refl h

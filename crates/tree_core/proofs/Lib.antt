@@ -1,6 +1,4 @@
-pub mod ShownLemmas
 pub mod ForestLemmas
-pub mod CountsLemmas
 pub mod Listed
 pub mod Children
 pub mod Moves
@@ -8,8 +6,7 @@ pub mod Groves
 pub mod Parents
 pub mod Ways
 pub mod Downward
-pub mod Taken
-pub mod TakenInTurn
+pub mod ForestTaken
 pub mod Newcomer
 pub mod Fits
 pub mod TreeKept

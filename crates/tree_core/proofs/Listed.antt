@@ -13,7 +13,7 @@ use Rattle.desk_model.specs.Widgets.{row_at, nodes, with_row, without_row}
 use Rattle.desk_model.specs.Forest.{HaveOwnNumbers, HaveOwnNames}
 use Rattle.desk_model.specs.DeskFacts.{AreNamedApart}
 use Rattle.desk_model.proofs.Naming.{row_named-found, id_named-row}
-use Rattle.tree_core.specs.Cells.{rows_in}
+use Rattle.tree_core.specs.Children.{rows_in}
 
 -- what is found stands somewhere, and passes the test
 pub find_place : {X : Type 0} (p : X → Bool) (xs : List X) (x : X) → find p xs ≡ Some x → (i : ℕ) × (slice_get xs i ≡ Some x) × (p x ≡ true)
@@ -120,23 +120,6 @@ row_at-without_row (e ∷ es) id other = by (row_at-without_row es id other) (na
     by rest true q false r = let apart : nat_eq id other ≡ false = ap (nat_eq id) (eqb-true other e.0 q) ∙ r in rw (q, apart) refl
     by rest false q true r = rest
     by rest false q false r = rw q rest
-
-pub row_at-filter : (es : List (ℕ × Row)) (test : ℕ → Bool) (other : ℕ) → row_at (filter (λ (e : ℕ × Row). test e.0) es) other ≡ cond (test other) (row_at es other) None
-row_at-filter [] test other = by (test other)
-  where
-    none : Option Row
-    none = None
-
-    by : (b : Bool) → None ≡ cond b none None
-    by true = refl
-    by false = refl
-row_at-filter (e ∷ es) test other = by (row_at-filter es test other) (nat_eq other e.0) refl (test e.0) refl
-  where
-    by : row_at (filter (λ (e : ℕ × Row). test e.0) es) other ≡ cond (test other) (row_at es other) None → (d : Bool) → nat_eq other e.0 ≡ d → (b : Bool) → test e.0 ≡ b → row_at (cond b (e ∷ filter (λ (e : ℕ × Row). test e.0) es) (filter (λ (e : ℕ × Row). test e.0) es)) other ≡ cond (test other) (cond d (Some e.1) (row_at es other)) None
-    by rest true q true r = let pass : test other ≡ true = ap test (eqb-true other e.0 q) ∙ r in rw (q, pass) refl
-    by rest true q false r = let fail : test other ≡ false = ap test (eqb-true other e.0 q) ∙ r in rest ∙ rw fail refl
-    by rest false q true r = rw q rest
-    by rest false q false r = rest
 
 pub row_at-push : (es : List (ℕ × Row)) (id : ℕ) (row : Row) (other : ℕ) → nat_eq other id ≡ false → row_at (es ++ (id, row) ∷ []) other ≡ row_at es other
 row_at-push [] id row other apart = rw apart refl

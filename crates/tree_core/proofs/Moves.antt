@@ -11,10 +11,12 @@ use Rattle.desk_model.specs.Nodes.{Node, node_of}
 use Rattle.desk_model.specs.Places.{child_id}
 use Rattle.desk_model.specs.Widgets.{row_at, with_row}
 use Rattle.desk_model.specs.Rows.{IsIndex}
-use Rattle.tree_core.specs.Cells.{cell_place, widgets_in, HasChildren}
-use Rattle.tree_core.specs.Indexed.{IsGrove}
+use Rattle.row_store.specs.Places.{cell_place}
+use Rattle.tree_core.specs.Children.{widgets_in, HasChildren}
+use Rattle.tree_core.specs.Kept.{IsGrove}
 use Rattle.tree_core.proofs.Listed.{row_at-with_row}
-use Rattle.tree_core.proofs.Children.{HangsAt, child_id-hangs, hangs-child_id, option_same, own_number}
+use Rattle.tree_core.proofs.Children.{HangsAt, child_id-hangs, hangs-child_id, own_number}
+use Rattle.row_store.proofs.Options.{option_same}
 
 -- one place is one cell
 pub cell_place-same : (id other column other_column line other_line : ℕ) → IsIndex column → IsIndex other_column → IsIndex line → IsIndex other_line → cell_place id column line ≡ cell_place other other_column other_line → (id ≡ other) × (column ≡ other_column) × (line ≡ other_line)

@@ -7,10 +7,11 @@ use Rattle.desk_model.specs.Places.{child_id}
 use Rattle.desk_model.specs.Planted.{IsPlanted}
 use Rattle.desk_model.specs.Widgets.{row_at, nodes}
 use Rattle.desk_model.proofs.Naming.{row_named-none, rows-push}
-use Rattle.tree_core.specs.Cells.{rows_in, widgets_in, HasChildren}
-use Rattle.tree_core.specs.Indexed.{IsGrove}
+use Rattle.tree_core.specs.Children.{rows_in, widgets_in, HasChildren}
+use Rattle.tree_core.specs.Kept.{IsGrove}
 use Rattle.tree_core.proofs.Listed.{row_at-push, row_at-last}
-use Rattle.tree_core.proofs.Children.{HangsAt, child_id-hangs, hangs-child_id, option_same, spot-hangs}
+use Rattle.tree_core.proofs.Children.{HangsAt, child_id-hangs, hangs-child_id, spot-hangs}
+use Rattle.row_store.proofs.Options.{option_same}
 use Rattle.desk_model.proofs.Planting.{IsPlanted-push}
 
 pub planted-push : (es : List (ℕ × Row)) (id : ℕ) (row : Row) → row.spot ≡ None → id_named (nodes es) row.client row.name ≡ None → IsPlanted (rows_in es) → IsPlanted (rows_in (es ++ (id, row) ∷ []))

@@ -11,9 +11,10 @@ use Rattle.desk_model.specs.Trees.{root_of}
 use Rattle.desk_model.specs.Places.{parent_id, child_id, root_id}
 use Rattle.desk_model.specs.Widgets.{row_at, nodes, with_row}
 use Rattle.desk_model.specs.Rows.{IsIndex}
-use Rattle.tree_core.specs.Cells.{cell_place, rows_in, widgets_in, HasChildren}
-use Rattle.tree_core.specs.Indexed.{IsGrove}
-use Rattle.tree_core.proofs.ForestLemmas.{named-live, row_live}
+use Rattle.row_store.specs.Places.{cell_place}
+use Rattle.tree_core.specs.Children.{rows_in, widgets_in, HasChildren}
+use Rattle.tree_core.specs.Kept.{IsGrove}
+use Rattle.row_store.proofs.Nodes.{named-live, row_live}
 use Rattle.tree_core.proofs.Children.{child_id-hangs, spot-hangs, HangsUnder-HangsAt, hangs-child_id}
 use Rattle.tree_core.proofs.Moves.{HasChildren-unhang, HasChildren-still}
 use Rattle.tree_core.proofs.Groves.{IsGrove-unhang}

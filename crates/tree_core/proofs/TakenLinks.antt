@@ -11,13 +11,16 @@ use Rattle.desk_model.specs.Trees.{child_in}
 use Rattle.desk_model.specs.Widgets.{row_at, nodes}
 use Rattle.desk_model.specs.Forest.{HaveOwnNumbers, HaveOwnNames}
 use Rattle.desk_model.specs.Rows.{IsIndex}
-use Rattle.tree_core.specs.Cells.{cell_place, rows_in, widgets_in, HasChildren}
-use Rattle.tree_core.specs.Indexed.{IsGrove}
-use Rattle.tree_core.proofs.ShownLemmas.{none_or_some}
+use Rattle.row_store.specs.Places.{cell_place}
+use Rattle.tree_core.specs.Children.{rows_in, widgets_in, HasChildren}
+use Rattle.tree_core.specs.Kept.{IsGrove}
+use Rattle.row_store.proofs.Options.{none_or_some}
 use Rattle.tree_core.proofs.ForestLemmas.{kind_named-row}
-use Rattle.tree_core.proofs.Listed.{all_at, row_at-filter}
-use Rattle.tree_core.proofs.Children.{HangsAt, child_id-hangs, hangs-child_id, option_same}
-use Rattle.tree_core.proofs.Taken.{kept, own_numbers-kept, own_names-kept, id_named-numbered}
+use Rattle.tree_core.proofs.Listed.{all_at}
+use Rattle.row_store.proofs.Taken.{row_at-filter}
+use Rattle.tree_core.proofs.Children.{HangsAt, child_id-hangs, hangs-child_id}
+use Rattle.row_store.proofs.Options.{option_same}
+use Rattle.row_store.proofs.Taken.{kept, own_numbers-kept, own_names-kept, id_named-numbered}
 
 -- a number that is kept has its row, and one that isn't has none
 pub row_at-kept : (test : ℕ → Bool) (es : List (ℕ × Row)) (id : ℕ) (row : Row) → row_at es id ≡ Some row → test id ≡ true → row_at (kept test es) id ≡ Some row

@@ -14,12 +14,15 @@ use Rattle.desk_model.specs.Links.{ties, leads, all_lead}
 use Rattle.desk_model.specs.Widgets.{Widgets, row_at, nodes, with_row, is_joined, IsLive, IsGrid}
 use Rattle.desk_model.specs.Forest.{IsForest, IsWidgets}
 use Rattle.desk_model.specs.Rows.{IsIndex}
-use Rattle.tree_core.specs.Cells.{cell_place, rows_in, HasChildren}
-use Rattle.tree_core.specs.Indexed.{IsIndexed, IsGrove, IsTree}
+use Rattle.row_store.specs.Places.{cell_place}
+use Rattle.tree_core.specs.Children.{rows_in, HasChildren}
+use Rattle.row_store.specs.Index.{IsIndexed}
+use Rattle.tree_core.specs.Kept.{IsGrove, IsTree}
 use Rattle.tree_core.specs.Refusals.{add_refusal}
-use Rattle.tree_core.proofs.ShownLemmas.{none_or_some}
+use Rattle.row_store.proofs.Options.{none_or_some}
 use Rattle.tree_core.proofs.Listed.{all_at, numbered_place}
-use Rattle.tree_core.proofs.ForestLemmas.{nodes-with_row, nodes-push, node_at-nodes, ties-with_row, linked-with_link, linked-push, IsForest-join, IsForest-push, no_refusal, joined_in_range}
+use Rattle.row_store.proofs.Nodes.{nodes-with_row, nodes-push, node_at-nodes}
+use Rattle.tree_core.proofs.ForestLemmas.{ties-with_row, linked-with_link, linked-push, IsForest-join, IsForest-push, no_refusal, joined_in_range}
 use Rattle.tree_core.proofs.Groves.{IsGrove-leaves}
 use Rattle.tree_core.proofs.Moves.{HasChildren-still}
 use Rattle.tree_core.proofs.Fits.{fitting-with_row, fitting-push, fits_table-new}

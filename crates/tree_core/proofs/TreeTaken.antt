@@ -18,12 +18,14 @@ use Rattle.desk_model.specs.Places.{child_id}
 use Rattle.desk_model.specs.Widgets.{row_at, nodes, without_row, is_joined}
 use Rattle.desk_model.specs.Forest.{is_client}
 use Rattle.desk_model.proofs.Naming.{rows-without_row, id_named-row}
-use Rattle.tree_core.specs.Cells.{rows_in, widgets_in, HasChildren}
-use Rattle.tree_core.specs.Indexed.{IsIndexed, IsGrove, IsTree}
+use Rattle.tree_core.specs.Children.{rows_in, widgets_in, HasChildren}
+use Rattle.row_store.specs.Index.{IsIndexed}
+use Rattle.tree_core.specs.Kept.{IsGrove, IsTree}
 use Rattle.tree_core.proofs.Listed.{any_at, numbered_place, row_named-row}
 use Rattle.tree_core.proofs.Children.{HangsAt, child_id-hangs, own_number}
 use Rattle.desk_model.proofs.Planting.{IsPlanted-remove}
-use Rattle.tree_core.proofs.Taken.{kept, nodes-kept, list_all-kept, own_numbers-kept, own_names-kept, IsForest-kept, without_row-kept}
+use Rattle.row_store.proofs.Taken.{kept, nodes-kept, own_numbers-kept, own_names-kept, without_row-kept}
+use Rattle.tree_core.proofs.ForestTaken.{list_all-kept, IsForest-kept}
 use Rattle.tree_core.proofs.TakenLinks.{linked-kept, HasChildren-kept}
 use Rattle.tree_core.proofs.TreeKept.{IsGrove-tree}
 

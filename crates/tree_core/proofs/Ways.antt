@@ -9,8 +9,8 @@ use Rattle.desk_model.specs.Named.{row_named}
 use Rattle.desk_model.specs.Trees.{parent_of, root_in}
 use Rattle.desk_model.specs.Widgets.{row_at, nodes}
 use Rattle.desk_model.proofs.Naming.{row_named-found, row_named-none}
-use Rattle.tree_core.specs.Cells.{rows_in}
-use Rattle.tree_core.specs.Indexed.{IsGrove}
+use Rattle.tree_core.specs.Children.{rows_in}
+use Rattle.tree_core.specs.Kept.{IsGrove}
 use Rattle.tree_core.proofs.Listed.{row_named-row}
 use Rattle.desk_model.proofs.Planting.{row_named-root}
 

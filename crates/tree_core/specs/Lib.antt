@@ -1,6 +1,3 @@
-pub mod Changes
-pub mod Shown
-pub mod Cells
-pub mod Counts
-pub mod Indexed
+pub mod Children
+pub mod Kept
 pub mod Refusals

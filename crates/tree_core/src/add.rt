@@ -3,15 +3,13 @@ ghost use Rattle.std.specs.List.{list_all};
 ghost use Rattle.desk_model.specs.Rows.{new_row};
 ghost use Rattle.desk_model.specs.Nodes.{id_named, count_of, any_kind, counts_with, is_number_of};
 ghost use Rattle.desk_model.specs.Widgets.{row_at, nodes};
-ghost use Rattle.tree_core.specs.Counts.{AreCounts};
-ghost use Rattle.tree_core.specs.Indexed.{IsIndexed};
+ghost use Rattle.row_store.specs.Counts.{AreCounts};
+ghost use Rattle.row_store.specs.Index.{IsIndexed};
 ghost use Rattle.tree_core.specs.Refusals.{add_refusal};
 
-use crate::counts::Counts;
-use crate::names::{Names, number_of, put_new};
 use crate::refusal::AddRefusal;
-use crate::store::Store;
 use kind_core::{Kind, Name};
+use row_store::{Counts, Names, Store, number_of, put_new};
 use std::alloc::AllocError;
 
 /// A number of the client that no row has: the first from the start on, which counts from the client's first
@@ -46,7 +44,7 @@ pub(crate) fn add_refusal(
     kind: Kind,
 ) -> Option<AddRefusal>
     requires client { client < 17 }
-    requires indexed { IsIndexed names.now.entries (nodes store.now) }
+    requires indexed { IsIndexed names.now (nodes store.now) }
     requires counted { AreCounts counts.now (nodes store.now) }
     ensures { result ≡ add_refusal (nodes store.now) client name.now kind }
 {
@@ -73,14 +71,14 @@ pub(crate) fn put_counted(
     kind: Kind,
 ) -> Result<(), AllocError>
     requires client { client < 17 }
-    requires indexed { IsIndexed names.old.entries (nodes store.old) }
+    requires indexed { IsIndexed names.old (nodes store.old) }
     requires counted { AreCounts counts.old (nodes store.old) }
     requires free { row_at store.old id ≡ None }
     requires new_name { id_named (nodes store.old) client name ≡ None }
     requires room { count_of client any_kind (nodes store.old) < 128 }
     requires alike { count_of client (counts_with kind) (nodes store.old) < 8 }
     ensures rows { store.new ≡ (if is_ok result then store.old ++ (id, new_row client name kind) ∷ [] else store.old) }
-    ensures indexed { IsIndexed names.new.entries (nodes store.new) }
+    ensures indexed { IsIndexed names.new (nodes store.new) }
     ensures counted { AreCounts counts.new (nodes store.new) }
 {
     put_new(names, store, id, client, name, kind)?;

@@ -3,12 +3,11 @@ ghost use Rattle.std.specs.Option.{option_map};
 ghost use Rattle.std.specs.List.{list_any};
 ghost use Rattle.desk_model.specs.Trees.{height_in, is_child};
 ghost use Rattle.desk_model.specs.Widgets.{row_at};
-ghost use Rattle.tree_core.specs.Cells.{cells_of, rows_in, HasChildren};
-ghost use Rattle.tree_core.specs.Indexed.{IsGrove};
+ghost use Rattle.tree_core.specs.Children.{cells_of, rows_in, HasChildren};
+ghost use Rattle.tree_core.specs.Kept.{IsGrove};
 
-use crate::cells::Cells;
-use crate::store::Store;
 use kind_core::Kind;
+use row_store::{Cells, Store};
 
 /// How many cells a widget of the kind has.
 fn cells_of(kind: Kind) -> u32

@@ -2,12 +2,12 @@ ghost use Rattle.std.specs.Prelude.{◌≡◌, ◌≤◌, Some, IsSome};
 ghost use Rattle.desk_model.specs.Trees.{parent_of, depth_in, is_above_in, root_in, most_levels};
 ghost use Rattle.desk_model.specs.Places.{parent_id, root_id};
 ghost use Rattle.desk_model.specs.Widgets.{row_at, nodes};
-ghost use Rattle.tree_core.specs.Cells.{rows_in, widgets_in};
-ghost use Rattle.tree_core.specs.Indexed.{IsIndexed, IsGrove};
+ghost use Rattle.tree_core.specs.Children.{rows_in, widgets_in};
+ghost use Rattle.row_store.specs.Index.{IsIndexed};
+ghost use Rattle.tree_core.specs.Kept.{IsGrove};
 
-use crate::names::{Names, number_of};
-use crate::store::Store;
 use kind_core::Name;
+use row_store::{Names, Store, number_of};
 
 /// A tree has at most that many levels.
 const MOST_LEVELS: u32 = 12;
@@ -22,7 +22,7 @@ pub(crate) fn most_levels() -> u32
 
 /// The name of the named widget's parent.
 fn parent_of(names: &Names, store: &Store, client: u32, name: &Name) -> Option<Name>
-    requires indexed { IsIndexed names.now.entries (nodes store.now) }
+    requires indexed { IsIndexed names.now (nodes store.now) }
     requires grove { IsGrove store.now }
     ensures { result ≡ parent_of (rows_in store.now) client name.now }
 {
@@ -37,7 +37,7 @@ fn parent_of(names: &Names, store: &Store, client: u32, name: &Name) -> Option<N
 
 /// On which level the named widget is, of at most `most`.
 pub(crate) fn depth_in(names: &Names, store: &Store, most: u32, client: u32, name: &Name) -> u32
-    requires indexed { IsIndexed names.now.entries (nodes store.now) }
+    requires indexed { IsIndexed names.now (nodes store.now) }
     requires grove { IsGrove store.now }
     ensures depth { result ≡ depth_in most (rows_in store.now) client name.now }
     ensures within { result ≤ most }
@@ -60,7 +60,7 @@ pub(crate) fn is_above_in(
     upper: &Name,
     name: &Name,
 ) -> bool
-    requires indexed { IsIndexed names.now.entries (nodes store.now) }
+    requires indexed { IsIndexed names.now (nodes store.now) }
     requires grove { IsGrove store.now }
     ensures { result ≡ is_above_in most (rows_in store.now) client upper.now name.now }
 {
@@ -78,7 +78,7 @@ pub(crate) fn is_above_in(
 
 /// The name of the widget that is above the named one and hangs in none, after at most `most` levels.
 fn root_in(names: &Names, store: &Store, most: u32, client: u32, name: &Name) -> Name
-    requires indexed { IsIndexed names.now.entries (nodes store.now) }
+    requires indexed { IsIndexed names.now (nodes store.now) }
     requires grove { IsGrove store.now }
     ensures { result ≡ root_in most (rows_in store.now) client name.now }
 {
@@ -93,7 +93,7 @@ fn root_in(names: &Names, store: &Store, most: u32, client: u32, name: &Name) ->
 
 /// The number of the widget in which the live one hangs.
 pub(crate) fn parent_number(names: &Names, store: &Store, id: u32) -> Option<u32>
-    requires indexed { IsIndexed names.now.entries (nodes store.now) }
+    requires indexed { IsIndexed names.now (nodes store.now) }
     requires live { IsSome (row_at store.now id) }
     ensures { result ≡ parent_id (widgets_in store.now) id }
 {
@@ -106,7 +106,7 @@ pub(crate) fn parent_number(names: &Names, store: &Store, id: u32) -> Option<u32
 
 /// The number of the live widget's root.
 pub(crate) fn root_number(names: &Names, store: &Store, id: u32) -> u32
-    requires indexed { IsIndexed names.now.entries (nodes store.now) }
+    requires indexed { IsIndexed names.now (nodes store.now) }
     requires grove { IsGrove store.now }
     requires live { IsSome (row_at store.now id) }
     ensures { root_id (widgets_in store.now) id ≡ Some result }

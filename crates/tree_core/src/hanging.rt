@@ -6,19 +6,17 @@ ghost use Rattle.desk_model.specs.Places.{child_id};
 ghost use Rattle.desk_model.specs.Planted.{takes_cell};
 ghost use Rattle.desk_model.specs.Links.{name_at};
 ghost use Rattle.desk_model.specs.Widgets.{row_at, row_kind, row_client, nodes, with_row};
-ghost use Rattle.tree_core.specs.Cells.{cell_place, widgets_in, HasChildren};
-ghost use Rattle.tree_core.specs.Indexed.{IsIndexed, IsGrove};
+ghost use Rattle.row_store.specs.Places.{cell_place};
+ghost use Rattle.tree_core.specs.Children.{widgets_in, HasChildren};
+ghost use Rattle.row_store.specs.Index.{IsIndexed};
+ghost use Rattle.tree_core.specs.Kept.{IsGrove};
 ghost use Rattle.tree_core.specs.Refusals.{attach_refusal, attach_answer};
 
-use crate::cells::Cells;
-use crate::change::Change;
 use crate::going_down::height_in;
 use crate::going_up::{depth_in, is_above_in, most_levels, parent_number};
-use crate::names::Names;
 use crate::refusal::AttachRefusal;
-use crate::row::Row;
-use crate::store::Store;
 use kind_core::{Cell, Kind};
+use row_store::{Cells, Change, Names, Row, Store};
 
 /// Whether widgets of the kind have children.
 fn has_children(kind: Kind) -> bool
@@ -50,7 +48,7 @@ pub(crate) fn attach_refusal(
     child: u32,
     cell: Cell,
 ) -> Option<AttachRefusal>
-    requires indexed { IsIndexed names.now.entries (nodes store.now) }
+    requires indexed { IsIndexed names.now (nodes store.now) }
     requires grove { IsGrove store.now }
     requires children { HasChildren store.now cells.now }
     requires parent { IsSome (row_at store.now parent) }
@@ -105,7 +103,7 @@ pub(crate) fn hang(store: &mut Store, cells: &mut Cells, parent: u32, child: u32
 
 /// Takes the number of the live widget out of the cell in which it hangs.
 fn empty_cell(names: &Names, store: &Store, cells: &mut Cells, child: u32)
-    requires indexed { IsIndexed names.now.entries (nodes store.now) }
+    requires indexed { IsIndexed names.now (nodes store.now) }
     requires grove { IsGrove store.now }
     requires children { HasChildren store.now cells.old }
     requires child { IsSome (row_at store.now child) }
@@ -123,7 +121,7 @@ fn empty_cell(names: &Names, store: &Store, cells: &mut Cells, child: u32)
 
 /// Takes the live widget out of the one in which it hangs.
 pub(crate) fn unhang(names: &Names, store: &mut Store, cells: &mut Cells, child: u32)
-    requires indexed { IsIndexed names.now.entries (nodes store.old) }
+    requires indexed { IsIndexed names.now (nodes store.old) }
     requires grove { IsGrove store.old }
     requires children { HasChildren store.old cells.old }
     requires child { IsSome (row_at store.old child) }

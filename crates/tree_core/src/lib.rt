@@ -1,22 +1,15 @@
-//! The tree of widgets: rows under names, over a slab, with the numbers by which callers name them.
+//! The tree of widgets: rows under their clients' names, with the numbers by which callers name them, and how
+//! they hang in one another. The rows themselves lie in row_store.
 #![tactic(auto)]
 
 mod add;
-mod cells;
-mod change;
-mod count;
-mod counts;
 mod going_down;
 mod going_up;
 mod hanging;
 mod id;
 mod links;
-mod names;
-mod places;
 mod refusal;
 mod removing;
-mod row;
-mod store;
 mod tree;
 
 pub use id::Id;

@@ -3,16 +3,15 @@ ghost use Rattle.std.specs.Option.{option_map, option_and_then};
 ghost use Rattle.desk_model.specs.Nodes.{id_named};
 ghost use Rattle.desk_model.specs.Widgets.{row_at, nodes};
 ghost use Rattle.desk_model.specs.Links.{name_at};
-ghost use Rattle.tree_core.specs.Indexed.{IsIndexed};
+ghost use Rattle.row_store.specs.Index.{IsIndexed};
 
 use crate::id::Id;
-use crate::names::{Names, number_of};
-use crate::store::Store;
 use kind_core::Name;
+use row_store::{Names, Store, number_of};
 
 /// The number of the row that the live row is linked to.
 pub(crate) fn link_of(names: &Names, store: &Store, id: u32) -> Option<u32>
-    requires indexed { IsIndexed names.now.entries (nodes store.now) }
+    requires indexed { IsIndexed names.now (nodes store.now) }
     requires live { IsSome (row_at store.now id) }
     ensures { result ≡ option_and_then (λ row. option_and_then (id_named (nodes store.now) row.client) row.link) (row_at store.now id) }
 {

@@ -4,16 +4,14 @@ ghost use Rattle.std.specs.List.{list_any, filter};
 ghost use Rattle.desk_model.specs.Trees.{links_to, is_used};
 ghost use Rattle.desk_model.specs.Nodes.{is_number_of};
 ghost use Rattle.desk_model.specs.Widgets.{row_at, nodes, without_row};
-ghost use Rattle.tree_core.specs.Cells.{rows_in, HasChildren};
-ghost use Rattle.tree_core.specs.Indexed.{IsIndexed, IsGrove};
+ghost use Rattle.tree_core.specs.Children.{rows_in, HasChildren};
+ghost use Rattle.row_store.specs.Index.{IsIndexed};
+ghost use Rattle.tree_core.specs.Kept.{IsGrove};
 
-use crate::cells::Cells;
 use crate::going_down::has_child;
 use crate::hanging::hangs;
-use crate::names::Names;
-use crate::row::Row;
-use crate::store::Store;
 use kind_core::Name;
+use row_store::{Cells, Names, Row, Store};
 
 /// Whether the row is another than the named one and is linked to it.
 fn links_to(row: &Row, client: u32, name: &Name) -> bool
@@ -48,44 +46,6 @@ pub(crate) fn is_used(store: &Store, cells: &Cells, id: u32) -> bool
 {
     let row = store.row(id);
     hangs(row) || has_child(store, cells, id) || is_linked(store, row.client(), &row.name())
-}
-
-/// Takes out a live row, and its name.
-pub(crate) fn take_out(names: &mut Names, store: &mut Store, id: u32)
-    requires indexed { IsIndexed names.old.entries (nodes store.old) }
-    requires grove { IsGrove store.old }
-    requires live { IsSome (row_at store.old id) }
-    ensures rows { store.new ≡ without_row id store.old }
-    ensures indexed { IsIndexed names.new.entries (nodes store.new) }
-{
-    let row = store.row(id);
-    let _ = names.shift_remove(&(row.client(), row.name()));
-    store.remove(id);
-}
-
-/// Takes out the rows under the client's numbers.
-pub(crate) fn drop_rows(store: &mut Store, client: u32)
-    requires low { 1 ≤ client }
-    requires high { client ≤ 16 }
-    ensures { store.new ≡ filter (λ entry. not (is_number_of client entry.0)) store.old }
-{
-    let first = 128 * (client - 1);
-    for id in first..first + 128 {
-        if store.get(id).is_some() {
-            store.remove(id);
-        }
-    }
-}
-
-/// Takes out the client's names.
-pub(crate) fn drop_names(names: &mut Names, client: u32)
-    ensures { names.new.entries ≡ filter (λ entry. not (nat_eq client entry.0.0)) names.old.entries }
-{
-    names.retain(
-        |key: &(u32, Name), id: &mut u32| -> bool
-            ensures { (result ≡ not (nat_eq client key.now.0)) × (id.new ≡ id.old) }
-        { client != key.0 },
-    );
 }
 
 /// Takes the client out of the joined ones.

@@ -1,70 +1,17 @@
 ghost use Rattle.std.specs.Prelude.{◌≡◌, true, IfOk, IfSome};
 ghost use Rattle.std.specs.List.{list_all};
 ghost use Rattle.desk_model.specs.Fitting.{fits_table};
-ghost use Rattle.desk_model.specs.Planted.{IsPlanted};
-ghost use Rattle.desk_model.specs.Widgets.{IsLive, KeepsLive, is_joined, rows_of};
+ghost use Rattle.desk_model.specs.Forest.{HaveOwnNumbers, HaveOwnNames};
+ghost use Rattle.desk_model.specs.Links.{all_lead, ties};
+ghost use Rattle.desk_model.specs.Planted.{hangs_right, HaveOwnCells};
+ghost use Rattle.desk_model.specs.Trees.{ends_within, most_levels};
+ghost use Rattle.desk_model.specs.Widgets.{IsLive, KeepsLive, is_joined, nodes, rows_of};
 ghost use Rattle.desk_model.specs.Rows.{IsIndex};
 
 use super::*;
 use kind_core::{Attr, AttrRefusal, Cell, EventKind, Kind, Name, Value, name_from};
 use std::alloc::Global;
 use std::test::Fail;
-
-/// A tree with the Window `w` of client 1.
-fn one_window(alloc: Global) -> Result<(Tree, Id), Fail>
-    ensures { IfOk result (λ made. IsLive made.0 made.1.key) }
-{
-    let mut tree = Tree::new(alloc);
-    let name = name_from(b"w").ok_or("a name")?;
-    match tree.join_client(1) {
-        Ok(()) => {}
-        Err(_) => return Err(Fail::from("joins")),
-    }
-    match tree.add(1, name, Kind::Window) {
-        Ok(id) => Ok((tree, id)),
-        Err(_) => Err(Fail::from("adds")),
-    }
-}
-
-#[test]
-fn a_row_is_found_under_its_client_and_name(rt: HostRuntime) -> Result<(), Fail> {
-    let (tree, id) = one_window(rt.alloc())?;
-    let name = name_from(b"w").ok_or("a name")?;
-    assert_eq!(rt; tree.kind(id), Kind::Window);
-    assert_eq!(rt; tree.owner(id), 1);
-    assert_eq!(rt; tree.find(1, &name), Some(id));
-    assert_eq!(rt; tree.find(2, &name), None);
-    Ok(())
-}
-
-#[test]
-fn an_attribute_is_set_in_its_range(rt: HostRuntime) -> Result<(), Fail> {
-    let (mut tree, id) = one_window(rt.alloc())?;
-    assert_eq!(rt; tree.attr(id, Attr::W), Some(Value::Number(160)));
-    assert_eq!(rt; tree.set_attr(id, Attr::W, &Value::Number(40)), Ok(()));
-    assert_eq!(rt; tree.attr(id, Attr::W), Some(Value::Number(40)));
-    Ok(())
-}
-
-#[test]
-fn a_number_out_of_range_is_refused(rt: HostRuntime) -> Result<(), Fail> {
-    let (mut tree, id) = one_window(rt.alloc())?;
-    let range = AttrRefusal::OutOfRange {
-        least: 16,
-        greatest: 1024,
-    };
-    assert_eq!(rt; tree.set_attr(id, Attr::W, &Value::Number(15)), Err(range));
-    Ok(())
-}
-
-#[test]
-fn an_event_is_bound(rt: HostRuntime) -> Result<(), Fail> {
-    let (mut tree, id) = one_window(rt.alloc())?;
-    let tag = name_from(b"moved").ok_or("a tag")?;
-    tree.set_binding(id, EventKind::Move, Some(tag));
-    assert_eq!(rt; tree.binding(id, EventKind::Move), Some(tag));
-    Ok(())
-}
 
 /// A tree with client 1 alone.
 fn one_client(alloc: Global) -> Result<Tree, Fail>
@@ -89,6 +36,54 @@ fn added(tree: &mut Tree, name: &[u8], kind: Kind) -> Result<Id, Fail>
         Ok(id) => Ok(id),
         Err(_) => Err(Fail::from("adds")),
     }
+}
+
+/// A tree with the Window `w` of client 1.
+fn one_window(alloc: Global) -> Result<(Tree, Id), Fail>
+    ensures { IfOk result (λ made. IsLive made.0 made.1.key) }
+{
+    let mut tree = one_client(alloc)?;
+    let id = added(&mut tree, b"w", Kind::Window)?;
+    Ok((tree, id))
+}
+
+#[test]
+fn a_row_is_found_under_its_client_and_name(rt: HostRuntime) -> Result<(), Fail> {
+    let (tree, id) = one_window(rt.alloc())?;
+    let name = name_from(b"w").ok_or("a name")?;
+    assert_eq!(rt; tree.kind(id), Kind::Window);
+    assert_eq!(rt; tree.owner(id), 1);
+    assert_eq!(rt; tree.find(1, &name), Some(id));
+    assert_eq!(rt; tree.find(2, &name), None);
+    assert_eq!(rt; tree.count(1), 1);
+    assert_eq!(rt; tree.count(2), 0);
+    Ok(())
+}
+
+#[test]
+fn an_attribute_is_set_in_its_range(rt: HostRuntime) -> Result<(), Fail> {
+    let (mut tree, id) = one_window(rt.alloc())?;
+    let range = AttrRefusal::OutOfRange {
+        least: 16,
+        greatest: 1024,
+    };
+    assert_eq!(rt; tree.attr(id, Attr::W), Some(Value::Number(160)));
+    assert_eq!(rt; tree.set_attr(id, Attr::W, &Value::Number(40)), Ok(()));
+    assert_eq!(rt; tree.set_attr(id, Attr::W, &Value::Number(15)), Err(range));
+    assert_eq!(rt; tree.attr(id, Attr::W), Some(Value::Number(40)));
+    Ok(())
+}
+
+#[test]
+fn an_event_is_bound_and_unbound(rt: HostRuntime) -> Result<(), Fail> {
+    let (mut tree, id) = one_window(rt.alloc())?;
+    let tag = name_from(b"moved").ok_or("a tag")?;
+    tree.set_binding(id, EventKind::Move, Some(tag));
+    assert_eq!(rt; tree.binding(id, EventKind::Move), Some(tag));
+    assert_eq!(rt; tree.binding(id, EventKind::Key), None);
+    tree.set_binding(id, EventKind::Move, None);
+    assert_eq!(rt; tree.binding(id, EventKind::Move), None);
+    Ok(())
 }
 
 /// What hanging the child into that cell of a Grid answers.
@@ -128,7 +123,7 @@ fn hung(
     }
 }
 
-/// A tree with two widgets.
+/// A tree with two widgets, `a` and `b`.
 fn two(alloc: Global, first: Kind, second: Kind) -> Result<(Tree, Id, Id), Fail>
     ensures joined { IfOk result (λ made. is_joined made.0.clients 1 ≡ true) }
     ensures first { IfOk result (λ made. IsLive made.0 made.1.key) }
@@ -140,7 +135,7 @@ fn two(alloc: Global, first: Kind, second: Kind) -> Result<(Tree, Id, Id), Fail>
     Ok((tree, a, b))
 }
 
-/// A tree with a Grid and a widget in its column 2, row 3.
+/// A tree with a Grid `a` and a widget `b` in its column 2, row 3.
 fn pair(alloc: Global, kind: Kind) -> Result<(Tree, Id, Id), Fail>
     ensures joined { IfOk result (λ made. is_joined made.0.clients 1 ≡ true) }
     ensures first { IfOk result (λ made. IsLive made.0 made.1.key) }
@@ -156,15 +151,15 @@ fn pair(alloc: Global, kind: Kind) -> Result<(Tree, Id, Id), Fail>
 #[test]
 fn a_widget_hangs_where_it_was_hung(rt: HostRuntime) -> Result<(), Fail> {
     let (tree, grid, label) = pair(rt.alloc(), Kind::Label)?;
-    assert_eq!(rt; tree.parent(label), Some(grid));
-    assert_eq!(rt; tree.root(label), grid);
-    assert_eq!(rt; tree.child_at(grid, 2, 3), Some(label));
-    assert_eq!(rt; tree.child_at(grid, 17, 1), None);
     let cell = Cell {
         column: 2,
         row: 3,
         pad: 0,
     };
+    assert_eq!(rt; tree.parent(label), Some(grid));
+    assert_eq!(rt; tree.root(label), grid);
+    assert_eq!(rt; tree.child_at(grid, 2, 3), Some(label));
+    assert_eq!(rt; tree.child_at(grid, 17, 1), None);
     assert_eq!(rt; tree.cell(label), Some(cell));
     Ok(())
 }
@@ -179,56 +174,32 @@ fn a_widget_hangs_no_more_after_detach(rt: HostRuntime) -> Result<(), Fail> {
 }
 
 #[test]
-fn a_cycle_of_two_is_refused(rt: HostRuntime) -> Result<(), Fail> {
-    let (mut tree, a, b) = pair(rt.alloc(), Kind::Grid)?;
-    assert_eq!(rt; hung(&mut tree, b, a, 1, 1)?, Some(AttachRefusal::Cycle));
-    Ok(())
-}
-
-#[test]
-fn a_widget_hangs_not_in_itself(rt: HostRuntime) -> Result<(), Fail> {
-    let (mut tree, a, _) = pair(rt.alloc(), Kind::Grid)?;
-    assert_eq!(rt; hung(&mut tree, a, a, 1, 1)?, Some(AttachRefusal::Cycle));
-    Ok(())
-}
-
-#[test]
-fn a_cycle_of_three_is_refused(rt: HostRuntime) -> Result<(), Fail> {
+fn a_widget_hangs_not_in_one_below_it(rt: HostRuntime) -> Result<(), Fail> {
     let (mut tree, a, b) = pair(rt.alloc(), Kind::Grid)?;
     let c = added(&mut tree, b"c", Kind::Grid)?;
+    assert_eq!(rt; hung(&mut tree, a, a, 1, 1)?, Some(AttachRefusal::Cycle));
+    assert_eq!(rt; hung(&mut tree, b, a, 1, 1)?, Some(AttachRefusal::Cycle));
     assert_eq!(rt; hung(&mut tree, b, c, 1, 1)?, None);
     assert_eq!(rt; hung(&mut tree, c, a, 1, 1)?, Some(AttachRefusal::Cycle));
     Ok(())
 }
 
 #[test]
-fn a_widget_hangs_in_one_other(rt: HostRuntime) -> Result<(), Fail> {
-    let (mut tree, _, b) = pair(rt.alloc(), Kind::Grid)?;
+fn a_cell_has_one_child_and_a_child_one_parent(rt: HostRuntime) -> Result<(), Fail> {
+    let (mut tree, a, b) = pair(rt.alloc(), Kind::Grid)?;
     let c = added(&mut tree, b"c", Kind::Grid)?;
+    let window = added(&mut tree, b"w", Kind::Window)?;
+    assert_eq!(rt;
+        hung(&mut tree, c, window, 1, 1)?,
+        Some(AttachRefusal::WrongKind)
+    );
     assert_eq!(rt;
         hung(&mut tree, c, b, 1, 1)?,
         Some(AttachRefusal::HasParent)
     );
-    Ok(())
-}
-
-#[test]
-fn a_cell_has_one_child(rt: HostRuntime) -> Result<(), Fail> {
-    let (mut tree, grid, _) = pair(rt.alloc(), Kind::Label)?;
-    let other = added(&mut tree, b"c", Kind::Label)?;
     assert_eq!(rt;
-        hung(&mut tree, grid, other, 2, 3)?,
+        hung(&mut tree, a, c, 2, 3)?,
         Some(AttachRefusal::CellTaken)
-    );
-    Ok(())
-}
-
-#[test]
-fn a_window_hangs_nowhere(rt: HostRuntime) -> Result<(), Fail> {
-    let (mut tree, grid, window) = two(rt.alloc(), Kind::Grid, Kind::Window)?;
-    assert_eq!(rt;
-        hung(&mut tree, grid, window, 1, 1)?,
-        Some(AttachRefusal::WrongKind)
     );
     Ok(())
 }
@@ -264,6 +235,80 @@ fn a_tree_has_twelve_levels(rt: HostRuntime) -> Result<(), Fail> {
     Ok(())
 }
 
+/// The rules of a Grid's column and row of that number.
+fn rules(tree: &Tree, grid: Id, index: u32) -> Result<((u32, u32), (u32, u32)), Fail>
+    requires grid { IsLive tree.now grid.key }
+    requires index { IsIndex index }
+{
+    match tree.kind(grid) {
+        Kind::Grid => {}
+        _ => return Err(Fail::from("a Grid")),
+    }
+    Ok((tree.column_rule(grid, index), tree.row_rule(grid, index)))
+}
+
+/// Gives a Grid's column 2 the size 30 and the weight 4, and its row 5 the size 6 and the weight 7.
+fn give_rules(tree: &mut Tree, grid: Id) -> Result<(), Fail>
+    requires { IsLive tree.old grid.key }
+    ensures { KeepsLive tree.old tree.new }
+{
+    match tree.kind(grid) {
+        Kind::Grid => tree.set_column_rule(grid, 2, 30, 4),
+        _ => return Err(Fail::from("a Grid")),
+    }
+    match tree.kind(grid) {
+        Kind::Grid => tree.set_row_rule(grid, 5, 6, 7),
+        _ => return Err(Fail::from("a Grid")),
+    }
+    Ok(())
+}
+
+#[test]
+fn a_rule_is_that_of_one_column_or_row(rt: HostRuntime) -> Result<(), Fail> {
+    let (mut tree, grid, _) = two(rt.alloc(), Kind::Grid, Kind::Label)?;
+    give_rules(&mut tree, grid)?;
+    assert_eq!(rt; rules(&tree, grid, 2)?, ((30, 4), (0, 0)));
+    assert_eq!(rt; rules(&tree, grid, 5)?, ((0, 0), (6, 7)));
+    assert_eq!(rt; rules(&tree, grid, 3)?, ((0, 0), (0, 0)));
+    Ok(())
+}
+
+/// Links the widget to the Variable.
+fn tie(tree: &mut Tree, widget: Id, variable: Id) -> Result<(), Fail>
+    requires widget { IsLive tree.old widget.key }
+    requires variable { IsLive tree.old variable.key }
+    ensures { KeepsLive tree.old tree.new }
+{
+    match tree.kind(variable) {
+        Kind::Variable => {}
+        _ => return Err(Fail::from("a Variable")),
+    }
+    if tree.owner(variable) != tree.owner(widget) {
+        return Err(Fail::from("one owner"));
+    }
+    tree.set_link(widget, Some(variable));
+    Ok(())
+}
+
+#[test]
+fn a_widget_is_linked_and_unlinked(rt: HostRuntime) -> Result<(), Fail> {
+    let (mut tree, label, variable) = two(rt.alloc(), Kind::Label, Kind::Variable)?;
+    tie(&mut tree, label, variable)?;
+    assert_eq!(rt; tree.link(label), Some(variable));
+    tree.set_link(label, None);
+    assert_eq!(rt; tree.link(label), None);
+    assert_eq!(rt; tree.remove(variable), Ok(()));
+    Ok(())
+}
+
+#[test]
+fn a_linked_variable_stays(rt: HostRuntime) -> Result<(), Fail> {
+    let (mut tree, label, variable) = two(rt.alloc(), Kind::Label, Kind::Variable)?;
+    tie(&mut tree, label, variable)?;
+    assert_eq!(rt; tree.remove(variable), Err(InUse));
+    Ok(())
+}
+
 #[test]
 fn a_widget_with_a_child_stays(rt: HostRuntime) -> Result<(), Fail> {
     let (mut tree, grid, _) = pair(rt.alloc(), Kind::Label)?;
@@ -282,8 +327,15 @@ fn a_widget_in_another_stays(rt: HostRuntime) -> Result<(), Fail> {
 fn numbers_stay_while_others_come_and_go(rt: HostRuntime) -> Result<(), Fail> {
     let (mut tree, gone, stays) = two(rt.alloc(), Kind::Label, Kind::Label)?;
     let name = name_from(b"b").ok_or("a name")?;
-    assert_eq!(rt; tree.remove(gone), Ok(()));
+    let other = name_from(b"c").ok_or("a name")?;
+    match tree.remove(gone) {
+        Ok(()) => {}
+        Err(_) => return Err(Fail::from("removes")),
+    }
+    let more = added(&mut tree, b"c", Kind::Label)?;
     assert_eq!(rt; tree.find(1, &name), Some(stays));
+    assert_eq!(rt; tree.find(1, &other), Some(more));
+    assert_ne!(rt; more, stays);
     Ok(())
 }
 
@@ -293,6 +345,7 @@ fn a_client_leaves_with_its_widgets(rt: HostRuntime) -> Result<(), Fail> {
     let name = name_from(b"b").ok_or("a name")?;
     tree.drop_client(1);
     assert_eq!(rt; tree.find(1, &name), None);
+    assert_eq!(rt; tree.count(1), 0);
     Ok(())
 }
 
@@ -312,6 +365,7 @@ fn a_client_has_128_widgets(rt: HostRuntime) -> Result<(), Fail> {
     let mut tree = one_client(rt.alloc())?;
     let name = name_from(b"more").ok_or("a name")?;
     labels(&mut tree, 128)?;
+    assert_eq!(rt; tree.count(1), 128);
     assert_eq!(rt;
         tree.add(1, name, Kind::Label),
         Err(AddRefusal::Full { limit: 128 })
@@ -319,11 +373,17 @@ fn a_client_has_128_widgets(rt: HostRuntime) -> Result<(), Fail> {
     Ok(())
 }
 
-/// The widget in a cell of the named one's root: what a caller may ask for with no test in between.
+/// The widget in a cell of the named one's root: what a caller may ask for with no test in between, and what
+/// it may cite of the tree, with no word on its fields.
 fn in_root(tree: &Tree, client: u32, name: &Name, column: u32, row: u32) -> Option<Id>
     ensures live { IfSome result (λ id. IsLive tree.now id.key) }
-    ensures planted { IfSome result (λ _. IsPlanted (rows_of tree.now)) }
-    ensures fitting { IfSome result (λ _. list_all fits_table (rows_of tree.now) ≡ true) }
+    ensures own_numbers { HaveOwnNumbers (nodes tree.now.entries) }
+    ensures own_names { HaveOwnNames (nodes tree.now.entries) }
+    ensures parents { list_all (hangs_right (rows_of tree.now)) (rows_of tree.now) ≡ true }
+    ensures own_cells { HaveOwnCells (rows_of tree.now) }
+    ensures low { list_all (λ row. ends_within most_levels (rows_of tree.now) row.client row.name) (rows_of tree.now) ≡ true }
+    ensures linked { all_lead (nodes tree.now.entries) (ties tree.now.entries) ≡ true }
+    ensures fitting { list_all fits_table (rows_of tree.now) ≡ true }
 {
     let id = tree.find(client, name)?;
     let parent = tree.parent(id)?;

@@ -14,24 +14,20 @@ ghost use Rattle.desk_model.specs.Rows.{IsIndex};
 ghost use Rattle.tree_core.specs.Refusals.{add_refusal, AnswersRefusal, attach_answer};
 
 use crate::add::{add_refusal, free_number, put_counted};
-use crate::cells::Cells;
-use crate::change::Change;
-use crate::counts::Counts;
 use crate::going_up::{parent_number, root_number};
 use crate::hanging::{attach_refusal, child_number, hang, unhang};
 use crate::id::Id;
 use crate::links::{link_of, name_of};
-use crate::names::{Names, number_of};
 use crate::refusal::{AddRefusal, AttachRefusal, InUse, NoMemory};
-use crate::removing::{drop_names, drop_number, drop_rows, is_used, take_out};
-use crate::store::Store;
-use indexmap::IndexMap;
+use crate::removing::{drop_number, is_used};
 use kind_core::{Attr, AttrRefusal, Cell, EventKind, Kind, Name, Value, check};
+use row_store::{Cells, Change, Counts, Names, Store, drop_names, drop_rows, number_of, take_out};
 use std::alloc::Global;
 use std::marker::Model;
 
 /// The widgets of all clients: rows in the order of making, under the names that the clients gave them.
-/// Contracts see the record `Widgets` of desk_model. See docs/MACHINE.md, "Widgets".
+/// Contracts see the record `Widgets` of desk_model. See docs/MACHINE.md, "Widgets"; docs/ARCHITECTURE.md,
+/// "Cost", has the reasons for what the calls cost.
 #[derive(Drop)]
 pub struct Tree {
     clients: Vec<u32>,
@@ -43,31 +39,32 @@ pub struct Tree {
 
 impl Model for Tree {
     ghost use Rattle.desk_model.specs.Widgets.{Widgets};
-    ghost use Rattle.tree_core.specs.Indexed.{IsCounted};
+    ghost use Rattle.tree_core.specs.Kept.{IsCounted};
 
     ghost Value = { Widgets };
 
     ghost view = { λ t. record { clients = t.clients.items; entries = t.store } };
 
-    ghost invariant = { λ t. IsCounted t.clients.items t.names.entries t.store t.cells t.counts };
+    ghost invariant = { λ t. IsCounted t.clients.items t.names t.store t.cells t.counts };
 }
 
 impl Tree {
-    /// A tree with no clients and no widgets.
+    /// A tree with no clients and no widgets. It takes no memory yet.
     pub fn new(alloc: Global) -> Tree
         ensures empty { result ≡ no_widgets }
         ensures valid { IsWidgets result }
     {
         Tree {
             clients: Vec::new(alloc),
-            names: IndexMap::new(alloc),
+            names: Names::new(alloc),
             store: Store::new(alloc),
             cells: Cells::new(alloc),
             counts: Counts::new(),
         }
     }
 
-    /// Joins a client, 1 to 16, that isn't joined, as the last one. NoMemory leaves the tree as it was.
+    /// Joins a client, 1 to 16, that isn't joined, as the last one. NoMemory leaves the tree as it was. It makes
+    /// 32,768 places for the children of the client's widgets, and as many for each lower number that has none.
     pub fn join_client(&mut self, client: u32) -> Result<(), NoMemory>
         requires low { 1 ≤ client }
         requires high { client ≤ 16 }
@@ -89,9 +86,9 @@ impl Tree {
 
     /// Adds a widget of a joined client, last, with a number that wasn't live. Refuses NameTaken exactly
     /// where the client has a widget of that name, then Full with 128 exactly where it has 128, then Full
-    /// with 8 exactly for a ninth Window or a ninth VScreen. A refusal leaves the tree as it was. The cost is
-    /// that of look-ups in hash maps and of at most 128 tries for a number, mostly one, whatever the number of
-    /// rows.
+    /// with 8 exactly for a ninth Window or a ninth VScreen. A refusal leaves the tree as it was. It costs a few
+    /// look-ups in hash maps and at most 128 tries for a number, mostly one, whatever the number of rows; now
+    /// and then a map that is full grows.
     pub fn add(&mut self, client: u32, name: Name, kind: Kind) -> Result<Id, AddRefusal>
         requires { is_joined self.old.clients client ≡ true }
         ensures ok { IfOk result (λ id. self.new ≡ with_new id.key (new_row client name kind) self.old) }
@@ -124,7 +121,7 @@ impl Tree {
         }
     }
 
-    /// How many widgets the client, 0 to 16, has.
+    /// How many widgets the client, 0 to 16, has. It reads a counter.
     pub fn count(&self, client: u32) -> u32
         requires { client ≤ 16 }
         ensures count { result ≡ count_of client any_kind (nodes self.now.entries) }
@@ -133,7 +130,8 @@ impl Tree {
         self.counts.has(client, None)
     }
 
-    /// The number of the client's widget of that name, None exactly where there is none.
+    /// The number of the client's widget of that name, None exactly where there is none. It costs one look-up
+    /// in a hash map.
     pub fn find(&self, client: u32, name: &Name) -> Option<Id>
         ensures found { option_map (λ id. id.key) result ≡ id_named (nodes self.now.entries) client name.now }
         ensures live { IfSome result (λ id. IsLive self.now id.key) }
@@ -145,7 +143,7 @@ impl Tree {
         }
     }
 
-    /// The kind of the widget.
+    /// The kind of the widget. It costs one look-up in a hash map.
     pub fn kind(&self, id: Id) -> Kind
         requires { IsLive self.now id.key }
         ensures kind { option_map (λ row. row.kind) (row_at self.now.entries id.key) ≡ Some result }
@@ -154,7 +152,7 @@ impl Tree {
         self.store.row(id.key).kind()
     }
 
-    /// The client whose widget it is.
+    /// The client, 1 to 16, whose widget it is. It costs one look-up in a hash map.
     pub fn owner(&self, id: Id) -> u32
         requires { IsLive self.now id.key }
         ensures owner { option_map (λ row. row.client) (row_at self.now.entries id.key) ≡ Some result }
@@ -163,7 +161,8 @@ impl Tree {
         self.store.row(id.key).client()
     }
 
-    /// The value of the widget's attribute as its row has it, None where the row has none.
+    /// The value of the widget's attribute as its row has it, None exactly where the row has none. It costs one
+    /// look-up in a hash map, whatever the number of rows.
     pub fn attr(&self, id: Id, attr: Attr) -> Option<Value>
         requires { IsLive self.now id.key }
         ensures value { option_map (λ row. attr_of row attr) (row_at self.now.entries id.key) ≡ Some result }
@@ -174,7 +173,7 @@ impl Tree {
 
     /// Gives the widget's attribute a value. Refuses NotOfKind exactly where the kind has no such attribute
     /// or it has the other type, and OutOfRange exactly where a number is outside its range. A refusal
-    /// leaves the tree as it was.
+    /// leaves the tree as it was. It costs two look-ups in a hash map.
     pub fn set_attr(&mut self, id: Id, attr: Attr, value: &Value) -> Result<(), AttrRefusal>
         requires { IsLive self.old id.key }
         ensures answer { option_map (λ row. judged (domain_of row.kind attr) value.now) (row_at self.old.entries id.key) ≡ Some result }
@@ -198,7 +197,8 @@ impl Tree {
         Ok(())
     }
 
-    /// The size in pixels and the weight of a Grid's column, 1 to 16.
+    /// The size in pixels and the weight of a Grid's column, 1 to 16; (0, 0) where none was given. It costs one
+    /// look-up in a hash map.
     pub fn column_rule(&self, id: Id, index: u32) -> (u32, u32)
         requires grid { IsGrid self.now id.key }
         requires index { IsIndex index }
@@ -208,7 +208,8 @@ impl Tree {
         self.store.row(id.key).column_rule(index)
     }
 
-    /// The size in pixels and the weight of a Grid's row, 1 to 16.
+    /// The size in pixels and the weight of a Grid's row, 1 to 16; (0, 0) where none was given. It costs one
+    /// look-up in a hash map.
     pub fn row_rule(&self, id: Id, index: u32) -> (u32, u32)
         requires grid { IsGrid self.now id.key }
         requires index { IsIndex index }
@@ -218,7 +219,8 @@ impl Tree {
         self.store.row(id.key).row_rule(index)
     }
 
-    /// Gives a Grid's column, 1 to 16, a size of at most 1,024 pixels and a weight of at most 1,000.
+    /// Gives a Grid's column, 1 to 16, a size of at most 1,024 pixels and a weight of at most 1,000. It costs
+    /// one look-up in a hash map.
     pub fn set_column_rule(&mut self, id: Id, index: u32, size: u32, weight: u32)
         requires grid { IsGrid self.old id.key }
         requires index { IsIndex index }
@@ -237,7 +239,8 @@ impl Tree {
         );
     }
 
-    /// Gives a Grid's row, 1 to 16, a size of at most 1,024 pixels and a weight of at most 1,000.
+    /// Gives a Grid's row, 1 to 16, a size of at most 1,024 pixels and a weight of at most 1,000. It costs one
+    /// look-up in a hash map.
     pub fn set_row_rule(&mut self, id: Id, index: u32, size: u32, weight: u32)
         requires grid { IsGrid self.old id.key }
         requires index { IsIndex index }
@@ -256,7 +259,8 @@ impl Tree {
         );
     }
 
-    /// The Variable that the widget is linked to, None exactly where it isn't linked.
+    /// The Variable that the widget is linked to, None exactly where it isn't linked. It costs at most two
+    /// look-ups in hash maps.
     pub fn link(&self, id: Id) -> Option<Id>
         requires { IsLive self.now id.key }
         ensures found { option_map (λ id. id.key) result ≡ linked_id self.now id.key }
@@ -269,7 +273,8 @@ impl Tree {
         }
     }
 
-    /// Links the widget to a Variable of the same client, or unlinks it.
+    /// Links the widget to a Variable of the same client, or unlinks it. It costs at most two look-ups in a hash
+    /// map.
     pub fn set_link(&mut self, id: Id, variable: Option<Id>)
         requires live { IsLive self.old id.key }
         requires variable { IfSome variable (λ other. row_kind self.old.entries other.key ≡ Some Kind.Variable) }
@@ -282,7 +287,8 @@ impl Tree {
         self.store.change(id.key, Change::Link { variable: name });
     }
 
-    /// The tag that the widget's event is bound to, None exactly where it isn't bound.
+    /// The tag that the widget's event is bound to, None exactly where it isn't bound. It costs one look-up in a
+    /// hash map.
     pub fn binding(&self, id: Id, event: EventKind) -> Option<Name>
         requires { IsLive self.now id.key }
         ensures tag { option_map (λ row. binding_of row event) (row_at self.now.entries id.key) ≡ Some result }
@@ -291,7 +297,7 @@ impl Tree {
         self.store.row(id.key).binding(event)
     }
 
-    /// Binds the widget's event to a tag, or unbinds it.
+    /// Binds the widget's event to a tag, or unbinds it. It costs one look-up in a hash map.
     pub fn set_binding(&mut self, id: Id, event: EventKind, tag: Option<Name>)
         requires { IsLive self.old id.key }
         ensures tag { self.new ≡ edited id.key (with_binding event tag) self.old }
@@ -303,7 +309,8 @@ impl Tree {
 
     /// Hangs the child into that cell of the parent, both widgets of one client. Refuses WrongKind, HasParent,
     /// Cycle, TooDeep and CellTaken, in this order, exactly where the type says. A refusal leaves the tree as
-    /// it was.
+    /// it was. It goes up at most 12 levels from the parent, with a few look-ups in hash maps on each, and down
+    /// through the cells of the child and of the widgets under it, whatever the number of other rows.
     pub fn attach(&mut self, parent: Id, child: Id, cell: Cell) -> Result<(), AttachRefusal>
         requires parent { IsLive self.old parent.key }
         requires child { IsLive self.old child.key }
@@ -336,7 +343,8 @@ impl Tree {
         Ok(())
     }
 
-    /// Takes the widget out of its parent. Without a parent nothing changes.
+    /// Takes the widget out of its parent. Without a parent nothing changes. It costs a few look-ups in hash
+    /// maps, whatever the number of rows.
     pub fn detach(&mut self, child: Id)
         requires { IsLive self.old child.key }
         ensures spot { self.new ≡ edited child.key (with_spot None) self.old }
@@ -347,7 +355,8 @@ impl Tree {
     }
 
     /// Removes the widget. Refuses InUse exactly where it hangs in another, has a child, or is linked by
-    /// another, and leaves the tree as it was.
+    /// another, and leaves the tree as it was. It walks the rows: for one that is linked to this one, and to
+    /// close the gap.
     pub fn remove(&mut self, id: Id) -> Result<(), InUse>
         requires { IsLive self.old id.key }
         ensures answer { option_map (is_used (rows_of self.old)) (row_at self.old.entries id.key) ≡ Some (is_err result) }
@@ -367,7 +376,8 @@ impl Tree {
         Ok(())
     }
 
-    /// Removes all widgets of a joined client, which then isn't joined.
+    /// Removes all widgets of a joined client, which then isn't joined. It walks the rows once for each of them,
+    /// and empties the client's 32,768 places for children.
     pub fn drop_client(&mut self, client: u32)
         requires { is_joined self.old.clients client ≡ true }
         ensures left { self.new ≡ departed client self.old }
@@ -381,7 +391,8 @@ impl Tree {
         self.counts.forget(client);
     }
 
-    /// The widget in which this one hangs, None exactly where it hangs in none.
+    /// The widget in which this one hangs, None exactly where it hangs in none. It costs at most two look-ups in
+    /// hash maps.
     pub fn parent(&self, id: Id) -> Option<Id>
         requires { IsLive self.now id.key }
         ensures found { option_map (λ id. id.key) result ≡ parent_id self.now id.key }
@@ -394,7 +405,8 @@ impl Tree {
         }
     }
 
-    /// The widget that is above this one, or is this one, and hangs in none.
+    /// The widget that is above this one, or is this one, and hangs in none. It goes up at most 12 levels, with
+    /// two look-ups in hash maps on each.
     pub fn root(&self, id: Id) -> Id
         requires { IsLive self.now id.key }
         ensures found { root_id self.now id.key ≡ Some result.key }
@@ -405,7 +417,8 @@ impl Tree {
         Id { key }
     }
 
-    /// The widget that hangs in that column and row, None exactly where there is none, as outside 1 to 16.
+    /// The widget that hangs in that column and row, None exactly where there is none, as outside 1 to 16. It
+    /// reads one place of a table.
     pub fn child_at(&self, id: Id, column: u32, row: u32) -> Option<Id>
         requires { IsLive self.now id.key }
         ensures found { option_map (λ id. id.key) result ≡ child_id self.now id.key column row }
@@ -418,7 +431,8 @@ impl Tree {
         }
     }
 
-    /// The cell of its parent in which the widget hangs, None exactly where it hangs in none.
+    /// The cell of its parent in which the widget hangs, None exactly where it hangs in none. It costs one
+    /// look-up in a hash map.
     pub fn cell(&self, id: Id) -> Option<Cell>
         requires { IsLive self.now id.key }
         ensures cell { option_map (λ row. option_map (λ spot. spot.1) row.spot) (row_at self.now.entries id.key) ≡ Some result }

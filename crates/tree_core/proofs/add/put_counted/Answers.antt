@@ -2,9 +2,9 @@ use Rattle.std.proofs.Common.{◌≡◌, ◌++◌, ◌∷◌, [], Some, ap, ◌�
 use Rattle.desk_model.specs.Rows.{new_row}
 use Rattle.desk_model.specs.Nodes.{node_of}
 use Rattle.desk_model.specs.Widgets.{nodes}
-use Rattle.tree_core.specs.Counts.{gained, AreCounts}
-use Rattle.tree_core.proofs.ForestLemmas.{nodes-push}
-use Rattle.tree_core.proofs.CountsLemmas.{AreCounts-gain, number_alike-count_of}
+use Rattle.row_store.specs.Counts.{gained, AreCounts}
+use Rattle.row_store.proofs.Nodes.{nodes-push}
+use Rattle.row_store.proofs.CountsLemmas.{AreCounts-gain, number_alike-count_of}
 use Rattle.tree_core.proofs.add.put_counted.Goals as goal
 
 pub gain-requires-clause-alike : goal.gain-requires-clause-alike

@@ -1,5 +1,5 @@
 use Rattle.std.proofs.Common.{rules, sym, ◌∙◌}
-use Rattle.tree_core.proofs.ForestLemmas.{named-live, row_live}
+use Rattle.row_store.proofs.Nodes.{named-live, row_live}
 use Rattle.tree_core.proofs.Ways.{parent_of-found, parent_of-none}
 use Rattle.tree_core.proofs.going_up.parent_of.Goals as goal
 

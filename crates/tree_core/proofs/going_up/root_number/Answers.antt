@@ -4,7 +4,7 @@ use Rattle.desk_model.specs.Rows.{Row}
 use Rattle.desk_model.specs.Nodes.{id_named}
 use Rattle.desk_model.specs.Trees.{root_in, root_of, most_levels}
 use Rattle.desk_model.specs.Widgets.{nodes}
-use Rattle.tree_core.specs.Cells.{rows_in}
+use Rattle.tree_core.specs.Children.{rows_in}
 use Rattle.tree_core.proofs.Ways.{root-numbered}
 use Rattle.tree_core.proofs.going_up.root_number.Goals as goal
 

@@ -6,9 +6,10 @@ use Rattle.desk_model.specs.Rows.{Row}
 use Rattle.desk_model.specs.Places.{child_id}
 use Rattle.desk_model.specs.Planted.{takes_cell}
 use Rattle.desk_model.specs.Trees.{height_in, depth_of, height_of, most_levels}
-use Rattle.tree_core.specs.Cells.{rows_in, widgets_in}
+use Rattle.tree_core.specs.Children.{rows_in, widgets_in}
 use Rattle.tree_core.proofs.Children.{child_in-free, takes_cell-index}
-use Rattle.tree_core.proofs.Groves.{is_none_of, attach_answer-none}
+use Rattle.row_store.proofs.Options.{is_none_of}
+use Rattle.tree_core.proofs.Groves.{attach_answer-none}
 use Rattle.tree_core.proofs.hanging.attach_refusal.Goals as goal
 
 pub returns : goal.returns

@@ -1,5 +1,5 @@
 use Rattle.desk_model.specs.Widgets.{row_at}
-use Rattle.tree_core.proofs.ShownLemmas.{none_or_some}
+use Rattle.row_store.proofs.Options.{none_or_some}
 use Rattle.tree_core.proofs.Children.{takes_cell-index}
 use Rattle.tree_core.proofs.Groves.{MayHang-answer, MayHang-alone, IsGrove-hang}
 use Rattle.tree_core.proofs.Moves.{HasChildren-hang}

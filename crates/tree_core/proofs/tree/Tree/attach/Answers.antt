@@ -5,9 +5,9 @@ use Rattle.desk_model.specs.Rows.{Row, with_spot}
 use Rattle.desk_model.specs.Links.{name_at}
 use Rattle.desk_model.specs.Planted.{takes_cell}
 use Rattle.desk_model.specs.Widgets.{Widgets, row_at, row_kind}
-use Rattle.tree_core.specs.Cells.{HasChildren}
-use Rattle.tree_core.specs.Indexed.{IsGrove}
-use Rattle.tree_core.proofs.CountsLemmas.{AreCounts-with_row}
+use Rattle.tree_core.specs.Children.{HasChildren}
+use Rattle.tree_core.specs.Kept.{IsGrove}
+use Rattle.row_store.proofs.CountsLemmas.{AreCounts-with_row}
 use Rattle.tree_core.proofs.ForestLemmas.{live-with_row}
 use Rattle.tree_core.proofs.Children.{takes_cell-index}
 use Rattle.tree_core.proofs.TreeKept.{IsTree-spot, IsWidgets-tree, live_row, place_within}
@@ -20,7 +20,7 @@ hang-requires-clause-within c =
     let kind : option_map_or (λ (kind : Kind). takes_cell kind c.args.cell) (row_kind c.self.inside.store c.args.parent.key) false ≡ true = subst K (sym c.self.view_is) c.requires.cell in
     let takes = ap (λ (o : Option Row). option_map_or (λ (kind : Kind). takes_cell kind c.args.cell) (option_map (λ (row : Row). row.kind) o) false) (sym found.1) ∙ kind in
     let index = takes_cell-index (found.0).kind c.args.cell takes in
-    place_within c.self.inside.clients.items c.self.inside.names.entries c.self.inside.store c.self.inside.cells c.args.parent.key found.0 c.args.cell.column c.args.cell.row c.self.invariant.tree found.1 index.0 index.1
+    place_within c.self.inside.clients.items c.self.inside.names c.self.inside.store c.self.inside.cells c.args.parent.key found.0 c.args.cell.column c.args.cell.row c.self.invariant.tree found.1 index.0 index.1
 
 pub invariant_of-self : goal.invariant_of-self
 invariant_of-self c =
@@ -28,7 +28,7 @@ invariant_of-self c =
     let G : List (ℕ × Row) → Type 0 = λ es. IsGrove es in
     let H : List (ℕ × Row) → Type 0 = λ es. HasChildren es c.hang.new.cells in
     let spot = option_map (λ (name : List ℕ). (name, c.args.cell)) (name_at c.self.inside.store c.args.parent.key) in
-    let tree = IsTree-spot c.self.inside.clients.items c.self.inside.names.entries c.self.inside.store c.self.inside.cells c.hang.new.cells c.args.child.key spot found.0 found.1 (subst G c.hang.ensures.rows c.hang.ensures.grove) (subst H c.hang.ensures.rows c.hang.ensures.children) c.hang.ensures.length c.self.invariant.tree in
+    let tree = IsTree-spot c.self.inside.clients.items c.self.inside.names c.self.inside.store c.self.inside.cells c.hang.new.cells c.args.child.key spot found.0 found.1 (subst G c.hang.ensures.rows c.hang.ensures.grove) (subst H c.hang.ensures.rows c.hang.ensures.children) c.hang.ensures.length c.self.invariant.tree in
     rw c.hang.ensures.rows (record { tree = tree; counted = AreCounts-with_row c.self.inside.counts c.self.inside.store c.args.child.key (with_spot spot) (λ row. refl) c.self.invariant.counted })
 
 pub returns-clause-valid : goal.returns-clause-valid
@@ -37,7 +37,7 @@ returns-clause-valid c =
     let G : List (ℕ × Row) → Type 0 = λ es. IsGrove es in
     let H : List (ℕ × Row) → Type 0 = λ es. HasChildren es c.hang.new.cells in
     let spot = option_map (λ (name : List ℕ). (name, c.args.cell)) (name_at c.self.inside.store c.args.parent.key) in
-    let tree = IsTree-spot c.self.inside.clients.items c.self.inside.names.entries c.self.inside.store c.self.inside.cells c.hang.new.cells c.args.child.key spot found.0 found.1 (subst G c.hang.ensures.rows c.hang.ensures.grove) (subst H c.hang.ensures.rows c.hang.ensures.children) c.hang.ensures.length c.self.invariant.tree in
+    let tree = IsTree-spot c.self.inside.clients.items c.self.inside.names c.self.inside.store c.self.inside.cells c.hang.new.cells c.args.child.key spot found.0 found.1 (subst G c.hang.ensures.rows c.hang.ensures.grove) (subst H c.hang.ensures.rows c.hang.ensures.children) c.hang.ensures.length c.self.invariant.tree in
     rw c.hang.ensures.rows (IsWidgets-tree _ _ _ c.hang.new.cells tree)
 
 pub returns-clause-kept : goal.returns-clause-kept

@@ -3,8 +3,8 @@ use Rattle.std.specs.List.{filter}
 use Rattle.desk_model.specs.Rows.{Row}
 use Rattle.desk_model.specs.Nodes.{is_number_of}
 use Rattle.desk_model.specs.Widgets.{Widgets, row_at, row_client, is_joined, departed, nodes}
-use Rattle.tree_core.specs.Counts.{AreCounts, forgotten}
-use Rattle.tree_core.proofs.CountsLemmas.{AreCounts-forget}
+use Rattle.row_store.specs.Counts.{AreCounts, forgotten}
+use Rattle.row_store.proofs.CountsLemmas.{AreCounts-forget}
 use Rattle.tree_core.proofs.ForestLemmas.{joined_in_range}
 use Rattle.tree_core.proofs.TreeKept.{IsWidgets-tree}
 use Rattle.tree_core.proofs.Departures.{kept-departed, IsTree-departed, live-departed}
@@ -30,7 +30,7 @@ forget-requires c =
 pub invariant_of-self : goal.invariant_of-self
 invariant_of-self c =
     let range = joined_in_range c.self.inside.clients.items c.args.client (ap (λ (w : Widgets). is_joined w.clients c.args.client) c.self.view_is ∙ c.requires) c.self.invariant.tree.forest.clients_in_range in
-    let tree = IsTree-departed c.self.inside.clients.items c.self.inside.names.entries c.self.inside.store c.self.inside.cells c.clear.new.self c.args.client range.0 c.self.invariant.tree c.clear.ensures.empty c.clear.ensures.below c.clear.ensures.above c.clear.ensures.length in
+    let tree = IsTree-departed c.self.inside.clients.items c.self.inside.names c.self.inside.store c.self.inside.cells c.clear.new.self c.args.client range.0 c.self.invariant.tree c.clear.ensures.empty c.clear.ensures.below c.clear.ensures.above c.clear.ensures.length in
     let fewer = AreCounts-forget c.self.inside.counts c.self.inside.store c.args.client (omega (arith, range.1)) c.self.invariant.counted in
     let counted : AreCounts (forgotten c.args.client c.self.inside.counts) (nodes (filter (λ (e : ℕ × Row). not (is_number_of c.args.client e.0)) c.self.inside.store)) = rw (kept-departed c.self.inside.store c.args.client range.0 c.self.invariant.tree.forest.numbers) fewer in
     rw (c.drop_number.ensures, c.drop_names.ensures, c.drop_rows.ensures, c.forget.ensures) (record { tree = tree; counted = counted })
@@ -38,7 +38,7 @@ invariant_of-self c =
 pub returns-clause-valid : goal.returns-clause-valid
 returns-clause-valid c =
     let range = joined_in_range c.self.inside.clients.items c.args.client (ap (λ (w : Widgets). is_joined w.clients c.args.client) c.self.view_is ∙ c.requires) c.self.invariant.tree.forest.clients_in_range in
-    let tree = IsTree-departed c.self.inside.clients.items c.self.inside.names.entries c.self.inside.store c.self.inside.cells c.clear.new.self c.args.client range.0 c.self.invariant.tree c.clear.ensures.empty c.clear.ensures.below c.clear.ensures.above c.clear.ensures.length in
+    let tree = IsTree-departed c.self.inside.clients.items c.self.inside.names c.self.inside.store c.self.inside.cells c.clear.new.self c.args.client range.0 c.self.invariant.tree c.clear.ensures.empty c.clear.ensures.below c.clear.ensures.above c.clear.ensures.length in
     rw (c.drop_number.ensures, c.drop_rows.ensures) (IsWidgets-tree _ _ _ c.clear.new.self tree)
 
 pub returns-clause-left : goal.returns-clause-left

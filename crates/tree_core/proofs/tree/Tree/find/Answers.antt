@@ -1,5 +1,5 @@
 use Rattle.std.proofs.Common.{sym, ◌∙◌}
-use Rattle.tree_core.proofs.ForestLemmas.{named-live, row_live}
+use Rattle.row_store.proofs.Nodes.{named-live, row_live}
 use Rattle.tree_core.proofs.tree.Tree.find.Goals as goal
 
 pub returns-in-Some-clause-live : goal.returns-in-Some-clause-live

@@ -3,7 +3,7 @@ use Rattle.std.specs.Option.{option_and_then}
 use Rattle.desk_model.specs.Rows.{Row}
 use Rattle.desk_model.specs.Nodes.{id_named}
 use Rattle.desk_model.specs.Widgets.{nodes, row_at}
-use Rattle.tree_core.proofs.ForestLemmas.{named-live, row_live}
+use Rattle.row_store.proofs.Nodes.{named-live, row_live}
 use Rattle.tree_core.proofs.tree.Tree.link.Goals as goal
 
 linked-live : (es : List (ℕ × Row)) (o : Option Row) (key : ℕ) → option_and_then (λ (row : Row). option_and_then (id_named (nodes es) row.client) row.link) o ≡ Some key → is_some (row_at es key) ≡ true

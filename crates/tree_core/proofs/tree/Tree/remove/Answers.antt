@@ -5,10 +5,10 @@ use Rattle.desk_model.specs.Rows.{Row}
 use Rattle.desk_model.specs.Nodes.{counts_with}
 use Rattle.desk_model.specs.Trees.{is_used}
 use Rattle.desk_model.specs.Widgets.{Widgets, row_at, nodes, without_row}
-use Rattle.tree_core.specs.Cells.{rows_in}
-use Rattle.tree_core.specs.Counts.{AreCounts, lost}
-use Rattle.tree_core.specs.Indexed.{IsIndexed}
-use Rattle.tree_core.proofs.CountsLemmas.{AreCounts-lose, has_one}
+use Rattle.tree_core.specs.Children.{rows_in}
+use Rattle.row_store.specs.Counts.{AreCounts, lost}
+use Rattle.row_store.specs.Index.{IsIndexed}
+use Rattle.row_store.proofs.CountsLemmas.{AreCounts-lose, has_one}
 use Rattle.tree_core.proofs.Listed.{row_at-without_row}
 use Rattle.tree_core.proofs.TreeKept.{IsWidgets-tree, live_row, client-below}
 use Rattle.tree_core.proofs.TreeTaken.{IsTree-without, IsFree-unused}
@@ -37,12 +37,12 @@ lose-requires-clause-alike c = λ alike.
 
 pub invariant_of-self : goal.invariant_of-self
 invariant_of-self c =
-    let I : List (ℕ × Row) → Type 0 = λ es. IsIndexed c.take_out.new.names.entries (nodes es) in
+    let I : List (ℕ × Row) → Type 0 = λ es. IsIndexed c.take_out.new.names (nodes es) in
     let found = live_row c.self.inside.clients.items c.self.inside.store c.args.self.now c.args.id.key c.self.view_is c.requires in
     let answer : Some (is_used (rows_in c.self.inside.store) found.0) ≡ Some c.is_used.result = ap (option_map (is_used (rows_in c.self.inside.store))) (sym found.1) ∙ c.is_used.ensures in
     let unused : is_used (rows_in c.self.inside.store) found.0 ≡ false = let same : is_used (rows_in c.self.inside.store) found.0 ≡ c.is_used.result = cc in same ∙ c.if-is_used.false in
-    let indexed : IsIndexed c.take_out.new.names.entries (nodes (without_row c.args.id.key c.self.inside.store)) = subst I c.take_out.ensures.rows c.take_out.ensures.indexed in
-    let tree = IsTree-without c.self.inside.clients.items c.self.inside.names.entries c.take_out.new.names.entries c.self.inside.store c.self.inside.cells c.args.id.key found.0 c.self.invariant.tree (IsFree-unused c.self.inside.store c.args.id.key found.0 found.1 unused) indexed in
+    let indexed : IsIndexed c.take_out.new.names (nodes (without_row c.args.id.key c.self.inside.store)) = subst I c.take_out.ensures.rows c.take_out.ensures.indexed in
+    let tree = IsTree-without c.self.inside.clients.items c.self.inside.names c.take_out.new.names c.self.inside.store c.self.inside.cells c.args.id.key found.0 c.self.invariant.tree (IsFree-unused c.self.inside.store c.args.id.key found.0 found.1 unused) indexed in
     let row = c.row-row.result.now in
     let below = client-below c.self.inside.clients.items c.self.inside.store c.args.id.key row c.self.invariant.tree.forest c.row-row.ensures in
     let fewer = AreCounts-lose c.self.inside.counts c.self.inside.store c.args.id.key row below c.self.invariant.tree.forest.own_numbers c.row-row.ensures c.self.invariant.counted in
@@ -51,12 +51,12 @@ invariant_of-self c =
 
 pub returns-clause-valid : goal.returns-clause-valid
 returns-clause-valid c =
-    let I : List (ℕ × Row) → Type 0 = λ es. IsIndexed c.take_out.new.names.entries (nodes es) in
+    let I : List (ℕ × Row) → Type 0 = λ es. IsIndexed c.take_out.new.names (nodes es) in
     let found = live_row c.self.inside.clients.items c.self.inside.store c.args.self.now c.args.id.key c.self.view_is c.requires in
     let answer : Some (is_used (rows_in c.self.inside.store) found.0) ≡ Some c.is_used.result = ap (option_map (is_used (rows_in c.self.inside.store))) (sym found.1) ∙ c.is_used.ensures in
     let unused : is_used (rows_in c.self.inside.store) found.0 ≡ false = let same : is_used (rows_in c.self.inside.store) found.0 ≡ c.is_used.result = cc in same ∙ c.if-is_used.false in
-    let indexed : IsIndexed c.take_out.new.names.entries (nodes (without_row c.args.id.key c.self.inside.store)) = subst I c.take_out.ensures.rows c.take_out.ensures.indexed in
-    let tree = IsTree-without c.self.inside.clients.items c.self.inside.names.entries c.take_out.new.names.entries c.self.inside.store c.self.inside.cells c.args.id.key found.0 c.self.invariant.tree (IsFree-unused c.self.inside.store c.args.id.key found.0 found.1 unused) indexed in
+    let indexed : IsIndexed c.take_out.new.names (nodes (without_row c.args.id.key c.self.inside.store)) = subst I c.take_out.ensures.rows c.take_out.ensures.indexed in
+    let tree = IsTree-without c.self.inside.clients.items c.self.inside.names c.take_out.new.names c.self.inside.store c.self.inside.cells c.args.id.key found.0 c.self.invariant.tree (IsFree-unused c.self.inside.store c.args.id.key found.0 found.1 unused) indexed in
     rw c.take_out.ensures.rows (IsWidgets-tree _ _ _ c.self.inside.cells tree)
 
 pub returns-clause-others : goal.returns-clause-others

@@ -6,9 +6,9 @@ use Rattle.desk_model.specs.Widgets.{Widgets, nodes, row_at, row_kind, row_clien
 use Rattle.desk_model.specs.Links.{leads, name_at}
 use Rattle.desk_model.specs.Forest.{HaveOwnNames}
 use Rattle.tree_core.specs.declared.id.Id.{Id}
-use Rattle.tree_core.proofs.ShownLemmas.{none_or_some}
-use Rattle.tree_core.specs.Indexed.{IsTree}
-use Rattle.tree_core.proofs.CountsLemmas.{AreCounts-with_row}
+use Rattle.row_store.proofs.Options.{none_or_some}
+use Rattle.tree_core.specs.Kept.{IsTree}
+use Rattle.row_store.proofs.CountsLemmas.{AreCounts-with_row}
 use Rattle.tree_core.proofs.ForestLemmas.{live-with_row, variable-leads}
 use Rattle.tree_core.proofs.TreeKept.{IsTree-with_link, IsWidgets-tree}
 use Rattle.tree_core.proofs.tree.Tree.set_link.Goals as goal
@@ -56,7 +56,7 @@ returns-clause-valid c =
     let found = none_or_some (row_at es c.args.id.key) live in
     let own : row_client es c.args.id.key ≡ Some (found.0).client = ap (option_map (λ (r : Row). r.client)) found.1 in
     let new : leads (nodes es) (found.0).client c.name_of-name.result ≡ true = rw c.name_of-name.ensures (leads_to es c.args.id.key (found.0).client c.self.invariant.tree.forest.own_names own c.args.variable kind owner) in
-    let kept : IsTree c.self.inside.clients.items c.self.inside.names.entries c.change.new.self c.self.inside.cells = rw c.change.ensures (IsTree-with_link _ _ es c.self.inside.cells c.args.id.key found.0 c.name_of-name.result found.1 new c.self.invariant.tree) in
+    let kept : IsTree c.self.inside.clients.items c.self.inside.names c.change.new.self c.self.inside.cells = rw c.change.ensures (IsTree-with_link _ _ es c.self.inside.cells c.args.id.key found.0 c.name_of-name.result found.1 new c.self.invariant.tree) in
     IsWidgets-tree _ _ _ c.self.inside.cells kept
 
 pub returns-clause-kept : goal.returns-clause-kept

@@ -1,0 +1,7 @@
+pub mod Options
+pub mod ShownLemmas
+pub mod Nodes
+pub mod Index
+pub mod Taken
+pub mod TakenInTurn
+pub mod CountsLemmas

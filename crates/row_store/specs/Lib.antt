@@ -1,0 +1,5 @@
+pub mod Changes
+pub mod Shown
+pub mod Places
+pub mod Counts
+pub mod Index

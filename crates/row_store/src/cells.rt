@@ -1,0 +1,133 @@
+ghost use Rattle.std.specs.Prelude.{◌≡◌, ◌<◌, ◌≤◌, ◌+◌, ◌-◌, ◌*◌, ℕ, [], None, OnOk, length, slice_set, slice_index_or};
+ghost use Rattle.desk_model.specs.Rows.{IsIndex};
+ghost use Rattle.row_store.specs.Places.{cell_place};
+
+use std::alloc::{AllocError, Global};
+use std::marker::Model;
+
+/// How many cells a Grid has, and how many places of the table each widget has.
+const GRID_CELLS: usize = 256;
+
+/// How many places of the table each client has: those of its 128 numbers.
+const CLIENT_PLACES: usize = 32768;
+
+/// The number of the child in each cell of each widget: 256 places for each of a client's 128 numbers. See
+/// docs/ARCHITECTURE.md, "Cost".
+#[derive(Drop)]
+pub struct Cells {
+    children: Vec<Option<u32>>,
+}
+
+impl Model for Cells {
+    ghost use Rattle.std.specs.Prelude.{ℕ, List, Option};
+
+    ghost Value = { List (Option ℕ) };
+
+    ghost view = { λ c. c.children.items };
+}
+
+/// The place of the cell in that column and row, 1 to 16, of the widget with that number.
+fn place_of(id: u32, column: u32, line: u32) -> usize
+    requires column { IsIndex column }
+    requires line { IsIndex line }
+    ensures { result ≡ cell_place id column line }
+{
+    id as usize * GRID_CELLS + (column as usize - 1) * 16 + (line as usize - 1)
+}
+
+impl Cells {
+    /// No children, and no places. It takes no memory yet.
+    pub fn new(alloc: Global) -> Cells
+        ensures { result ≡ [] }
+    {
+        Cells {
+            children: Vec::new(alloc),
+        }
+    }
+
+    /// Makes places for the client's widgets, client 1 to 16. An error, which is want of memory, leaves each
+    /// child where it was.
+    pub fn grow(&mut self, client: u32) -> Result<(), AllocError>
+        requires { client ≤ 16 }
+        ensures kept { (place : ℕ) → slice_index_or self.new place None ≡ slice_index_or self.old place None }
+        ensures longer { length self.old ≤ length self.new }
+        ensures reach { OnOk result (32768 * client ≤ length self.new) }
+    {
+        lengthen(&mut self.children, CLIENT_PLACES * client as usize)
+    }
+
+    /// The number of the child in that column and row, 1 to 16, of the widget, None exactly where there is none.
+    pub fn at(&self, id: u32, column: u32, line: u32) -> Option<u32>
+        requires column { IsIndex column }
+        requires line { IsIndex line }
+        ensures { result ≡ slice_index_or self.now (cell_place id column line) None }
+    {
+        number_at(&self.children, place_of(id, column, line))
+    }
+
+    /// The number of the child in one of the widget's 256 cells, which count from 0, row by row in each column;
+    /// None exactly where there is none.
+    pub fn nth(&self, id: u32, index: u32) -> Option<u32>
+        requires { index < 256 }
+        ensures { result ≡ slice_index_or self.now (id * 256 + index) None }
+    {
+        number_at(&self.children, id as usize * GRID_CELLS + index as usize)
+    }
+
+    /// Puts the number of a child into that column and row, 1 to 16, of the widget, or takes it out.
+    pub fn put(&mut self, id: u32, column: u32, line: u32, child: Option<u32>)
+        requires column { IsIndex column }
+        requires line { IsIndex line }
+        requires within { cell_place id column line < length self.old }
+        ensures { self.new ≡ slice_set self.old (cell_place id column line) child }
+    {
+        self.children[place_of(id, column, line)] = child;
+    }
+
+    /// Empties the places of the client's widgets, client 1 to 16, and no others.
+    pub fn clear(&mut self, client: u32)
+        requires low { 1 ≤ client }
+        requires high { client ≤ 16 }
+        ensures empty { (place : ℕ) → 32768 * (client - 1) ≤ place → place < 32768 * client → slice_index_or self.new place None ≡ None }
+        ensures below { (place : ℕ) → place < 32768 * (client - 1) → slice_index_or self.new place None ≡ slice_index_or self.old place None }
+        ensures above { (place : ℕ) → 32768 * client ≤ place → slice_index_or self.new place None ≡ slice_index_or self.old place None }
+        ensures length { length self.new ≡ length self.old }
+    {
+        let end = CLIENT_PLACES * client as usize;
+        empty_places(&mut self.children, end - CLIENT_PLACES, end);
+    }
+}
+
+fn lengthen(children: &mut Vec<Option<u32>>, len: usize) -> Result<(), AllocError>
+    ensures kept { (place : ℕ) → slice_index_or children.new.items place None ≡ slice_index_or children.old.items place None }
+    ensures longer { length children.old.items ≤ length children.new.items }
+    ensures reach { OnOk result (len ≤ length children.new.items) }
+{
+    for place in children.len()..len {
+        children.push(None)?;
+    }
+    Ok(())
+}
+
+fn number_at(children: &[Option<u32>], place: usize) -> Option<u32>
+    ensures { result ≡ slice_index_or children.now place None }
+{
+    match children.get(place) {
+        Some(child) => *child,
+        None => None,
+    }
+}
+
+fn empty_places(children: &mut [Option<u32>], start: usize, end: usize)
+    requires { start ≤ end }
+    ensures empty { (place : ℕ) → start ≤ place → place < end → slice_index_or children.new place None ≡ None }
+    ensures below { (place : ℕ) → place < start → slice_index_or children.new place None ≡ slice_index_or children.old place None }
+    ensures above { (place : ℕ) → end ≤ place → slice_index_or children.new place None ≡ slice_index_or children.old place None }
+    ensures length { length children.new ≡ length children.old }
+{
+    for place in start..end {
+        if place < children.len() {
+            children[place] = None;
+        }
+    }
+}

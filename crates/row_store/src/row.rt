@@ -1,0 +1,162 @@
+ghost use Rattle.std.specs.Prelude.{◌≡◌};
+ghost use Rattle.desk_model.specs.Rows.{new_row, first_values, default_at, attr_of, IsIndex, column_rule_of, row_rule_of, binding_of};
+ghost use Rattle.row_store.specs.Changes.{changed_by, CanBeMade};
+
+use crate::change::Change;
+use crate::places::{attr_place, event_place};
+use kind_core::{Attr, Cell, EventKind, Kind, Name, Value, default_of};
+use std::marker::Model;
+
+/// One widget of a client, which contracts see as the record `Row` of desk_model. See docs/MACHINE.md,
+/// "Widgets".
+#[derive(Drop)]
+pub struct Row {
+    client: u32,
+    name: Name,
+    kind: Kind,
+    values: [Option<Value>; 13],
+    spot: Option<(Name, Cell)>,
+    column_rules: [(u32, u32); 16],
+    row_rules: [(u32, u32); 16],
+    link: Option<Name>,
+    bindings: [Option<Name>; 7],
+}
+
+impl Model for Row {
+    ghost use Rattle.desk_model.specs.Rows.{Row as Seen};
+
+    ghost Value = { Seen };
+
+    ghost view = { λ r. record { client = r.client; name = r.name; kind = r.kind; values = r.values; spot = r.spot; column_rules = r.column_rules; row_rules = r.row_rules; link = r.link; bindings = r.bindings } };
+}
+
+/// The default of the kind's attribute.
+#[tactic(auto, unfolding(desk_model::specs::Rows::default_at))]
+fn default_at(kind: Kind, attr: Attr) -> Option<Value>
+    ensures { result ≡ default_at kind attr }
+{
+    default_of(kind, attr)
+}
+
+/// The values of a new row of the kind.
+#[tactic(auto, unfolding(desk_model::specs::Rows::first_values))]
+fn first_values(kind: Kind) -> [Option<Value>; 13]
+    ensures { result ≡ first_values kind }
+{
+    [
+        default_at(kind, Attr::X),
+        default_at(kind, Attr::Y),
+        default_at(kind, Attr::W),
+        default_at(kind, Attr::H),
+        default_at(kind, Attr::Title),
+        default_at(kind, Attr::Text),
+        default_at(kind, Attr::Caret),
+        default_at(kind, Attr::Cols),
+        default_at(kind, Attr::Value),
+        default_at(kind, Attr::Max),
+        default_at(kind, Attr::Real),
+        default_at(kind, Attr::View),
+        default_at(kind, Attr::Vert),
+    ]
+}
+
+impl Row {
+    /// The row of a new widget, with the defaults of its kind. It hangs in none, has no rules, no link and no
+    /// bindings.
+    #[tactic(auto, unfolding(desk_model::specs::Rows::new_row))]
+    pub fn new(client: u32, name: Name, kind: Kind) -> Row
+        ensures { result ≡ new_row client name kind }
+    {
+        Row {
+            client,
+            name,
+            kind,
+            values: first_values(kind),
+            spot: None,
+            column_rules: [(0, 0); 16],
+            row_rules: [(0, 0); 16],
+            link: None,
+            bindings: [None; 7],
+        }
+    }
+
+    /// The client whose widget it is.
+    pub fn client(&self) -> u32
+        ensures { result ≡ self.now.client }
+    {
+        self.client
+    }
+
+    /// The name that the client gave it.
+    pub fn name(&self) -> Name
+        ensures { result ≡ self.now.name }
+    {
+        self.name
+    }
+
+    /// The kind of the widget.
+    pub fn kind(&self) -> Kind
+        ensures { result ≡ self.now.kind }
+    {
+        self.kind
+    }
+
+    /// The value of the attribute, None where the row has none.
+    pub fn attr(&self, attr: Attr) -> Option<Value>
+        ensures { result ≡ attr_of self.now attr }
+    {
+        self.values[attr_place(attr)]
+    }
+
+    /// The name of the widget in which it hangs, and the cell there; None exactly where it hangs in none.
+    pub fn spot(&self) -> Option<(Name, Cell)>
+        ensures { result ≡ self.now.spot }
+    {
+        self.spot
+    }
+
+    /// The size in pixels and the weight of the column, 1 to 16; (0, 0) where none was given.
+    pub fn column_rule(&self, index: u32) -> (u32, u32)
+        requires { IsIndex index }
+        ensures { result ≡ column_rule_of self.now index }
+    {
+        self.column_rules[index as usize - 1]
+    }
+
+    /// The size in pixels and the weight of the row, 1 to 16; (0, 0) where none was given.
+    pub fn row_rule(&self, index: u32) -> (u32, u32)
+        requires { IsIndex index }
+        ensures { result ≡ row_rule_of self.now index }
+    {
+        self.row_rules[index as usize - 1]
+    }
+
+    /// The name of the Variable that it is linked to, None exactly where it isn't linked.
+    pub fn link(&self) -> Option<Name>
+        ensures { result ≡ self.now.link }
+    {
+        self.link
+    }
+
+    /// The tag that the event is bound to, None exactly where it isn't bound.
+    pub fn binding(&self, event: EventKind) -> Option<Name>
+        ensures { result ≡ binding_of self.now event }
+    {
+        self.bindings[event_place(event)]
+    }
+
+    /// Makes the change, and changes nothing else of the row. A rule's column or row is 1 to 16.
+    pub fn change(&mut self, change: Change)
+        requires { CanBeMade change }
+        ensures { self.new ≡ changed_by change self.old }
+    {
+        match change {
+            Change::Attribute { attr, value } => self.values[attr_place(attr)] = Some(value),
+            Change::ColumnRule { index, rule } => self.column_rules[index as usize - 1] = rule,
+            Change::RowRule { index, rule } => self.row_rules[index as usize - 1] = rule,
+            Change::Link { variable } => self.link = variable,
+            Change::Binding { event, tag } => self.bindings[event_place(event)] = tag,
+            Change::Spot { spot } => self.spot = spot,
+        }
+    }
+}

@@ -1,0 +1,47 @@
+-- What is left of the facts on all widgets where rows are taken out by a test on their numbers.
+use Rattle.std.proofs.Common.{◌≡◌, ◌≤◌, ℕ, Bool, true, false, cond, not, ◌&&◌, nat_eq, List, [], ◌∷◌, Option, Some, None, refl, sym, ap, ◌∙◌, subst, arith}
+use Rattle.std.proofs.lemmas.Bool.{true≢false, eqb-true, eq-eqb, and_parts, and_from}
+use Rattle.std.proofs.lemmas.List.Sums.{sum_by-cons}
+use Rattle.std.proofs.lemmas.Slice.Eq.{bytes_eq-Decides}
+use Rattle.std.specs.List.{filter, list_all}
+use Rattle.std.specs.Map.{lookup}
+use Rattle.std.specs.Str.{bytes_eq}
+use Rattle.kind_core.specs.declared.kinds.Kind.{Kind}
+use Rattle.desk_model.specs.Rows.{Row}
+use Rattle.desk_model.specs.Nodes.{Node, node_of, node_at, id_named, is_named, is_number_of, count_of, any_kind, counts_with}
+use Rattle.desk_model.specs.Widgets.{row_at, nodes, without_row, is_joined}
+use Rattle.desk_model.specs.Forest.{HaveOwnNumbers, HaveOwnNames, IsForest, is_client}
+use Rattle.desk_model.proofs.Naming.{row_named-found, row_named-parts, id_named-row}
+use Rattle.row_store.proofs.Taken.{kept, nodes-kept, own_numbers-kept, own_names-kept}
+
+pub list_all-kept : {X : Type 0} (p : ℕ × X → Bool) (test : ℕ → Bool) (es : List (ℕ × X)) → list_all p es ≡ true → list_all p (kept test es) ≡ true
+list_all-kept p test [] h = refl
+list_all-kept p test (e ∷ es) h =
+    let parts = and_parts (p e) (list_all p es) h in
+    by (test e.0) parts.0 (list_all-kept p test es parts.1)
+  where
+    by : (b : Bool) → p e ≡ true → list_all p (kept test es) ≡ true → list_all p (cond b (e ∷ kept test es) (kept test es)) ≡ true
+    by true first rest = and_from (p e) (list_all p (kept test es)) first rest
+    by false first rest = rest
+
+count_of-kept : (client : ℕ) (p : Kind → Bool) (test : ℕ → Bool) (es : List (ℕ × Node)) → count_of client p (kept test es) ≤ count_of client p es
+count_of-kept client p test [] = omega arith
+count_of-kept client p test (e ∷ es) = by (test e.0) (count_of-kept client p test es)
+  where
+    by : (b : Bool) → count_of client p (kept test es) ≤ count_of client p es → count_of client p (cond b (e ∷ kept test es) (kept test es)) ≤ count_of client p (e ∷ es)
+    by true rest = omega (arith, rest, sum_by-cons (λ (x : ℕ × Node). cond (nat_eq client x.1.client && p x.1.kind) 1 0) e es, sum_by-cons (λ (x : ℕ × Node). cond (nat_eq client x.1.client && p x.1.kind) 1 0) e (kept test es))
+    by false rest = omega (arith, rest, sum_by-cons (λ (x : ℕ × Node). cond (nat_eq client x.1.client && p x.1.kind) 1 0) e es)
+
+-- fewer nodes, of clients that are joined still, keep the facts
+pub IsForest-kept : (clients joined : List ℕ) (test : ℕ → Bool) (es : List (ℕ × Row)) → IsForest clients (nodes es) → list_all (λ (e : ℕ × Node). is_joined joined e.1.client) (nodes (kept test es)) ≡ true → list_all is_client joined ≡ true → IsForest joined (nodes (kept test es))
+IsForest-kept clients joined test es h owners range =
+    let same = nodes-kept test es in
+    record {
+      own_numbers = own_numbers-kept test es h.own_numbers;
+      own_names = own_names-kept test es h.own_names;
+      numbers = rw same (list_all-kept (λ (e : ℕ × Node). is_number_of e.1.client e.0) test (nodes es) h.numbers);
+      owners = owners;
+      clients_in_range = range;
+      most = λ client. let less = count_of-kept client any_kind test (nodes es) in rw same (omega (arith, less, h.most client));
+      most_alike = λ client kind. let less = count_of-kept client (counts_with kind) test (nodes es) in rw same (omega (arith, less, h.most_alike client kind));
+    }

@@ -1,0 +1,35 @@
+-- What the parts of a tree keep together: the rows, the index of their names, the table of children and the
+-- counts of each client.
+use Rattle.std.specs.Prelude.{ℕ, ◌≡◌, ◌≤◌, ◌*◌, true, List, Option, length}
+use Rattle.std.specs.List.{list_all}
+use Rattle.desk_model.specs.Rows.{Row}
+use Rattle.desk_model.specs.Widgets.{nodes, is_joined}
+use Rattle.desk_model.specs.Links.{ties, all_lead}
+use Rattle.desk_model.specs.Forest.{HaveOwnNumbers, HaveOwnNames, IsForest}
+use Rattle.desk_model.specs.Planted.{IsPlanted}
+use Rattle.desk_model.specs.Fitting.{fits_table}
+use Rattle.row_store.specs.declared.count.Count.{Count}
+use Rattle.row_store.specs.Counts.{AreCounts}
+use Rattle.row_store.specs.Index.{IsIndexed}
+use Rattle.tree_core.specs.Children.{rows_in, HasChildren}
+
+-- The rows have their own numbers and names and hang right in one another.
+pub record IsGrove (entries : List (ℕ × Row)) : Type 0 where
+  pub own_numbers : HaveOwnNumbers (nodes entries)
+  pub own_names : HaveOwnNames (nodes entries)
+  pub planted : IsPlanted (rows_in entries)
+
+-- What the parts of a tree keep together. The table of children has places for all numbers of joined clients.
+pub record IsTree (clients : List ℕ) (names : List ((ℕ × List ℕ) × ℕ)) (entries : List (ℕ × Row)) (cells : List (Option ℕ)) : Type 0 where
+  pub indexed : IsIndexed names (nodes entries)
+  pub forest : IsForest clients (nodes entries)
+  pub linked : all_lead (nodes entries) (ties entries) ≡ true
+  pub planted : IsPlanted (rows_in entries)
+  pub fitting : list_all fits_table (rows_in entries) ≡ true
+  pub children : HasChildren entries cells
+  pub reach : (client : ℕ) → is_joined clients client ≡ true → 32768 * client ≤ length cells
+
+-- The tree, and how many widgets each client has.
+pub record IsCounted (clients : List ℕ) (names : List ((ℕ × List ℕ) × ℕ)) (entries : List (ℕ × Row)) (cells : List (Option ℕ)) (counts : List Count) : Type 0 where
+  pub tree : IsTree clients names entries cells
+  pub counted : AreCounts counts (nodes entries)
