@@ -1,5 +1,5 @@
 -- The text of a dump is put out in three parts: a line with the sides, the bytes of the screen, a line feed.
-use Rattle.std.proofs.Common.{◌≡◌, ℕ, Result, Ok, Err, OnOk, OnErr, MatchResult, List, [], ◌∷◌, ◌++◌, Option, refl, subst, codes}
+use Rattle.std.proofs.Common.{◌≡◌, ℕ, Result, Ok, Err, OnOk, OnErr, MatchResult, List, [], ◌∷◌, ◌++◌, refl, subst, codes}
 use Rattle.outside_io.specs.Outbox.{Output, Puts, PutsFront}
 use Rattle.outside_io.proofs.Gathered.{Puts-append, PutsFront-longer, PutsFront-after}
 use Rattle.desk_model.specs.State.{State}

@@ -1,6 +1,6 @@
 -- How a run ends, from what its player did.
 use Rattle.std.proofs.Common.{◌≡◌, ◌≢◌, ℕ, ◌+◌, ◌≤◌, List, [], ◌∷◌, ◌++◌, length, take, Option, Some, refl, sym, ap, subst, ◌∙◌, inl, inr, arith, append-nil, append_assoc, length-append}
-use Rattle.std.specs.Io.KnownBytes.{Appends, Consumes, Keeps, IsAtEnd}
+use Rattle.std.specs.Io.KnownBytes.{Consumes, Keeps, IsAtEnd}
 use Rattle.outside_io.specs.Sink.{AppendsFront}
 use Rattle.outside_io.specs.Outbox.{Output, Puts, flushed}
 use Rattle.outside_io.proofs.Told.{AppendsFront-longer, Consumes-none, Consumes-append, Consumes-keeps}
@@ -20,7 +20,7 @@ use Rattle.dope_run.specs.Framing.{Item, IsLine, AreWhole, IsUnended, bytes_of, 
 use Rattle.dope_run.specs.Script.{EndsUnread}
 use Rattle.dope_run.specs.Text.{text_of}
 use Rattle.dope_run.specs.Transcript.{Plays, Covers, Gains, Leaves, Ended, AreCutShort, IsRefused}
-use Rattle.dope_run.specs.Playing.{IsPlayer, Fed, LineDone, LineUnread, IsFresh, Going, Finished, LineCut, bare_item}
+use Rattle.dope_run.specs.Playing.{IsPlayer, Fed, LineDone, LineUnread, IsFresh, Going, Finished, bare_item}
 use Rattle.dope_run.specs.Obeying.{Says}
 use Rattle.dope_run.proofs.Gaining.{text_of-append, Says-after, Gains-said, IsReached-longer, Leaves-after}
 use Rattle.dope_run.proofs.Reading.{Plays-append}

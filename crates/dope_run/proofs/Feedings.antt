@@ -1,6 +1,6 @@
 -- How a player goes through bytes, one after another.
 use Rattle.std.proofs.lemmas.Bool.Decides.{nat_tests}
-use Rattle.std.proofs.Common.{Result, Ok, Err, MatchResult, ◌≡◌, ◌≢◌, ℕ, ◌+◌, ◌≤◌, ◌<◌, false, List, [], ◌∷◌, ◌++◌, length, take, drop, get_or, Option, Some, refl, sym, ap, subst, ◌∙◌, inl, inr, arith, lit≤, append-nil, append_assoc, length-append}
+use Rattle.std.proofs.Common.{Result, Ok, Err, MatchResult, ◌≡◌, ◌≢◌, ℕ, ◌+◌, ◌≤◌, ◌<◌, false, List, [], ◌∷◌, ◌++◌, length, take, drop, get_or, Some, refl, sym, ap, subst, ◌∙◌, inl, inr, arith, lit≤, append-nil, append_assoc, length-append}
 use Rattle.outside_io.specs.Outbox.{Output, Puts}
 use Rattle.std.proofs.lemmas.List.Elements.{All-nil, All-cons}
 use Rattle.std.proofs.lemmas.List.Folds.{list_any-append}
@@ -17,11 +17,11 @@ use Rattle.dope_run.specs.declared.status.Status.TheVariants.{Done, WriteFault, 
 use Rattle.dope_run.specs.declared.player.Player.{Player}
 use Rattle.dope_run.specs.Framing.{Item, IsItem, IsLine, wants_of, bytes_of, bytes_of_item, has_feed, line_limit}
 use Rattle.dope_run.specs.Script.{events_of_order, BeginsOff, BeginsUnread, BeginsTooLong}
-use Rattle.dope_run.specs.Transcript.{Plays, IsReached}
+use Rattle.dope_run.specs.Transcript.{Plays}
 use Rattle.dope_run.specs.Obeying.{Obeyed, Says}
 use Rattle.dope_run.specs.Playing.{LineDone, LineUnread, LineCut, Fed, EndsSo, bare_item}
 use Rattle.dope_run.specs.Cutting.{status_of}
-use Rattle.dope_run.proofs.Gaining.{text_of-append, Says-none, Says-after, Leaves-after, IsReached-last}
+use Rattle.dope_run.proofs.Gaining.{text_of-append, Says-none, Says-after, Leaves-after}
 use Rattle.dope_run.proofs.Reading.{read_script-nil, read_script-cons, Plays-append}
 
 pub IsItem-bare : (line : List ℕ) → IsLine line → IsItem (bare_item line)

@@ -13,7 +13,7 @@ use Rattle.dope_run.specs.Text.{text_of}
 use Rattle.dope_run.specs.Transcript.{IsReached}
 use Rattle.dope_run.specs.Cutting.{status_of}
 use Rattle.dope_run.specs.Obeying.{Says}
-use Rattle.dope_run.specs.Playing.{LineDone, LineUnread, LineCut, Fed, Finished}
+use Rattle.dope_run.specs.Playing.{LineDone, LineCut, Fed, Finished}
 use Rattle.dope_run.proofs.Gaining.{IsReached-last}
 
 -- ---- the bytes of one read

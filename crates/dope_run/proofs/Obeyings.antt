@@ -1,5 +1,5 @@
 -- Events carried out one after another.
-use Rattle.std.proofs.Common.{◌≡◌, ℕ, Result, Ok, Err, OnOk, OnErr, MatchResult, List, [], ◌∷◌, ◌++◌, Option, refl, sym, ap, subst, ◌∙◌, lit≤, append-nil}
+use Rattle.std.proofs.Common.{◌≡◌, ℕ, Result, Ok, Err, OnOk, OnErr, MatchResult, List, [], ◌∷◌, ◌++◌, refl, sym, ap, subst, ◌∙◌, lit≤, append-nil}
 use Rattle.std.proofs.lemmas.List.{map-append}
 use Rattle.outside_io.specs.Outbox.{Output, Puts, PutsFront}
 use Rattle.outside_io.proofs.Gathered.{PutsFront-longer}

@@ -1,4 +1,4 @@
-use Rattle.dope_run.proofs.Flushings.{fed_flushed, fed_unflushed, fed_off_flushed, fed_off_unflushed, fed_dropped}
+use Rattle.dope_run.proofs.Flushings.{fed_flushed, fed_unflushed, fed_off_flushed, fed_off_unflushed}
 use Rattle.dope_run.proofs.player.Player.take.Goals as goal
 
 pub returns-in-Ok-flush-clause-told : goal.returns-in-Ok-flush-clause-told
