@@ -18,7 +18,7 @@ const ROOM: usize = 4096;
 /// `flush` writes what waits. Both are given the sink. An outbox has room for 4,096 bytes, which it takes when it
 /// is made; it takes no more memory later, however much is put.
 ///
-/// Contracts see the bytes that wait, in order. The rules are in `docs/MACHINE.md`.
+/// Contracts see the bytes that wait, in order. `docs/DECISIONS.md`, "The run", says when a run writes them.
 #[derive(Debug, Drop)]
 pub struct Outbox {
     waiting: Vec<u8>,
