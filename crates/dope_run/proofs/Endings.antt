@@ -1,8 +1,9 @@
 -- How a run ends, from what its player did.
 use Rattle.std.proofs.Common.{◌≡◌, ◌≢◌, ℕ, ◌+◌, ◌≤◌, List, [], ◌∷◌, ◌++◌, length, take, Option, Some, refl, sym, ap, subst, ◌∙◌, inl, inr, arith, append-nil, append_assoc, length-append}
-use Rattle.std.specs.Io.KnownBytes.{Appends, Consumes, Keeps, IsAtEnd}
+use Rattle.std.specs.Io.KnownBytes.{Consumes, Keeps, IsAtEnd}
 use Rattle.outside_io.specs.Sink.{AppendsFront}
-use Rattle.outside_io.proofs.Told.{Consumes-none, Consumes-append, Consumes-keeps}
+use Rattle.outside_io.specs.Outbox.{Output, Puts, flushed}
+use Rattle.outside_io.proofs.Told.{AppendsFront-longer, Consumes-none, Consumes-append, Consumes-keeps}
 use Rattle.kind_core.specs.declared.shapes.Shape.{Shape}
 use Rattle.desk_model.proofs.Opening.{shape-opening}
 use Rattle.desk_model.specs.State.{State, IsState, opening}
@@ -19,8 +20,9 @@ use Rattle.dope_run.specs.Framing.{Item, IsLine, AreWhole, IsUnended, bytes_of, 
 use Rattle.dope_run.specs.Script.{EndsUnread}
 use Rattle.dope_run.specs.Text.{text_of}
 use Rattle.dope_run.specs.Transcript.{Plays, Covers, Gains, Leaves, Ended, AreCutShort, IsRefused}
-use Rattle.dope_run.specs.Playing.{IsPlayer, Fed, LineDone, LineUnread, IsFresh, Going, Finished, LineCut, bare_item}
-use Rattle.dope_run.proofs.Gaining.{text_of-append, AppendsFront-longer, Gains-after, IsReached-longer, Leaves-after}
+use Rattle.dope_run.specs.Playing.{IsPlayer, Fed, LineDone, LineUnread, IsFresh, Going, Finished, bare_item}
+use Rattle.dope_run.specs.Obeying.{Says}
+use Rattle.dope_run.proofs.Gaining.{text_of-append, Says-after, Gains-said, IsReached-longer, Leaves-after}
 use Rattle.dope_run.proofs.Reading.{Plays-append}
 use Rattle.dope_run.proofs.Feedings.{IsLine-nil, fed_none, fed_after, bytes_of-append}
 use Rattle.std.proofs.Math.Seq.{take-append_seam}
@@ -42,36 +44,36 @@ ended shape status source_old source_new sink_old sink_new state taken items mom
 
 -- ---- from a fresh player on
 
-spelled_from : (shape : Shape) (status : Status) (start player : Player) (bytes : List ℕ) (before after : Option (List ℕ)) → IsFresh shape start → (fed : Fed status start bytes player before after) → bytes ≡ bytes_of fed.items ++ fed.rest
+spelled_from : (shape : Shape) (status : Status) (start player : Player) (bytes : List ℕ) (before after : Output) → IsFresh shape start → (fed : Fed status start bytes player before after) → bytes ≡ bytes_of fed.items ++ fed.rest
 spelled_from shape status start player bytes before after fresh fed = ap (λ line. line ++ bytes) (sym fresh.line) ∙ fed.spelled
 
-plays_from : (shape : Shape) (status : Status) (start player : Player) (bytes : List ℕ) (before after : Option (List ℕ)) → IsFresh shape start → (fed : Fed status start bytes player before after) → Plays (opening shape) fed.items fed.moments
+plays_from : (shape : Shape) (status : Status) (start player : Player) (bytes : List ℕ) (before after : Output) → IsFresh shape start → (fed : Fed status start bytes player before after) → Plays (opening shape) fed.items fed.moments
 plays_from shape status start player bytes before after fresh fed =
     subst (λ from. Plays from fed.items fed.moments) fresh.state fed.plays
 
-leaves_from : (shape : Shape) (status : Status) (start player : Player) (bytes : List ℕ) (before after : Option (List ℕ)) → IsFresh shape start → (fed : Fed status start bytes player before after) → Leaves status player.server.state (opening shape) fed.moments
+leaves_from : (shape : Shape) (status : Status) (start player : Player) (bytes : List ℕ) (before after : Output) → IsFresh shape start → (fed : Fed status start bytes player before after) → Leaves status player.server.state (opening shape) fed.moments
 leaves_from shape status start player bytes before after fresh fed = subst (λ from. Leaves status player.server.state from fed.moments) fresh.state fed.leaves
 
-lines_from : (shape : Shape) (status : Status) (start player : Player) (bytes : List ℕ) (before after : Option (List ℕ)) → IsFresh shape start → (fed : Fed status start bytes player before after) → player.lines ≡ length fed.items
+lines_from : (shape : Shape) (status : Status) (start player : Player) (bytes : List ℕ) (before after : Output) → IsFresh shape start → (fed : Fed status start bytes player before after) → player.lines ≡ length fed.items
 lines_from shape status start player bytes before after fresh fed = omega (arith, fed.counts, fresh.lines)
 
 -- a player that has taken nothing
 pub going_nowhere : (start : Player) (source sink : Option (List ℕ)) → Going start start 0 source source sink sink
-going_nowhere start source sink = record { taken = []; counted = refl; consumes = Consumes-none source; fed = fed_none start sink }
+going_nowhere start source sink = record { taken = []; counted = refl; consumes = Consumes-none source; fed = fed_none start (flushed sink) }
 
 -- a piece more
-pub going_on : (start between player : Player) (count more : ℕ) (bytes : List ℕ) (s0 s1 s2 k0 k1 k2 : Option (List ℕ)) → Going start between count s0 s1 k0 k1 → Consumes s1 s2 bytes → length bytes ≡ more → Fed Done between bytes player k1 k2 → Going start player (count + more) s0 s2 k0 k2
+pub going_on : (start between player : Player) (count more : ℕ) (bytes : List ℕ) (s0 s1 s2 k0 k1 k2 : Option (List ℕ)) → Going start between count s0 s1 k0 k1 → Consumes s1 s2 bytes → length bytes ≡ more → Fed Done between bytes player (flushed k1) (flushed k2) → Going start player (count + more) s0 s2 k0 k2
 going_on start between player count more bytes s0 s1 s2 k0 k1 k2 going consumes is fed = record {
   taken = going.taken ++ bytes;
   counted = omega (arith, length-append going.taken bytes, going.counted);
   consumes = Consumes-append s0 s1 s2 going.taken bytes going.consumes consumes;
-  fed = fed_after Done start between player going.taken bytes k0 k1 k2 going.fed fed;
+  fed = fed_after Done start between player going.taken bytes (flushed k0) (flushed k1) (flushed k2) going.fed fed;
 }
 
 -- ---- the ends of a run
 
 -- the bytes taken are whole lines, and the player's own line
-cut_short : (shape : Shape) (start player : Player) (bytes : List ℕ) (before after : Option (List ℕ)) → IsFresh shape start → IsPlayer player → (fed : Fed Done start bytes player before after) → AreCutShort bytes fed.items
+cut_short : (shape : Shape) (start player : Player) (bytes : List ℕ) (before after : Output) → IsFresh shape start → IsPlayer player → (fed : Fed Done start bytes player before after) → AreCutShort bytes fed.items
 cut_short shape start player bytes before after fresh valid fed = record {
   rest = fed.rest;
   spelled = spelled_from shape Done start player bytes before after fresh fed;
@@ -84,10 +86,10 @@ ended_read_fault shape start player count s0 s1 s2 k0 k1 fresh valid going keeps
     let fed = going.fed in
     ended shape ReadFault s0 s2 k0 k1 player.server.state going.taken fed.items fed.moments fresh.valid
     (subst (Consumes s0 s2) (append-nil going.taken) (Consumes-append s0 s1 s2 going.taken [] going.consumes (Consumes-keeps s1 s2 keeps)))
-    (cut_short shape start player going.taken k0 k1 fresh valid fed, omega (arith, going.counted))
-    (plays_from shape Done start player going.taken k0 k1 fresh fed)
-    fed.gains
-    (leaves_from shape Done start player going.taken k0 k1 fresh fed)
+    (cut_short shape start player going.taken (flushed k0) (flushed k1) fresh valid fed, omega (arith, going.counted))
+    (plays_from shape Done start player going.taken (flushed k0) (flushed k1) fresh fed)
+    (Gains-said ReadFault k0 k1 (text_of fed.moments) fed.says)
+    (leaves_from shape Done start player going.taken (flushed k0) (flushed k1) fresh fed)
 
 -- one byte more than a script may have was taken
 pub ended_too_much : (shape : Shape) (start player : Player) (bytes : List ℕ) (s0 s1 s2 k0 k1 : Option (List ℕ)) → IsFresh shape start → IsPlayer player → Going start player script_limit s0 s1 k0 k1 → Consumes s1 s2 bytes → length bytes ≡ 1 → Ended shape TooMuch s0 s2 k0 k1 player.server.state
@@ -96,33 +98,33 @@ ended_too_much shape start player bytes s0 s1 s2 k0 k1 fresh valid going consume
     let front : take script_limit (going.taken ++ bytes) ≡ going.taken = subst (λ n. take n (going.taken ++ bytes) ≡ going.taken) going.counted (take-append_seam going.taken bytes) in
     ended shape TooMuch s0 s2 k0 k1 player.server.state (going.taken ++ bytes) fed.items fed.moments fresh.valid
     (Consumes-append s0 s1 s2 going.taken bytes going.consumes consumes)
-    (subst (λ xs. AreCutShort xs fed.items) (sym front) (cut_short shape start player going.taken k0 k1 fresh valid fed), omega (arith, length-append going.taken bytes, going.counted))
-    (plays_from shape Done start player going.taken k0 k1 fresh fed)
-    fed.gains
-    (leaves_from shape Done start player going.taken k0 k1 fresh fed)
+    (subst (λ xs. AreCutShort xs fed.items) (sym front) (cut_short shape start player going.taken (flushed k0) (flushed k1) fresh valid fed), omega (arith, length-append going.taken bytes, going.counted))
+    (plays_from shape Done start player going.taken (flushed k0) (flushed k1) fresh fed)
+    (Gains-said TooMuch k0 k1 (text_of fed.moments) fed.says)
+    (leaves_from shape Done start player going.taken (flushed k0) (flushed k1) fresh fed)
 
 -- a line is off the grammar
-pub ended_off : (shape : Shape) (line : ℕ) (start between player : Player) (count : ℕ) (bytes : List ℕ) (s0 s1 s2 k0 k1 k2 : Option (List ℕ)) → IsFresh shape start → Going start between count s0 s1 k0 k1 → Consumes s1 s2 bytes → Fed (BadScript line) between bytes player k1 k2 → count + length bytes ≤ script_limit → Ended shape (BadScript line) s0 s2 k0 k2 player.server.state
+pub ended_off : (shape : Shape) (line : ℕ) (start between player : Player) (count : ℕ) (bytes : List ℕ) (s0 s1 s2 k0 k1 k2 : Option (List ℕ)) → IsFresh shape start → Going start between count s0 s1 k0 k1 → Consumes s1 s2 bytes → Fed (BadScript line) between bytes player (flushed k1) (flushed k2) → count + length bytes ≤ script_limit → Ended shape (BadScript line) s0 s2 k0 k2 player.server.state
 ended_off shape line start between player count bytes s0 s1 s2 k0 k1 k2 fresh going consumes off few =
     let status : Status = BadScript line in
-    let fed = fed_after status start between player going.taken bytes k0 k1 k2 going.fed off in
+    let fed = fed_after status start between player going.taken bytes (flushed k0) (flushed k1) (flushed k2) going.fed off in
     let all = going.taken ++ bytes in
     ended shape status s0 s2 k0 k2 player.server.state all fed.items fed.moments fresh.valid
     (Consumes-append s0 s1 s2 going.taken bytes going.consumes consumes) (
-      record { rest = fed.rest; spelled = spelled_from shape status start player all k0 k2 fresh fed; off = inl fed.ends.0 },
-      omega (arith, fed.ends.1, lines_from shape status start player all k0 k2 fresh fed),
+      record { rest = fed.rest; spelled = spelled_from shape status start player all (flushed k0) (flushed k2) fresh fed; off = inl fed.ends.0 },
+      omega (arith, fed.ends.1, lines_from shape status start player all (flushed k0) (flushed k2) fresh fed),
       omega (arith, length-append going.taken bytes, going.counted),
     )
-    (plays_from shape status start player all k0 k2 fresh fed)
-    fed.gains
-    (leaves_from shape status start player all k0 k2 fresh fed)
+    (plays_from shape status start player all (flushed k0) (flushed k2) fresh fed)
+    (Gains-said status k0 k2 (text_of fed.moments) fed.says)
+    (leaves_from shape status start player all (flushed k0) (flushed k2) fresh fed)
 
 -- the sink failed: the lines behind would have been played as well
-pub ended_unwritten : (shape : Shape) (start between player : Player) (count : ℕ) (bytes : List ℕ) (s0 s1 s2 k0 k1 k2 : Option (List ℕ)) → IsFresh shape start → Going start between count s0 s1 k0 k1 → Consumes s1 s2 bytes → Fed WriteFault between bytes player k1 k2 → count + length bytes ≤ script_limit → Ended shape WriteFault s0 s2 k0 k2 player.server.state
+pub ended_unwritten : (shape : Shape) (start between player : Player) (count : ℕ) (bytes : List ℕ) (s0 s1 s2 k0 k1 k2 : Option (List ℕ)) → IsFresh shape start → Going start between count s0 s1 k0 k1 → Consumes s1 s2 bytes → Fed WriteFault between bytes player (flushed k1) (flushed k2) → count + length bytes ≤ script_limit → Ended shape WriteFault s0 s2 k0 k2 player.server.state
 ended_unwritten shape start between player count bytes s0 s1 s2 k0 k1 k2 fresh going consumes cut few =
-    let fed = fed_after WriteFault start between player going.taken bytes k0 k1 k2 going.fed cut in
+    let fed = fed_after WriteFault start between player going.taken bytes (flushed k0) (flushed k1) (flushed k2) going.fed cut in
     let all = going.taken ++ bytes in
-    let played = plays_from shape WriteFault start player all k0 k2 fresh fed in
+    let played = plays_from shape WriteFault start player all (flushed k0) (flushed k2) fresh fed in
     let behind = lines_of fed.rest in
     let more = some_run (state_after (opening shape) fed.moments) behind.events (IsState-run (opening shape) fed.moments fresh.valid played.run) in
     let further : Plays (state_after (opening shape) fed.moments) behind.items more.0 = record { whole = behind.whole; script = behind.script ∙ ap Some (sym more.1); run = more.2 } in
@@ -130,7 +132,7 @@ ended_unwritten shape start between player count bytes s0 s1 s2 k0 k1 k2 fresh g
     (Consumes-append s0 s1 s2 going.taken bytes going.consumes consumes) (
       inr (record {
         rest = behind.rest;
-        spelled = spelled_from shape WriteFault start player all k0 k2 fresh fed
+        spelled = spelled_from shape WriteFault start player all (flushed k0) (flushed k2) fresh fed
             ∙ ap (λ xs. bytes_of fed.items ++ xs) behind.spelled
             ∙ sym (append_assoc (bytes_of fed.items) (bytes_of behind.items) behind.rest)
             ∙ ap (λ xs. xs ++ behind.rest) (sym (bytes_of-append fed.items behind.items));
@@ -139,8 +141,8 @@ ended_unwritten shape start between player count bytes s0 s1 s2 k0 k1 k2 fresh g
       omega (arith, length-append going.taken bytes, going.counted),
     )
     (Plays-append (opening shape) fed.items behind.items fed.moments more.0 played further)
-    (subst (AppendsFront k0 k2) (sym (text_of-append fed.moments more.0)) (AppendsFront-longer k0 k2 _ _ fed.gains))
-    (IsReached-longer player.server.state (opening shape) fed.moments more.0 (leaves_from shape WriteFault start player all k0 k2 fresh fed))
+    (subst (AppendsFront k0 k2) (sym (text_of-append fed.moments more.0)) (AppendsFront-longer k0 k2 (text_of fed.moments) (text_of more.0) (Gains-said WriteFault k0 k2 (text_of fed.moments) fed.says)))
+    (IsReached-longer player.server.state (opening shape) fed.moments more.0 (leaves_from shape WriteFault start player all (flushed k0) (flushed k2) fresh fed))
 
 -- ---- the source is at its end
 
@@ -154,21 +156,21 @@ ended_done shape start player count bytes s0 s1 s2 k0 k1 fresh going consumes no
     let fed = going.fed in
     ended shape Done s0 s2 k0 k1 player.server.state going.taken fed.items fed.moments fresh.valid
     (at_end s0 s1 s2 going.taken bytes going.consumes consumes none)
-    (inl (spelled_from shape Done start player going.taken k0 k1 fresh fed ∙ ap (λ xs. bytes_of fed.items ++ xs) (fed.ends ∙ no_line) ∙ append-nil (bytes_of fed.items)), end, omega (arith, going.counted))
-    (plays_from shape Done start player going.taken k0 k1 fresh fed)
-    fed.gains
-    (leaves_from shape Done start player going.taken k0 k1 fresh fed)
+    (inl (spelled_from shape Done start player going.taken (flushed k0) (flushed k1) fresh fed ∙ ap (λ xs. bytes_of fed.items ++ xs) (fed.ends ∙ no_line) ∙ append-nil (bytes_of fed.items)), end, omega (arith, going.counted))
+    (plays_from shape Done start player going.taken (flushed k0) (flushed k1) fresh fed)
+    (Gains-said Done k0 k1 (text_of fed.moments) fed.says)
+    (leaves_from shape Done start player going.taken (flushed k0) (flushed k1) fresh fed)
 
 no_payload : (line : List ℕ) → wants_of line ≡ 0
 unfolding wants_of
 no_payload line = refl
 
 -- the last line was played, or its writing broke off
-ended_last : (shape : Shape) (status : Status) (start player last : Player) (count : ℕ) (bytes : List ℕ) (s0 s1 s2 k0 k1 k2 : Option (List ℕ)) → ((taken : List ℕ) (items : List Item) → AreWhole taken items → length taken ≤ script_limit → Covers status taken s2 items) → IsFresh shape start → Going start player count s0 s1 k0 k1 → Consumes s1 s2 bytes → bytes ≡ [] → count ≤ script_limit → player.line.items ≢ [] → LineDone status player last k1 k2 → Ended shape status s0 s2 k0 k2 last.server.state
+ended_last : (shape : Shape) (status : Status) (start player last : Player) (count : ℕ) (bytes : List ℕ) (s0 s1 s2 k0 k1 k2 : Option (List ℕ)) → ((taken : List ℕ) (items : List Item) → AreWhole taken items → length taken ≤ script_limit → Covers status taken s2 items) → IsFresh shape start → Going start player count s0 s1 k0 k1 → Consumes s1 s2 bytes → bytes ≡ [] → count ≤ script_limit → player.line.items ≢ [] → LineDone status player last (flushed k1) (flushed k2) → Ended shape status s0 s2 k0 k2 last.server.state
 ended_last shape status start player last count bytes s0 s1 s2 k0 k1 k2 covers fresh going consumes none few some done =
     let fed = going.fed in
-    let front = plays_from shape Done start player going.taken k0 k1 fresh fed in
-    let state : player.server.state ≡ state_after (opening shape) fed.moments = leaves_from shape Done start player going.taken k0 k1 fresh fed in
+    let front = plays_from shape Done start player going.taken (flushed k0) (flushed k1) fresh fed in
+    let state : player.server.state ≡ state_after (opening shape) fed.moments = leaves_from shape Done start player going.taken (flushed k0) (flushed k1) fresh fed in
     let item = bare_item player.line.items in
     let behind : Plays (state_after (opening shape) fed.moments) (item ∷ []) done.moments = subst (λ s. Plays s (item ∷ []) done.moments) state done.plays in
     let whole : IsUnended going.taken (fed.items ++ item ∷ []) = record {
@@ -177,17 +179,17 @@ ended_last shape status start player last count bytes s0 s1 s2 k0 k1 k2 covers f
       listed = refl;
       some = some;
       no_payload = no_payload player.line.items;
-      spelled = spelled_from shape Done start player going.taken k0 k1 fresh fed ∙ ap (λ xs. bytes_of fed.items ++ xs) fed.ends;
+      spelled = spelled_from shape Done start player going.taken (flushed k0) (flushed k1) fresh fed ∙ ap (λ xs. bytes_of fed.items ++ xs) fed.ends;
     } in
     ended shape status s0 s2 k0 k2 last.server.state going.taken (fed.items ++ item ∷ []) (fed.moments ++ done.moments) fresh.valid
     (at_end s0 s1 s2 going.taken bytes going.consumes consumes none)
     (covers going.taken (fed.items ++ item ∷ []) (inr whole) (omega (arith, going.counted)))
     (Plays-append (opening shape) fed.items (item ∷ []) fed.moments done.moments front behind)
-    (subst (Gains status k0 k2) (sym (text_of-append fed.moments done.moments)) (Gains-after status k0 k1 k2 _ _ fed.gains done.gains))
+    (Gains-said status k0 k2 (text_of (fed.moments ++ done.moments)) (subst (Says status (flushed k0) (flushed k2)) (sym (text_of-append fed.moments done.moments)) (Says-after status (flushed k0) (flushed k1) (flushed k2) _ _ fed.says done.says)))
     (Leaves-after status last.server.state player.server.state (opening shape) fed.moments done.moments state done.leaves)
 
 -- the last line is off the grammar
-ended_off_last : (shape : Shape) (line : ℕ) (start player last : Player) (count : ℕ) (bytes : List ℕ) (s0 s1 s2 k0 k1 k2 : Option (List ℕ)) → IsFresh shape start → IsPlayer player → Going start player count s0 s1 k0 k1 → Consumes s1 s2 bytes → bytes ≡ [] → IsAtEnd s2 → count ≤ script_limit → player.line.items ≢ [] → LineUnread line player last k1 k2 → Ended shape (BadScript line) s0 s2 k0 k2 last.server.state
+ended_off_last : (shape : Shape) (line : ℕ) (start player last : Player) (count : ℕ) (bytes : List ℕ) (s0 s1 s2 k0 k1 k2 : Option (List ℕ)) → IsFresh shape start → IsPlayer player → Going start player count s0 s1 k0 k1 → Consumes s1 s2 bytes → bytes ≡ [] → IsAtEnd s2 → count ≤ script_limit → player.line.items ≢ [] → LineUnread line player last (flushed k1) (flushed k2) → Ended shape (BadScript line) s0 s2 k0 k2 last.server.state
 ended_off_last shape line start player last count bytes s0 s1 s2 k0 k1 k2 fresh valid going consumes none end few some unread =
     let fed = going.fed in
     let off : EndsUnread player.line.items = record { is_line = valid.line; some = some; unread = unread.unread } in
@@ -195,19 +197,19 @@ ended_off_last shape line start player last count bytes s0 s1 s2 k0 k1 k2 fresh 
     (at_end s0 s1 s2 going.taken bytes going.consumes consumes none) (
       record {
         rest = player.line.items;
-        spelled = spelled_from shape Done start player going.taken k0 k1 fresh fed ∙ ap (λ xs. bytes_of fed.items ++ xs) fed.ends;
+        spelled = spelled_from shape Done start player going.taken (flushed k0) (flushed k1) fresh fed ∙ ap (λ xs. bytes_of fed.items ++ xs) fed.ends;
         off = inr (inl off, end);
       },
-      omega (arith, unread.number, unread.counts, lines_from shape Done start player going.taken k0 k1 fresh fed),
+      omega (arith, unread.number, unread.counts, lines_from shape Done start player going.taken (flushed k0) (flushed k1) fresh fed),
       omega (arith, going.counted),
     )
-    (plays_from shape Done start player going.taken k0 k1 fresh fed)
-    (subst (λ sink. Appends k0 sink (text_of fed.moments)) (sym unread.same_sink) fed.gains)
-    (unread.same_state ∙ leaves_from shape Done start player going.taken k0 k1 fresh fed)
+    (plays_from shape Done start player going.taken (flushed k0) (flushed k1) fresh fed)
+    (Gains-said Done k0 k2 (text_of fed.moments) (subst (λ (out : Output). Puts (flushed k0) out (text_of fed.moments)) (sym unread.same_output) fed.says))
+    (unread.same_state ∙ leaves_from shape Done start player going.taken (flushed k0) (flushed k1) fresh fed)
 
-pub ended_finish : (shape : Shape) (status : Status) (start player last : Player) (count : ℕ) (bytes : List ℕ) (s0 s1 s2 k0 k1 k2 : Option (List ℕ)) → IsFresh shape start → IsPlayer player → Going start player count s0 s1 k0 k1 → Consumes s1 s2 bytes → bytes ≡ [] → IsAtEnd s2 → count ≤ script_limit → Finished status player last k1 k2 → Ended shape status s0 s2 k0 k2 last.server.state
+pub ended_finish : (shape : Shape) (status : Status) (start player last : Player) (count : ℕ) (bytes : List ℕ) (s0 s1 s2 k0 k1 k2 : Option (List ℕ)) → IsFresh shape start → IsPlayer player → Going start player count s0 s1 k0 k1 → Consumes s1 s2 bytes → bytes ≡ [] → IsAtEnd s2 → count ≤ script_limit → Finished status player last (flushed k1) (flushed k2) → Ended shape status s0 s2 k0 k2 last.server.state
 ended_finish shape Done start player last count bytes s0 s1 s2 k0 k1 k2 fresh valid going consumes none end few (inl same) =
-    subst (λ sink. Ended shape Done s0 s2 k0 sink last.server.state) (sym same.2)
+    subst (λ sink. Ended shape Done s0 s2 k0 sink last.server.state) (sym (ap (λ (out : Output). out.held) same.2))
     (subst (λ (p : Player). Ended shape Done s0 s2 k0 k1 p.server.state) (sym same.1)
     (ended_done shape start player count bytes s0 s1 s2 k0 k1 fresh going consumes none end same.0 few))
 ended_finish shape Done start player last count bytes s0 s1 s2 k0 k1 k2 fresh valid going consumes none end few (inr done) =
@@ -221,13 +223,8 @@ ended_finish shape Usage start player last count bytes s0 s1 s2 k0 k1 k2 fresh v
 ended_finish shape NoMemory start player last count bytes s0 s1 s2 k0 k1 k2 fresh valid going consumes none end few no_end = absurd no_end
 ended_finish shape TooMuch start player last count bytes s0 s1 s2 k0 k1 k2 fresh valid going consumes none end few no_end = absurd no_end
 
--- the last line was cut off
-pub finished_cut : (cut : Cut) (old new : Player) (before after : Option (List ℕ)) → old.line.items ≢ [] → LineCut cut old new before after → Finished (status_of cut) old new before after
-finished_cut (Unread line) old new before after some told = (some, told)
-finished_cut Unwritten old new before after some told = (some, told)
-
 -- playing was cut off
-pub ended_cut : (shape : Shape) (cut : Cut) (start between player : Player) (count : ℕ) (bytes : List ℕ) (s0 s1 s2 k0 k1 k2 : Option (List ℕ)) → IsFresh shape start → Going start between count s0 s1 k0 k1 → Consumes s1 s2 bytes → Fed (status_of cut) between bytes player k1 k2 → count + length bytes ≤ script_limit → Ended shape (status_of cut) s0 s2 k0 k2 player.server.state
+pub ended_cut : (shape : Shape) (cut : Cut) (start between player : Player) (count : ℕ) (bytes : List ℕ) (s0 s1 s2 k0 k1 k2 : Option (List ℕ)) → IsFresh shape start → Going start between count s0 s1 k0 k1 → Consumes s1 s2 bytes → Fed (status_of cut) between bytes player (flushed k1) (flushed k2) → count + length bytes ≤ script_limit → Ended shape (status_of cut) s0 s2 k0 k2 player.server.state
 ended_cut shape (Unread line) = ended_off shape line
 ended_cut shape Unwritten = ended_unwritten shape
 

@@ -1,11 +1,10 @@
--- What one part of a run gained and left, and the next part after it: together they are the parts of the whole.
-use Rattle.std.proofs.Common.{◌≡◌, ℕ, ◌+◌, ◌≤◌, List, ◌++◌, length, take, Option, sym, ap, subst, ◌∙◌, arith, length-append}
-use Rattle.std.proofs.lemmas.List.{take-append-le}
+-- What one part of a run said and left, and the next part after it: together they are the parts of the whole.
+use Rattle.std.proofs.Common.{◌≡◌, ℕ, ◌+◌, ◌≤◌, List, [], ◌++◌, length, take, Option, sym, ap, ◌∙◌, arith, length-append}
+use Rattle.std.proofs.lemmas.List.{take_all, take-append-le}
 use Rattle.std.proofs.Math.Seq.{take-append-add}
 use Rattle.std.proofs.lemmas.Grind.{flat_map-append}
-use Rattle.std.specs.Io.KnownBytes.{Appends}
-use Rattle.outside_io.specs.Sink.{AppendsFront}
-use Rattle.outside_io.proofs.Told.{Appends-append}
+use Rattle.outside_io.specs.Outbox.{Output, Puts, flushed}
+use Rattle.outside_io.proofs.Gathered.{Puts-none, Puts-append, PutsFront-after, Appends-put}
 use Rattle.desk_model.specs.State.{State}
 use Rattle.desk_model.specs.Run.{Moment, state_after}
 use Rattle.desk_model.proofs.Runs.{state_after-append}
@@ -13,36 +12,34 @@ use Rattle.dope_run.specs.declared.status.Status.{Status}
 use Rattle.dope_run.specs.declared.status.Status.TheVariants.{Done, ReadFault, WriteFault, Usage, BadScript, NoMemory, TooMuch}
 use Rattle.dope_run.specs.Text.{text_of}
 use Rattle.dope_run.specs.Transcript.{Gains, Leaves, IsReached}
+use Rattle.dope_run.specs.Obeying.{Says}
 
 pub text_of-append : (a b : List Moment) → text_of (a ++ b) ≡ text_of a ++ text_of b
 text_of-append a b = flat_map-append _ a b
 
--- a front of a text is a front of the longer text
-pub AppendsFront-longer : (old new : Option (List ℕ)) (text more : List ℕ) → AppendsFront old new text → AppendsFront old new (text ++ more)
-AppendsFront-longer old new text more front =
-    let inside : front.count ≤ length text = front.within in
-    record {
-      count = front.count;
-      within = omega (arith, length-append text more);
-      appended = subst (Appends old new) (sym (take-append-le front.count text more inside)) front.appended;
-    }
+-- nothing was said
+pub Says-none : (out : Output) → Says Done out out []
+Says-none out = Puts-none out
 
--- a whole text, and then a front of another
-pub AppendsFront-after : (old between new : Option (List ℕ)) (text more : List ℕ) → Appends old between text → AppendsFront between new more → AppendsFront old new (text ++ more)
-AppendsFront-after old between new text more first front = record {
-  count = length text + front.count;
-  within = (let inside : front.count ≤ length more = front.within in omega (arith, length-append text more));
-  appended = subst (Appends old new) (sym (take-append-add text more front.count)) (Appends-append old between new text (take front.count more) first front.appended);
-}
+-- one text was put out, and then the next, or a part of it
+pub Says-after : (status : Status) (old between new : Output) (text more : List ℕ) → Puts old between text → Says status between new more → Says status old new (text ++ more)
+Says-after WriteFault = PutsFront-after
+Says-after Done = Puts-append
+Says-after ReadFault = Puts-append
+Says-after Usage = Puts-append
+Says-after (BadScript line) = Puts-append
+Says-after NoMemory = Puts-append
+Says-after TooMuch = Puts-append
 
-pub Gains-after : (status : Status) (old between new : Option (List ℕ)) (text more : List ℕ) → Appends old between text → Gains status between new more → Gains status old new (text ++ more)
-Gains-after WriteFault old between new text more first second = AppendsFront-after old between new text more first second
-Gains-after Done old between new text more first second = Appends-append old between new text more first second
-Gains-after ReadFault old between new text more first second = Appends-append old between new text more first second
-Gains-after Usage old between new text more first second = Appends-append old between new text more first second
-Gains-after (BadScript line) old between new text more first second = Appends-append old between new text more first second
-Gains-after NoMemory old between new text more first second = Appends-append old between new text more first second
-Gains-after TooMuch old between new text more first second = Appends-append old between new text more first second
+-- where nothing waits before and after, the sink has gained what was put out
+pub Gains-said : (status : Status) (old new : Option (List ℕ)) (text : List ℕ) → Says status (flushed old) (flushed new) text → Gains status old new text
+Gains-said WriteFault old new text said = said
+Gains-said Done old new text said = Appends-put old new text said
+Gains-said ReadFault old new text said = Appends-put old new text said
+Gains-said Usage old new text said = Appends-put old new text said
+Gains-said (BadScript line) old new text said = Appends-put old new text said
+Gains-said NoMemory old new text said = Appends-put old new text said
+Gains-said TooMuch old new text said = Appends-put old new text said
 
 -- a state of a run is a state of the longer run
 pub IsReached-longer : (state from : State) (moments more : List Moment) → IsReached state from moments → IsReached state from (moments ++ more)
@@ -53,6 +50,14 @@ IsReached-longer state from moments more reached =
       within = omega (arith, length-append moments more);
       reached = reached.reached ∙ ap (state_after from) (sym (take-append-le reached.count moments more inside));
     }
+
+-- the last state of a run is a state of it
+pub IsReached-last : (state from : State) (moments : List Moment) → state ≡ state_after from moments → IsReached state from moments
+IsReached-last state from moments last = record {
+  count = length moments;
+  within = omega arith;
+  reached = last ∙ ap (state_after from) (sym (take_all (length moments) moments (omega arith)));
+}
 
 pub IsReached-after : (state between from : State) (moments more : List Moment) → between ≡ state_after from moments → IsReached state between more → IsReached state from (moments ++ more)
 IsReached-after state between from moments more is reached = record {

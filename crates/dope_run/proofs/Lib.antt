@@ -3,6 +3,7 @@ pub mod Obeyings
 pub mod Dumps
 pub mod Reading
 pub mod Feedings
+pub mod Flushings
 pub mod Framings
 pub mod Endings
 pub mod Readings

@@ -1,17 +1,24 @@
--- How a line's events are carried out: a run of the machine over them, whose text is written as it goes.
-use Rattle.std.specs.Prelude.{◌≡◌, ℕ, List, Option}
+-- How a line's events are carried out: a run of the machine over them, whose text is put out as it goes.
+use Rattle.std.specs.Prelude.{◌≡◌, List, ℕ}
+use Rattle.outside_io.specs.Outbox.{Output, Puts, PutsFront}
 use Rattle.desk_model.specs.State.{State}
 use Rattle.desk_model.specs.Events.{Event}
 use Rattle.desk_model.specs.Run.{Moment, Run, events_of}
 use Rattle.dope_run.specs.declared.status.Status.{Status}
+use Rattle.dope_run.specs.declared.status.Status.TheVariants.{WriteFault}
 use Rattle.dope_run.specs.Text.{text_of}
-use Rattle.dope_run.specs.Transcript.{Gains, Leaves}
+use Rattle.dope_run.specs.Transcript.{Leaves}
 
--- The events happened to the machine from `old` on, the server is left in `new`, and the sink has gained the text;
--- where the writing broke off, a front of the text, and the server is left in a state of that run.
-pub record Obeyed (status : Status) (events : List Event) (old new : State) (sink_old sink_new : Option (List ℕ)) : Type 0 where
+-- The whole text was put out; or, where the writing broke off, a front of what waited before and of the text was written.
+abbrev pub Says : Status → Output → Output → List ℕ → Type 0
+Says WriteFault old new text = PutsFront old new text
+Says _ old new text = Puts old new text
+
+-- The events happened to the machine from `old` on, the server is left in `new`, and the text was put out; where
+-- the writing broke off, a front of the text was, and the server is left in a state of that run.
+pub record Obeyed (status : Status) (events : List Event) (old new : State) (before after : Output) : Type 0 where
   pub moments : List Moment
   pub answers : events_of moments ≡ events
   pub run : Run old moments
-  pub gains : Gains status sink_old sink_new (text_of moments)
+  pub says : Says status before after (text_of moments)
   pub leaves : Leaves status new old moments

@@ -1,7 +1,8 @@
 -- How a player of a script goes through bytes: which whole lines they make, which run they ask for, what was
--- written of it, and how far the player has come.
+-- put out of it, and how far the player has come.
 use Rattle.std.specs.Prelude.{◌≡◌, ◌≢◌, ◌⊎◌, ℕ, ◌+◌, List, [], ◌∷◌, ◌++◌, length, Option, None}
 use Rattle.std.specs.Io.KnownBytes.{Consumes}
+use Rattle.outside_io.specs.Outbox.{Output, flushed}
 use Rattle.kind_core.specs.declared.shapes.Shape.{Shape}
 use Rattle.desk_model.specs.State.{IsState, opening}
 use Rattle.desk_model.specs.Run.{Moment}
@@ -14,7 +15,8 @@ use Rattle.script_lines.specs.Lines.{line_order}
 use Rattle.dope_run.specs.Framing.{Item, IsLine, bytes_of}
 use Rattle.dope_run.specs.Script.{BeginsOff}
 use Rattle.dope_run.specs.Text.{text_of}
-use Rattle.dope_run.specs.Transcript.{Plays, Gains, Leaves}
+use Rattle.dope_run.specs.Transcript.{Plays, Leaves}
+use Rattle.dope_run.specs.Obeying.{Says}
 
 -- A player between two bytes: its server is valid, and it keeps the bytes of a line that is not yet whole.
 pub record IsPlayer (player : Player) : Type 0 where
@@ -26,23 +28,23 @@ abbrev pub bare_item : List ℕ → Item
 bare_item line = record { line = line; payload = [] }
 
 -- The player's line was read and carried out.
-pub record LineDone (status : Status) (old new : Player) (sink_old sink_new : Option (List ℕ)) : Type 0 where
+pub record LineDone (status : Status) (old new : Player) (before after : Output) : Type 0 where
   pub moments : List Moment
   pub plays : Plays old.server.state (bare_item old.line.items ∷ []) moments
-  pub gains : Gains status sink_old sink_new (text_of moments)
+  pub says : Says status before after (text_of moments)
   pub leaves : Leaves status new.server.state old.server.state moments
   pub counts : new.lines ≡ old.lines + 1
   pub cleared : new.line.items ≡ []
 
 -- The player's line is off the grammar; nothing happened.
-pub record LineUnread (line : ℕ) (old new : Player) (sink_old sink_new : Option (List ℕ)) : Type 0 where
+pub record LineUnread (line : ℕ) (old new : Player) (before after : Output) : Type 0 where
   pub unread : line_order old.line.items ≡ None
   pub same_state : new.server.state ≡ old.server.state
-  pub same_sink : sink_new ≡ sink_old
+  pub same_output : after ≡ before
   pub counts : new.lines ≡ old.lines
   pub number : line ≡ new.lines + 1
 
-abbrev pub LineCut : Cut → Player → Player → Option (List ℕ) → Option (List ℕ) → Type 0
+abbrev pub LineCut : Cut → Player → Player → Output → Output → Type 0
 LineCut (Unread line) = LineUnread line
 LineCut Unwritten = LineDone WriteFault
 
@@ -54,14 +56,14 @@ EndsSo WriteFault player rest = Unit {0}
 EndsSo _ player rest = ⊥
 
 -- The player took these bytes.
-pub record Fed (status : Status) (old : Player) (bytes : List ℕ) (new : Player) (sink_old sink_new : Option (List ℕ)) : Type 0 where
+pub record Fed (status : Status) (old : Player) (bytes : List ℕ) (new : Player) (before after : Output) : Type 0 where
   pub items : List Item
   pub moments : List Moment
   pub rest : List ℕ
   pub spelled : old.line.items ++ bytes ≡ bytes_of items ++ rest
   pub plays : Plays old.server.state items moments
   pub ends : EndsSo status new rest
-  pub gains : Gains status sink_old sink_new (text_of moments)
+  pub says : Says status before after (text_of moments)
   pub leaves : Leaves status new.server.state old.server.state moments
   pub counts : new.lines ≡ old.lines + length items
 
@@ -72,15 +74,15 @@ pub record IsFresh (shape : Shape) (player : Player) : Type 0 where
   pub lines : player.lines ≡ 0
   pub valid : IsState (opening shape)
 
--- What a player has taken since it was fresh, of a source whose bytes it was given.
+-- What a player has taken since it was fresh, of a source whose bytes it was given; no output waits.
 pub record Going (start player : Player) (count : ℕ) (source_old source_new sink_old sink_new : Option (List ℕ)) : Type 0 where
   pub taken : List ℕ
   pub counted : length taken ≡ count
   pub consumes : Consumes source_old source_new taken
-  pub fed : Fed Done start taken player sink_old sink_new
+  pub fed : Fed Done start taken player (flushed sink_old) (flushed sink_new)
 
 -- The end of the script was met: a last line without a line feed counts as a line.
-abbrev pub Finished : Status → Player → Player → Option (List ℕ) → Option (List ℕ) → Type 0
+abbrev pub Finished : Status → Player → Player → Output → Output → Type 0
 Finished Done old new before after =
     ((old.line.items ≡ []) × (new ≡ old) × (after ≡ before)) ⊎ ((old.line.items ≢ []) × LineDone Done old new before after)
 Finished (BadScript line) old new before after = (old.line.items ≢ []) × LineUnread line old new before after

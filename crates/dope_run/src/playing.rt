@@ -1,13 +1,14 @@
 //! Playing a script from its source to its end.
-ghost use Rattle.std.specs.Prelude.{◌≡◌, ◌+◌, ◌^◌, ◌<◌, ◌≤◌, length, take, IfOk, OnErr};
+ghost use Rattle.std.specs.Prelude.{◌≡◌, ◌+◌, ◌^◌, ◌<◌, ◌≤◌, [], length, take, IfOk, OnErr};
 ghost use Rattle.std.specs.Io.KnownBytes.{Consumes, IsAtEnd, Keeps};
 ghost use Rattle.outside_io.specs.Count.{Rose};
+ghost use Rattle.outside_io.specs.Outbox.{flushed};
 ghost use Rattle.dope_run.specs.Playing.{IsPlayer, IsFresh, Finished};
 ghost use Rattle.dope_run.specs.Transcript.{Ended};
 
 use crate::player::Player;
 use crate::status::Status;
-use outside_io::{Failed, Sink, Source};
+use outside_io::{Failed, Outbox, Sink, Source};
 
 /// The bytes that a read asks for at most.
 pub const PIECE: usize = 4096;
@@ -29,33 +30,40 @@ fn read_front<S: Source>(source: &mut S, buffer: &mut [u8], room: usize) -> Resu
     source.read(&mut buffer[..room])
 }
 
-/// Carries out a last line that has no line feed, where there is one.
-fn finish<K: Sink>(player: &mut Player, sink: &mut K) -> Status
+/// Carries out a last line that has no line feed, where there is one, and writes its output.
+fn finish<K: Sink>(player: &mut Player, out: &mut Outbox, sink: &mut K) -> Status
     requires player { IsPlayer player.old }
     requires room { player.old.lines + 1 < 2 ^ 64 }
-    ensures told { Finished result player.old player.new (K.held sink.old) (K.held sink.new) }
+    requires written { out.old ≡ [] }
+    ensures told { Finished result player.old player.new (flushed (K.held sink.old)) (flushed (K.held sink.new)) }
     ensures later { K.faults sink.old ≤ K.faults sink.new }
     ensures cause { result ≡ Status.WriteFault → Rose (K.faults sink.old) (K.faults sink.new) }
 {
     if player.line.is_empty() {
         return Status::Done;
     }
-    match player.end_line(sink) {
-        Ok(()) => Status::Done,
+    match player.end_line(out, sink) {
+        Ok(()) => match out.flush(sink) {
+            Ok(()) => Status::Done,
+            Err(_) => Status::WriteFault,
+        },
         Err(cut) => cut.status(),
     }
 }
 
 /// Plays the script of the source from its beginning, and answers how it ended. A read asks for at most as
-/// many bytes as a piece has, and never for one past the script's limit before all lines up to there are done.
+/// many bytes as a piece has, and never for one past the script's limit before all lines up to there are done;
+/// their output is written before the next read.
 pub fn play<S: Source, K: Sink>(
     player: &mut Player,
     buffer: &mut [u8],
     source: &mut S,
+    out: &mut Outbox,
     sink: &mut K,
 ) -> Status
     requires piece { length buffer.old ≡ PIECE }
     requires player { IsPlayer player.old }
+    requires written { out.old ≡ [] }
     requires fresh { IsFresh player.old.server.state.desk.shape player.old }
     ensures ended { Ended player.old.server.state.desk.shape result (S.left source.old) (S.left source.new)
         (K.held sink.old) (K.held sink.new) player.new.server.state }
@@ -72,12 +80,12 @@ pub fn play<S: Source, K: Sink>(
             Err(_) => return Status::ReadFault,
         };
         if count == 0 {
-            return finish(player, sink);
+            return finish(player, out, sink);
         }
         if taken == SCRIPT_LIMIT {
             return Status::TooMuch;
         }
-        match player.piece(&buffer[..count], sink) {
+        match player.take(&buffer[..count], out, sink) {
             Ok(()) => {}
             Err(cut) => return cut.status(),
         }

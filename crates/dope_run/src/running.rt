@@ -11,7 +11,7 @@ use crate::playing::{PIECE, play};
 use crate::status::Status;
 use crate::words::play_shape;
 use arrayvec::ArrayVec;
-use outside_io::{Sink, Source};
+use outside_io::{Outbox, Sink, Source};
 use server_core::{NoMemory, Server, Shape};
 use std::alloc::Global;
 
@@ -70,7 +70,11 @@ pub fn run<S: Source, K: Sink>(
         Ok(buffer) => buffer,
         Err(_) => return Status::NoMemory,
     };
-    let status = play(&mut player, buffer.as_mut_slice(), source, sink);
+    let mut out = match Outbox::new(alloc) {
+        Ok(out) => out,
+        Err(_) => return Status::NoMemory,
+    };
+    let status = play(&mut player, buffer.as_mut_slice(), source, &mut out, sink);
     *kept = Some(player.server);
     status
 }

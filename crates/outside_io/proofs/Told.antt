@@ -1,6 +1,9 @@
 -- Bytes that are told, through one call after another: what two calls append or take is one list.
-use Rattle.std.proofs.Common.{ℕ, List, [], ◌++◌, Option, Some, None, append_assoc, append-nil, sym, ap, ◌∙◌, refl}
+use Rattle.std.proofs.Common.{ℕ, ◌+◌, ◌≤◌, List, [], ◌++◌, length, take, Option, Some, None, append_assoc, append-nil, length-append, arith, sym, ap, subst, ◌∙◌, refl}
+use Rattle.std.proofs.lemmas.List.{take-append-le}
+use Rattle.std.proofs.Math.Seq.{take-append-add}
 use Rattle.std.specs.Io.KnownBytes.{Appends, Consumes, Keeps}
+use Rattle.outside_io.specs.Sink.{AppendsFront}
 
 -- nothing was appended where the bytes stayed
 pub Appends-none : (old : Option (List ℕ)) → Appends old old []
@@ -18,6 +21,24 @@ Appends-append (Some held) None new front rest first second = absurd first
 Appends-append (Some held) (Some more) None front rest first second = absurd second
 Appends-append (Some held) (Some more) (Some all) front rest first second =
     second ∙ ap (λ xs. xs ++ rest) first ∙ append_assoc held front rest
+
+-- a front of a text is a front of the longer text
+pub AppendsFront-longer : (old new : Option (List ℕ)) (text more : List ℕ) → AppendsFront old new text → AppendsFront old new (text ++ more)
+AppendsFront-longer old new text more front =
+    let inside : front.count ≤ length text = front.within in
+    record {
+      count = front.count;
+      within = omega (arith, length-append text more);
+      appended = subst (Appends old new) (sym (take-append-le front.count text more inside)) front.appended;
+    }
+
+-- a whole text, and then a front of another
+pub AppendsFront-after : (old between new : Option (List ℕ)) (text more : List ℕ) → Appends old between text → AppendsFront between new more → AppendsFront old new (text ++ more)
+AppendsFront-after old between new text more first front = record {
+  count = length text + front.count;
+  within = (let inside : front.count ≤ length more = front.within in omega (arith, length-append text more));
+  appended = subst (Appends old new) (sym (take-append-add text more front.count)) (Appends-append old between new text (take front.count more) first front.appended);
+}
 
 -- nothing was taken where the bytes stayed
 pub Consumes-none : (old : Option (List ℕ)) → Consumes old old []

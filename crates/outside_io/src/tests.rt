@@ -1,4 +1,4 @@
-use crate::{Failed, MemSink, MemSource, Sink, Source, StdIn, StdOut, write_all};
+use crate::{Failed, MemSink, MemSource, Outbox, Sink, Source, StdIn, StdOut, write_all};
 use std::io;
 use std::io::{Read, Write};
 use std::test::Fail;
@@ -65,6 +65,43 @@ fn all_is_written_or_the_fault_is_told(rt: HostRuntime) -> Result<(), Fail> {
     assert_eq!(rt; write_all(&mut sink, b"lost"), Err(Failed));
     assert_eq!(rt; write_all(&mut sink, b", two"), Ok(()));
     assert_eq!(rt; sink.held(), b"one line, two".as_slice());
+    Ok(())
+}
+
+#[test]
+fn an_outbox_writes_what_waits_in_order_and_once(rt: HostRuntime) -> Result<(), Fail> {
+    let fail_at = [3].to_vec(rt.alloc())?;
+    let mut sink = MemSink::new(rt.alloc(), 5000, fail_at)?;
+    let mut out = Outbox::new(rt.alloc())?;
+    assert_eq!(rt; out.flush(&mut sink), Ok(()));
+    assert_eq!(rt; out.put(b"one, ", &mut sink), Ok(()));
+    assert_eq!(rt; out.put(b"two, ", &mut sink), Ok(()));
+    assert_eq!(rt; sink.held(), b"".as_slice());
+    assert_eq!(rt; out.put(&[b'3'; 4096], &mut sink), Ok(()));
+    assert_eq!(rt; sink.held(), b"one, two, ".as_slice());
+    assert_eq!(rt; out.flush(&mut sink), Ok(()));
+    assert_eq!(rt; sink.held().len(), 10 + 4096);
+
+    assert_eq!(rt; out.put(b"lost", &mut sink), Ok(()));
+    assert_eq!(rt; out.flush(&mut sink), Err(Failed));
+    assert_eq!(rt; out.put(b"four", &mut sink), Ok(()));
+    assert_eq!(rt; out.flush(&mut sink), Ok(()));
+    assert_eq!(rt; sink.held().len(), 10 + 4096 + 4);
+    assert!(rt; sink.held().ends_with(b"four"));
+    Ok(())
+}
+
+#[test]
+fn what_an_outbox_has_no_room_for_is_written_at_once(rt: HostRuntime) -> Result<(), Fail> {
+    let fail_at = [3].to_vec(rt.alloc())?;
+    let mut sink = MemSink::new(rt.alloc(), 10000, fail_at)?;
+    let mut out = Outbox::new(rt.alloc())?;
+    assert_eq!(rt; out.put(b"head", &mut sink), Ok(()));
+    assert_eq!(rt; out.put(&[b'x'; 4097], &mut sink), Ok(()));
+    assert_eq!(rt; sink.held().len(), 4 + 4097);
+    assert!(rt; sink.held().starts_with(b"headxx"));
+    assert_eq!(rt; out.put(&[b'y'; 4097], &mut sink), Err(Failed));
+    assert_eq!(rt; sink.held().len(), 4 + 4097);
     Ok(())
 }
 

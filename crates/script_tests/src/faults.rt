@@ -39,16 +39,55 @@ fn a_read_fault_at_each_read_leaves_the_lines_before_it_written(
 }
 
 #[test]
-fn a_write_fault_at_each_write_leaves_the_lines_before_it(rt: HostRuntime) -> Result<(), Fail> {
-    for lines in 0..13 {
-        let write = lines as u64 + 1;
+fn a_write_fault_at_each_write_leaves_the_lines_of_the_reads_before_it(
+    rt: HostRuntime,
+) -> Result<(), Fail> {
+    // The lines of output that are written by then: each read of 16 bytes in which a line ends has one write,
+    // and no line ends in the third.
+    let cases = [(1, 0), (2, 1), (3, 2), (4, 4), (5, 9), (6, 11), (7, 12)];
+    for (write, lines) in cases {
         let played = play_with(rt.alloc(), WORDS, SCRIPT, 16, &[], &[write])?;
         assert_eq!(rt; played.status, Status::WriteFault, "at write {write}");
         assert!(rt; holds_first_lines(&played, lines), "at write {write}");
         assert!(rt; played.kept.is_some(), "at write {write}");
     }
-    let played = play_with(rt.alloc(), WORDS, SCRIPT, 16, &[], &[14])?;
+    let played = play_with(rt.alloc(), WORDS, SCRIPT, 16, &[], &[8])?;
     assert_eq!(rt; played.status, Status::Done);
+    assert!(rt; holds_first_lines(&played, 13));
+    Ok(())
+}
+
+#[test]
+fn output_that_cant_be_written_comes_before_a_line_off_the_grammar(
+    rt: HostRuntime,
+) -> Result<(), Fail> {
+    // Whether the line off the grammar is whole, has no line feed, or is in the same read as the line before it.
+    let cases = [
+        ("dirty\nwrong\n", 4096),
+        ("dirty\nwrong", 4096),
+        ("dirty\nwrong\n", 6),
+    ];
+    for (script, step) in cases {
+        let played = play_with(rt.alloc(), WORDS, script, step, &[], &[])?;
+        assert_eq!(rt;
+            played.status,
+            Status::BadScript { line: 2 },
+            "at {script} by {step}"
+        );
+        assert_eq!(rt;
+            played.held.as_slice(),
+            b"dirty 0\n".as_slice(),
+            "at {script} by {step}"
+        );
+
+        let played = play_with(rt.alloc(), WORDS, script, step, &[], &[1])?;
+        assert_eq!(rt; played.status, Status::WriteFault, "at {script} by {step}");
+        assert_eq!(rt;
+            played.held.as_slice(),
+            b"".as_slice(),
+            "at {script} by {step}"
+        );
+    }
     Ok(())
 }
 

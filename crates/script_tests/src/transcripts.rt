@@ -1,6 +1,7 @@
 //! What scripts on the grammar write.
 use crate::played::{SCRIPT, TRANSCRIPT, WORDS, play, play_with};
 use dope_run::Status;
+use std::alloc::Global;
 use std::test::Fail;
 
 #[test]
@@ -164,12 +165,53 @@ fn a_dump_after_a_tick_shows_what_it_drew(rt: HostRuntime) -> Result<(), Fail> {
     Ok(())
 }
 
+/// Whether a run of this script is done exactly where the sink holds its whole text, and else ends in a write
+/// fault with a front of the text, whichever write fails.
+fn breaks_off_in_front(
+    alloc: Global,
+    words: &str,
+    script: &str,
+    write: u64,
+    text: &[u8],
+) -> Result<bool, Fail> {
+    let played = play_with(alloc, words, script, 4096, &[], &[write])?;
+    let held = played.held.as_slice();
+    Ok(match played.status {
+        Status::Done => held == text,
+        Status::WriteFault => held.len() < text.len() && text.starts_with(held),
+        _ => false,
+    })
+}
+
 #[test]
-fn a_write_fault_in_a_dump_leaves_its_parts_before_it(rt: HostRuntime) -> Result<(), Fail> {
-    for (write, length) in [(1, 0), (2, 11), (3, 267)] {
-        let played = play_with(rt.alloc(), SMALL, "dump\ndirty\n", 4096, &[], &[write])?;
-        assert_eq!(rt; played.status, Status::WriteFault, "at write {write}");
-        assert_eq!(rt; played.held.len(), length, "at write {write}");
+fn a_write_fault_in_a_dump_leaves_a_front_of_it(rt: HostRuntime) -> Result<(), Fail> {
+    let mut small = b"dump 16 16\n".to_vec(rt.alloc())?;
+    small.extend_from_slice(&[2; 256])?;
+    small.extend_from_slice(b"\ndirty 0\n")?;
+    let mut large = b"dirty 0\ndump 128 64\n".to_vec(rt.alloc())?;
+    large.extend_from_slice(&[2; 8192])?;
+    large.extend_from_slice(b"\ndirty 0\n")?;
+    let cases = [
+        (SMALL, "dump\ndirty\n", small.as_slice()),
+        (
+            "play --width 128 --height 64 --budget 100 --spare 10",
+            "dirty\ndump\ndirty\n",
+            large.as_slice(),
+        ),
+    ];
+    for (words, script, text) in cases {
+        let whole = play(rt.alloc(), words, script)?;
+        assert_eq!(rt; whole.status, Status::Done);
+        assert!(rt; whole.held.as_slice() == text);
+        let first = play_with(rt.alloc(), words, script, 4096, &[], &[1])?;
+        assert_eq!(rt; first.status, Status::WriteFault);
+        assert!(rt; first.held.is_empty());
+        for write in 2..9 {
+            assert!(rt;
+                breaks_off_in_front(rt.alloc(), words, script, write, text)?,
+                "at write {write}"
+            );
+        }
     }
     Ok(())
 }

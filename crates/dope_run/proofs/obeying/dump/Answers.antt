@@ -7,10 +7,10 @@ pub returns-in-Err-clause-told : goal.returns-in-Err-clause-told
 returns-in-Err-clause-told g c =
     dump_without_line _ _ _ _ (c.dump_line.ensures ∙ ap dump_line c.shape.ensures.shape) c.in-Err.ensures.err
 
-pub returns-in-Err-write_all-clause-told : goal.returns-in-Err-write_all-clause-told
-returns-in-Err-write_all-clause-told g c =
-    dump_without_bytes _ _ _ _ _ _ (c.dump_line.ensures ∙ ap dump_line c.shape.ensures.shape) c.picture.ensures.screen c.in-Ok.ensures.ok c.in-Err-write_all.ensures.err
+pub returns-in-Err-put-clause-told : goal.returns-in-Err-put-clause-told
+returns-in-Err-put-clause-told g c =
+    dump_without_bytes _ _ _ _ _ _ (c.dump_line.ensures ∙ ap dump_line c.shape.ensures.shape) c.picture.ensures.screen c.in-Ok.ensures.ok c.in-Err-put.ensures.err
 
 pub returns-clause-told : goal.returns-clause-told
 returns-clause-told g c =
-    dump_by_writing _ _ _ _ _ _ _ _ (c.dump_line.ensures ∙ ap dump_line c.shape.ensures.shape) c.picture.ensures.screen c.in-Ok.ensures.ok c.in-Ok-write_all.ensures.ok c.write_all-2.ensures.ok c.write_all-2.ensures.err
+    dump_by_writing _ _ _ _ _ _ _ _ (c.dump_line.ensures ∙ ap dump_line c.shape.ensures.shape) c.picture.ensures.screen c.in-Ok.ensures.ok c.in-Ok-put.ensures.ok c.put-2.ensures.ok c.put-2.ensures.err

@@ -31,6 +31,7 @@ loop-count-init g c = record {
   lines = omega (arith, c.requires.fresh.lines);
   few = lit≤ tt;
   buffer = c.requires.piece;
+  written = c.requires.written;
   read_later = search rules;
   write_later = search rules;
 }
@@ -51,22 +52,23 @@ returns-then-taken-eq-SCRIPT_LIMIT-clause-ended g c =
     let one : length (take c.in-Ok.count c.read_front.new.buffer) ≡ 1 = size ∙ room_behind c.loop-count.taken _ _ c.in-Ok.count c.min.ensures c.max-room.ensures c.if-taken-eq-SCRIPT_LIMIT.true c.if-count-eq0.false c.in-Ok.ensures.bound in
     ended_too_much _ c.args.player.now c.loop-count.player (take c.in-Ok.count c.read_front.new.buffer) _ _ _ _ _ c.requires.fresh c.loop-count.invariant.player (rw c.if-taken-eq-SCRIPT_LIMIT.true at c.loop-count.invariant.going) c.in-Ok.ensures.consumes one
 
-pub returns-in-Err-piece-clause-ended : goal.returns-in-Err-piece-clause-ended
-returns-in-Err-piece-clause-ended g c =
+pub returns-in-Err-take-clause-ended : goal.returns-in-Err-take-clause-ended
+returns-in-Err-take-clause-ended g c =
     let size = read_size c.in-Ok.count c.max-room.result c.read_front.new.buffer c.in-Ok.ensures.bound (room_left c.loop-count.taken _ _ c.min.ensures c.max-room.ensures) (buffer_size _ _ c.read_front.auto.buffer c.loop-count.invariant.buffer) in
     let few : c.loop-count.taken + length (take c.in-Ok.count c.read_front.new.buffer) ≤ 67108864 =
     subst (λ n. c.loop-count.taken + n ≤ 67108864) (sym size) (room_before c.loop-count.taken _ _ c.in-Ok.count c.min.ensures c.max-room.ensures c.loop-count.invariant.few c.if-taken-eq-SCRIPT_LIMIT.false c.in-Ok.ensures.bound) in
-    rw c.status.ensures (ended_cut _ c.in-Err-piece.cut c.args.player.now c.loop-count.player c.piece.new.self c.loop-count.taken (take c.in-Ok.count c.read_front.new.buffer) _ _ _ _ _ _ c.requires.fresh c.loop-count.invariant.going c.in-Ok.ensures.consumes c.in-Err-piece.ensures.told few)
+    rw c.status.ensures (ended_cut _ c.in-Err-take.cut c.args.player.now c.loop-count.player c.take.new.self c.loop-count.taken (take c.in-Ok.count c.read_front.new.buffer) _ _ _ _ _ _ c.requires.fresh c.loop-count.invariant.going c.in-Ok.ensures.consumes c.in-Err-take.ensures.told few)
 
 pub loop-count-preserved : goal.loop-count-preserved
 loop-count-preserved g c =
     let size = read_size c.in-Ok.count c.max-room.result c.read_front.new.buffer c.in-Ok.ensures.bound (room_left c.loop-count.taken _ _ c.min.ensures c.max-room.ensures) (buffer_size _ _ c.read_front.auto.buffer c.loop-count.invariant.buffer) in
     record {
-      going = going_on c.args.player.now c.loop-count.player c.piece.new.self c.loop-count.taken c.in-Ok.count (take c.in-Ok.count c.read_front.new.buffer) _ _ _ _ _ _ c.loop-count.invariant.going c.in-Ok.ensures.consumes size c.in-Ok-piece.ensures.told;
-      player = c.in-Ok-piece.ensures.still_player;
-      lines = lines_more c.loop-count.player.lines c.loop-count.taken _ c.in-Ok.count _ c.loop-count.invariant.lines size c.in-Ok-piece.ensures.lines;
+      going = going_on c.args.player.now c.loop-count.player c.take.new.self c.loop-count.taken c.in-Ok.count (take c.in-Ok.count c.read_front.new.buffer) _ _ _ _ _ _ c.loop-count.invariant.going c.in-Ok.ensures.consumes size c.in-Ok-take.ensures.told;
+      player = c.in-Ok-take.ensures.still_player;
+      lines = lines_more c.loop-count.player.lines c.loop-count.taken _ c.in-Ok.count _ c.loop-count.invariant.lines size c.in-Ok-take.ensures.lines;
       few = room_before c.loop-count.taken _ _ c.in-Ok.count c.min.ensures c.max-room.ensures c.loop-count.invariant.few c.if-taken-eq-SCRIPT_LIMIT.false c.in-Ok.ensures.bound;
       buffer = buffer_size _ _ c.read_front.auto.buffer c.loop-count.invariant.buffer;
+      written = c.in-Ok-take.ensures.still_written;
       read_later = search rules;
       write_later = search rules;
     }

@@ -1,4 +1,4 @@
-use Rattle.std.proofs.Common.{◌≡◌, ◌-◌, ◌≤◌, length}
+use Rattle.std.proofs.Common.{◌≡◌, ◌-◌, ◌≤◌, [], length}
 use Rattle.dope_run.specs.Playing.{IsPlayer, Going}
 use Rattle.dope_run.proofs.playing.play.Given as goal
 
@@ -9,6 +9,7 @@ invariant-loop-count g l = record {
   lines : l.player.lines ≤ l.taken;
   few : l.taken ≤ 67108864;
   buffer : length l.buffer ≡ 4096;
+  written : l.out ≡ [];
   read_later : g.S.Source.faults l.initial.source ≤ g.S.Source.faults l.source;
   write_later : g.K.Sink.faults l.initial.sink ≤ g.K.Sink.faults l.sink;
 }

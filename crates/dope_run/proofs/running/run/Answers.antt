@@ -1,10 +1,13 @@
-use Rattle.std.proofs.Common.{sym, subst}
+use Rattle.std.proofs.Common.{refl, rules, sym, subst}
 use Rattle.dope_run.specs.Playing.{IsFresh}
 use Rattle.dope_run.proofs.Endings.{not_refused}
 use Rattle.dope_run.proofs.running.run.Goals as goal
 
 pub play-status-requires-clause-fresh : goal.play-status-requires-clause-fresh
 play-status-requires-clause-fresh g c = subst (λ shape. IsFresh shape c.in-Ok.player) (sym c.in-Ok.ensures.shape) c.in-Ok.ensures.fresh
+
+pub returns-in-Err-new-clause-untouched : goal.returns-in-Err-new-clause-untouched
+returns-in-Err-new-clause-untouched g c = λ refused. (refl, refl, search (rules, c.requires.none_kept))
 
 pub returns-clause-untouched : goal.returns-clause-untouched
 returns-clause-untouched g c = λ refused. absurd (not_refused _ c.play-status.result _ _ _ _ _ c.play-status.ensures.ended refused)
