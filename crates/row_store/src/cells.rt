@@ -56,7 +56,8 @@ impl Cells {
         lengthen(&mut self.children, CLIENT_PLACES * client as usize)
     }
 
-    /// The number of the child in that column and row, 1 to 16, of the widget, None exactly where there is none.
+    /// The number of the child in that column and row, 1 to 16, of the widget, None exactly where there is
+    /// none.
     pub fn at(&self, id: u32, column: u32, line: u32) -> Option<u32>
         requires column { IsIndex column }
         requires line { IsIndex line }
@@ -65,8 +66,8 @@ impl Cells {
         number_at(&self.children, place_of(id, column, line))
     }
 
-    /// The number of the child in one of the widget's 256 cells, which count from 0, row by row in each column;
-    /// None exactly where there is none.
+    /// The number of the child in one of the widget's 256 cells, which count from 0, row by row in each
+    /// column; None exactly where there is none.
     pub fn nth(&self, id: u32, index: u32) -> Option<u32>
         requires { index < 256 }
         ensures { result ≡ slice_index_or self.now (id * 256 + index) None }

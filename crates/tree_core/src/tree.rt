@@ -63,8 +63,9 @@ impl Tree {
         }
     }
 
-    /// Joins a client, 1 to 16, that isn't joined, as the last one. NoMemory leaves the tree as it was. It makes
-    /// 32,768 places for the children of the client's widgets, and as many for each lower number that has none.
+    /// Joins a client, 1 to 16, that isn't joined, as the last one. NoMemory leaves the tree as it was. It
+    /// makes 32,768 places for the children of the client's widgets, and as many for each lower number that
+    /// has none.
     pub fn join_client(&mut self, client: u32) -> Result<(), NoMemory>
         requires low { 1 ≤ client }
         requires high { client ≤ 16 }
@@ -86,9 +87,9 @@ impl Tree {
 
     /// Adds a widget of a joined client, last, with a number that wasn't live. Refuses NameTaken exactly
     /// where the client has a widget of that name, then Full with 128 exactly where it has 128, then Full
-    /// with 8 exactly for a ninth Window or a ninth VScreen. A refusal leaves the tree as it was. It costs a few
-    /// look-ups in hash maps and at most 128 tries for a number, mostly one, whatever the number of rows; now
-    /// and then a map that is full grows.
+    /// with 8 exactly for a ninth Window or a ninth VScreen. A refusal leaves the tree as it was. It costs a
+    /// few look-ups in hash maps and at most 128 tries for a number, mostly one, whatever the number of rows;
+    /// now and then a map that is full grows.
     pub fn add(&mut self, client: u32, name: Name, kind: Kind) -> Result<Id, AddRefusal>
         requires { is_joined self.old.clients client ≡ true }
         ensures ok { IfOk result (λ id. self.new ≡ with_new id.key (new_row client name kind) self.old) }
@@ -161,8 +162,8 @@ impl Tree {
         self.store.row(id.key).client()
     }
 
-    /// The value of the widget's attribute as its row has it, None exactly where the row has none. It costs one
-    /// look-up in a hash map, whatever the number of rows.
+    /// The value of the widget's attribute as its row has it, None exactly where the row has none. It costs
+    /// one look-up in a hash map, whatever the number of rows.
     pub fn attr(&self, id: Id, attr: Attr) -> Option<Value>
         requires { IsLive self.now id.key }
         ensures value { option_map (λ row. attr_of row attr) (row_at self.now.entries id.key) ≡ Some result }
@@ -197,8 +198,8 @@ impl Tree {
         Ok(())
     }
 
-    /// The size in pixels and the weight of a Grid's column, 1 to 16; (0, 0) where none was given. It costs one
-    /// look-up in a hash map.
+    /// The size in pixels and the weight of a Grid's column, 1 to 16; (0, 0) where none was given. It costs
+    /// one look-up in a hash map.
     pub fn column_rule(&self, id: Id, index: u32) -> (u32, u32)
         requires grid { IsGrid self.now id.key }
         requires index { IsIndex index }
@@ -239,8 +240,8 @@ impl Tree {
         );
     }
 
-    /// Gives a Grid's row, 1 to 16, a size of at most 1,024 pixels and a weight of at most 1,000. It costs one
-    /// look-up in a hash map.
+    /// Gives a Grid's row, 1 to 16, a size of at most 1,024 pixels and a weight of at most 1,000. It costs
+    /// one look-up in a hash map.
     pub fn set_row_rule(&mut self, id: Id, index: u32, size: u32, weight: u32)
         requires grid { IsGrid self.old id.key }
         requires index { IsIndex index }
@@ -273,8 +274,8 @@ impl Tree {
         }
     }
 
-    /// Links the widget to a Variable of the same client, or unlinks it. It costs at most two look-ups in a hash
-    /// map.
+    /// Links the widget to a Variable of the same client, or unlinks it. It costs at most two look-ups in a
+    /// hash map.
     pub fn set_link(&mut self, id: Id, variable: Option<Id>)
         requires live { IsLive self.old id.key }
         requires variable { IfSome variable (λ other. row_kind self.old.entries other.key ≡ Some Kind.Variable) }
@@ -287,8 +288,8 @@ impl Tree {
         self.store.change(id.key, Change::Link { variable: name });
     }
 
-    /// The tag that the widget's event is bound to, None exactly where it isn't bound. It costs one look-up in a
-    /// hash map.
+    /// The tag that the widget's event is bound to, None exactly where it isn't bound. It costs one look-up
+    /// in a hash map.
     pub fn binding(&self, id: Id, event: EventKind) -> Option<Name>
         requires { IsLive self.now id.key }
         ensures tag { option_map (λ row. binding_of row event) (row_at self.now.entries id.key) ≡ Some result }
@@ -307,10 +308,11 @@ impl Tree {
         self.store.change(id.key, Change::Binding { event, tag });
     }
 
-    /// Hangs the child into that cell of the parent, both widgets of one client. Refuses WrongKind, HasParent,
-    /// Cycle, TooDeep and CellTaken, in this order, exactly where the type says. A refusal leaves the tree as
-    /// it was. It goes up at most 12 levels from the parent, with a few look-ups in hash maps on each, and down
-    /// through the cells of the child and of the widgets under it, whatever the number of other rows.
+    /// Hangs the child into that cell of the parent, both widgets of one client. Refuses WrongKind,
+    /// HasParent, Cycle, TooDeep and CellTaken, in this order, exactly where the type says. A refusal leaves
+    /// the tree as it was. It goes up at most 12 levels from the parent, with a few look-ups in hash maps on
+    /// each, and down through the cells of the child and of the widgets under it, whatever the number of
+    /// other rows.
     pub fn attach(&mut self, parent: Id, child: Id, cell: Cell) -> Result<(), AttachRefusal>
         requires parent { IsLive self.old parent.key }
         requires child { IsLive self.old child.key }
@@ -376,8 +378,8 @@ impl Tree {
         Ok(())
     }
 
-    /// Removes all widgets of a joined client, which then isn't joined. It walks the rows once for each of them,
-    /// and empties the client's 32,768 places for children.
+    /// Removes all widgets of a joined client, which then isn't joined. It walks the rows once for each of
+    /// them, and empties the client's 32,768 places for children.
     pub fn drop_client(&mut self, client: u32)
         requires { is_joined self.old.clients client ≡ true }
         ensures left { self.new ≡ departed client self.old }
@@ -391,8 +393,8 @@ impl Tree {
         self.counts.forget(client);
     }
 
-    /// The widget in which this one hangs, None exactly where it hangs in none. It costs at most two look-ups in
-    /// hash maps.
+    /// The widget in which this one hangs, None exactly where it hangs in none. It costs at most two look-ups
+    /// in hash maps.
     pub fn parent(&self, id: Id) -> Option<Id>
         requires { IsLive self.now id.key }
         ensures found { option_map (λ id. id.key) result ≡ parent_id self.now id.key }
@@ -405,8 +407,8 @@ impl Tree {
         }
     }
 
-    /// The widget that is above this one, or is this one, and hangs in none. It goes up at most 12 levels, with
-    /// two look-ups in hash maps on each.
+    /// The widget that is above this one, or is this one, and hangs in none. It goes up at most 12 levels,
+    /// with two look-ups in hash maps on each.
     pub fn root(&self, id: Id) -> Id
         requires { IsLive self.now id.key }
         ensures found { root_id self.now id.key ≡ Some result.key }
