@@ -42,7 +42,7 @@ impl Model for Desk {
 }
 
 impl Desk {
-    /// A desk with no clients. See docs/MACHINE.md, "The desk".
+    /// A desk of this shape with no clients. See docs/MACHINE.md, "The desk".
     pub fn new(alloc: Global, shape: Shape) -> Desk
         ensures opening { result.desk ≡ opening_desk shape }
         ensures valid { IsDesk result.desk }
@@ -57,8 +57,8 @@ impl Desk {
         }
     }
 
-    /// Connects a client, 1 to 16. Refuses Connected where it is connected, and Memory. See docs/GUIDE.md,
-    /// "Commands".
+    /// Connects a client, 1 to 16, and answers Done. Refuses Connected where it is connected, and else Memory
+    /// where there is none. See docs/GUIDE.md, "Commands".
     #[tactic(auto, unfolding(desk_model::specs::Clients::step_connect))]
     pub fn connect(&mut self, client: u32) -> Reply
         requires low { 1 ≤ client }
@@ -81,8 +81,8 @@ impl Desk {
         Reply::Done
     }
 
-    /// Connects the least client, 1 to 16, that isn't connected, and answers its number. Refuses Full where
-    /// 16 are connected, and Memory. See docs/GUIDE.md, "Commands".
+    /// Connects the least client, 1 to 16, that isn't connected, and answers its number. Refuses Full with 16
+    /// where all are connected, and else Memory where there is none. See docs/GUIDE.md, "Commands".
     #[tactic(auto, unfolding(desk_model::specs::Clients::step_hello))]
     pub fn hello(&mut self) -> Reply
         ensures step { (result, self.new.desk) ≡ step_hello self.old.desk (is_memory result) }
@@ -103,8 +103,10 @@ impl Desk {
         Reply::Number(client as i32)
     }
 
-    /// Answers a client's command, of a client from 1 to 16. Refuses NotConnected where the client isn't
-    /// connected; else each command has its own refusals. See docs/GUIDE.md, "Commands".
+    /// Carries out a client's command, of a client from 1 to 16, and answers it: a Number or Words where it is
+    /// `get`, else Done. Refuses NotConnected where the client isn't connected; else each command has its own
+    /// refusals, and the first that holds is the answer. `payload` has the bytes of a frame, so far none. See
+    /// docs/GUIDE.md, "Commands".
     #[tactic(auto, unfolding(desk_model::specs::Commands::step))]
     pub fn step(&mut self, client: u32, command: &Command, payload: &[u8]) -> Reply
         requires low { 1 ≤ client }
@@ -125,8 +127,8 @@ impl Desk {
         answer.reply
     }
 
-    /// A client, 1 to 16, leaves with its windows and widgets. Refuses NotConnected where it isn't connected.
-    /// See docs/GUIDE.md, "Commands".
+    /// A client, 1 to 16, leaves with its windows and widgets, and is answered Done. Refuses NotConnected where
+    /// it isn't connected. See docs/GUIDE.md, "Commands".
     #[tactic(auto, unfolding(desk_model::specs::Clients::step_bye))]
     pub fn bye(&mut self, client: u32) -> Reply
         requires low { 1 ≤ client }
