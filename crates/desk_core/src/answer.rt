@@ -1,4 +1,4 @@
-ghost use Rattle.std.specs.Prelude.{◌≡◌, true, false};
+ghost use Rattle.std.specs.Prelude.{◌≡◌, false};
 ghost use Rattle.cmd_words.specs.declared.replies.Reply.TheVariants.{Refused, Done};
 
 use cmd_words::{Refusal, Reply};

@@ -1,7 +1,6 @@
 //! The commands that make, change and read one widget.
 
 ghost use Rattle.std.specs.Prelude.{◌≡◌, ◌↔◌, ◌≤◌, true, false, length, Some, None, IsTrue};
-ghost use Rattle.cmd_words.specs.declared.replies.Reply.TheVariants.{Done};
 ghost use Rattle.desk_model.specs.AttrOptions.{attr_refusal, attrs_refusal, with_attrs, told};
 ghost use Rattle.desk_model.specs.Making.{step_new, step_set, step_get, reply_with};
 ghost use Rattle.std.specs.Option.{option_map};

@@ -1,8 +1,7 @@
-ghost use Rattle.std.specs.Prelude.{◌≡◌, ◌<◌, ◌≤◌, not, ◌++◌, ◌∷◌, [], Some, None, IsSome, IfSome, OnOk, OnErr, nat_eq, length, slice_get, option_and_then, is_some, true};
+ghost use Rattle.std.specs.Prelude.{◌≡◌, ◌<◌, ◌≤◌, not, ◌++◌, ◌∷◌, [], Some, None, IsSome, OnOk, OnErr, length, slice_get, is_some};
 ghost use Rattle.std.specs.Option.{option_copied};
 ghost use Rattle.std.specs.List.{filter};
 ghost use Rattle.slab.specs.Slab.{get as slab_get};
-ghost use Rattle.indexmap.specs.IndexMap.{get as key_of, index_map_len};
 ghost use Rattle.desk_model.specs.Nodes.{is_number_of};
 ghost use Rattle.desk_model.specs.Widgets.{row_at, with_row, without_row};
 ghost use Rattle.row_store.specs.Changes.{changed_by, CanBeMade};

@@ -1,14 +1,13 @@
 -- What the facts on all widgets are after a row is put last or changed.
 use Rattle.std.proofs.Common.{◌≡◌, ℕ, zero, suc, ◌+◌, ◌<◌, ◌≤◌, Bool, true, false, cond, ◌&&◌, ◌||◌, nat_eq, nat_le, nat_lt, List, [], ◌∷◌, ◌++◌, Option, Some, None, is_some, refl, sym, ap, ◌∙◌, arith}
 use Rattle.std.proofs.lemmas.Bool.{true≢false, eqb-true, eq-eqb, ne_eqb, eqb-false, and_parts, and_from, leb-true, leb-false, ltb-true, le-leb, lt-ltb}
-use Rattle.std.proofs.lemmas.List.Sums.{sum_by_push, sum_by-cons}
+use Rattle.std.proofs.lemmas.List.Sums.{sum_by-cons}
 use Rattle.std.proofs.lemmas.List.Folds.{list_all-append, list_any-append}
 use Rattle.std.proofs.lemmas.Slice.Eq.{bytes_eq-Decides}
 use Rattle.std.specs.Cmp.{nat_eq_equiv}
 use Rattle.std.specs.Cmp.Lexicographic.{nat_list_eq_equiv}
 use Rattle.std.specs.List.{count_by, list_all}
 use Rattle.std.specs.Option.{option_map}
-use Rattle.std.specs.Map.{lookup}
 use Rattle.std.specs.Str.{bytes_eq}
 use Rattle.kind_core.specs.declared.kinds.Kind.{Kind}
 use Rattle.kind_core.specs.declared.kinds.Kind.TheVariants.{Window, Variable, VScreen}
@@ -17,7 +16,7 @@ use Rattle.desk_model.specs.Links.{Tie, ties, is_variable, leads, all_lead, name
 use Rattle.desk_model.specs.Nodes.{Node, node_of, is_named, id_named, kind_named, node_at, count_of, any_kind, counts_with, first_number, is_number_of}
 use Rattle.desk_model.specs.Widgets.{row_at, row_kind, row_client, with_row, nodes, is_joined}
 use Rattle.desk_model.specs.Forest.{HaveOwnNumbers, HaveOwnNames, is_client, IsForest}
-use Rattle.row_store.proofs.Index.{or_last, id_named-push}
+use Rattle.row_store.proofs.Index.{id_named-push}
 pub use Rattle.row_store.proofs.Nodes.{node_at-nodes, nodes-with_row}
 use Rattle.row_store.proofs.Nodes.{nodes-push, count-push}
 use Rattle.tree_core.specs.Refusals.{add_refusal}

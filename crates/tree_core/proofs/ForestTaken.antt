@@ -1,17 +1,13 @@
 -- What is left of the facts on all widgets where rows are taken out by a test on their numbers.
-use Rattle.std.proofs.Common.{◌≡◌, ◌≤◌, ℕ, Bool, true, false, cond, not, ◌&&◌, nat_eq, List, [], ◌∷◌, Option, Some, None, refl, sym, ap, ◌∙◌, subst, arith}
-use Rattle.std.proofs.lemmas.Bool.{true≢false, eqb-true, eq-eqb, and_parts, and_from}
+use Rattle.std.proofs.Common.{◌≡◌, ◌≤◌, ℕ, Bool, true, false, cond, ◌&&◌, nat_eq, List, [], ◌∷◌, refl, arith}
+use Rattle.std.proofs.lemmas.Bool.{and_parts, and_from}
 use Rattle.std.proofs.lemmas.List.Sums.{sum_by-cons}
-use Rattle.std.proofs.lemmas.Slice.Eq.{bytes_eq-Decides}
-use Rattle.std.specs.List.{filter, list_all}
-use Rattle.std.specs.Map.{lookup}
-use Rattle.std.specs.Str.{bytes_eq}
+use Rattle.std.specs.List.{list_all}
 use Rattle.kind_core.specs.declared.kinds.Kind.{Kind}
 use Rattle.desk_model.specs.Rows.{Row}
-use Rattle.desk_model.specs.Nodes.{Node, node_of, node_at, id_named, is_named, is_number_of, count_of, any_kind, counts_with}
-use Rattle.desk_model.specs.Widgets.{row_at, nodes, without_row, is_joined}
-use Rattle.desk_model.specs.Forest.{HaveOwnNumbers, HaveOwnNames, IsForest, is_client}
-use Rattle.desk_model.proofs.Naming.{row_named-found, row_named-parts, id_named-row}
+use Rattle.desk_model.specs.Nodes.{Node, is_number_of, count_of, any_kind, counts_with}
+use Rattle.desk_model.specs.Widgets.{nodes, is_joined}
+use Rattle.desk_model.specs.Forest.{IsForest, is_client}
 use Rattle.row_store.proofs.Taken.{kept, nodes-kept, own_numbers-kept, own_names-kept}
 
 pub list_all-kept : {X : Type 0} (p : ℕ × X → Bool) (test : ℕ → Bool) (es : List (ℕ × X)) → list_all p es ≡ true → list_all p (kept test es) ≡ true

@@ -1,5 +1,5 @@
 ghost use Rattle.std.specs.Prelude.{◌≡◌, IsSome, IfSome};
-ghost use Rattle.std.specs.Option.{option_map, option_and_then};
+ghost use Rattle.std.specs.Option.{option_and_then};
 ghost use Rattle.desk_model.specs.Nodes.{id_named};
 ghost use Rattle.desk_model.specs.Widgets.{row_at, nodes};
 ghost use Rattle.desk_model.specs.Links.{name_at};

@@ -1,11 +1,9 @@
-ghost use Rattle.std.specs.Prelude.{◌≡◌, ◌≤◌, Some, IsSome, not, nat_eq};
+ghost use Rattle.std.specs.Prelude.{◌≡◌, Some, IsSome, not, nat_eq};
 ghost use Rattle.std.specs.Option.{option_map};
 ghost use Rattle.std.specs.List.{list_any, filter};
 ghost use Rattle.desk_model.specs.Trees.{links_to, is_used};
-ghost use Rattle.desk_model.specs.Nodes.{is_number_of};
-ghost use Rattle.desk_model.specs.Widgets.{row_at, nodes, without_row};
+ghost use Rattle.desk_model.specs.Widgets.{row_at};
 ghost use Rattle.tree_core.specs.Children.{rows_in, HasChildren};
-ghost use Rattle.row_store.specs.Index.{IsIndexed};
 ghost use Rattle.tree_core.specs.Kept.{IsGrove};
 
 use crate::going_down::has_child;
