@@ -166,7 +166,7 @@ unfolding wants_of
 no_payload line = refl
 
 -- the last line was played, or its writing broke off
-ended_last : (shape : Shape) (status : Status) (start player last : Player) (count : ℕ) (bytes : List ℕ) (s0 s1 s2 k0 k1 k2 : Option (List ℕ)) → ((taken : List ℕ) (items : List Item) → AreWhole taken items → length taken ≤ script_limit → Covers status taken s2 items) → IsFresh shape start → Going start player count s0 s1 k0 k1 → Consumes s1 s2 bytes → bytes ≡ [] → count ≤ script_limit → player.line.items ≢ [] → LineDone status player last (flushed k1) (flushed k2) → Ended shape status s0 s2 k0 k2 last.server.state
+ended_last : (shape : Shape) (status : Status) (start player last : Player) (count : ℕ) (bytes : List ℕ) (s0 s1 s2 k0 k1 k2 : Option (List ℕ)) → ((taken : List ℕ) (items : List Item) → AreWhole taken items → length taken ≤ script_limit → Covers status taken s2 items) → IsFresh shape start → Going start player count s0 s1 k0 k1 → Consumes s1 s2 bytes → bytes ≡ [] → count ≤ script_limit → player.line.items ≢ [] → LineDone status player.line.items player last (flushed k1) (flushed k2) → Ended shape status s0 s2 k0 k2 last.server.state
 ended_last shape status start player last count bytes s0 s1 s2 k0 k1 k2 covers fresh going consumes none few some done =
     let fed = going.fed in
     let front = plays_from shape Done start player going.taken (flushed k0) (flushed k1) fresh fed in
@@ -189,7 +189,7 @@ ended_last shape status start player last count bytes s0 s1 s2 k0 k1 k2 covers f
     (Leaves-after status last.server.state player.server.state (opening shape) fed.moments done.moments state done.leaves)
 
 -- the last line is off the grammar
-ended_off_last : (shape : Shape) (line : ℕ) (start player last : Player) (count : ℕ) (bytes : List ℕ) (s0 s1 s2 k0 k1 k2 : Option (List ℕ)) → IsFresh shape start → IsPlayer player → Going start player count s0 s1 k0 k1 → Consumes s1 s2 bytes → bytes ≡ [] → IsAtEnd s2 → count ≤ script_limit → player.line.items ≢ [] → LineUnread line player last (flushed k1) (flushed k2) → Ended shape (BadScript line) s0 s2 k0 k2 last.server.state
+ended_off_last : (shape : Shape) (line : ℕ) (start player last : Player) (count : ℕ) (bytes : List ℕ) (s0 s1 s2 k0 k1 k2 : Option (List ℕ)) → IsFresh shape start → IsPlayer player → Going start player count s0 s1 k0 k1 → Consumes s1 s2 bytes → bytes ≡ [] → IsAtEnd s2 → count ≤ script_limit → player.line.items ≢ [] → LineUnread line player.line.items player last (flushed k1) (flushed k2) → Ended shape (BadScript line) s0 s2 k0 k2 last.server.state
 ended_off_last shape line start player last count bytes s0 s1 s2 k0 k1 k2 fresh valid going consumes none end few some unread =
     let fed = going.fed in
     let off : EndsUnread player.line.items = record { is_line = valid.line; some = some; unread = unread.unread } in

@@ -1,14 +1,16 @@
 -- How a player goes through bytes, one after another.
 use Rattle.std.proofs.lemmas.Bool.Decides.{nat_tests}
-use Rattle.std.proofs.Common.{Result, Ok, Err, MatchResult, ◌≡◌, ◌≢◌, ℕ, ◌+◌, ◌≤◌, ◌<◌, false, List, [], ◌∷◌, ◌++◌, length, take, drop, get_or, Some, refl, sym, ap, subst, ◌∙◌, inl, inr, arith, lit≤, append-nil, append_assoc, length-append}
+use Rattle.std.proofs.Common.{Result, Ok, Err, MatchResult, ◌≡◌, ◌≢◌, ℕ, ◌+◌, ◌-◌, ◌≤◌, ◌<◌, Bool, true, false, ◌||◌, List, [], ◌∷◌, ◌++◌, length, take, drop, get_or, Some, refl, sym, ap, subst, ◌∙◌, inl, inr, arith, lit≤, append-nil, append_assoc, length-append, length-drop}
 use Rattle.outside_io.specs.Outbox.{Output, Puts}
 use Rattle.std.proofs.lemmas.List.Elements.{All-nil, All-cons}
 use Rattle.std.proofs.lemmas.List.Folds.{list_any-append}
 use Rattle.std.proofs.lemmas.Grind.{flat_map-append}
 use Rattle.std.proofs.lemmas.List.{take_all, take_more, take-append-le, take-append-drop}
+use Rattle.std.proofs.Math.Seq.{take-add}
 use Rattle.desk_model.specs.State.{State}
 use Rattle.desk_model.specs.Run.{state_after}
 use Rattle.script_lines.specs.declared.order.Order.{Order}
+use Rattle.script_lines.specs.declared.order.Order.TheVariants.{Nothing}
 use Rattle.script_lines.specs.Lines.{line_order}
 use Rattle.dope_run.specs.declared.cut.Cut.{Cut}
 use Rattle.dope_run.specs.declared.cut.Cut.TheVariants.{Unread, Unwritten}
@@ -17,9 +19,9 @@ use Rattle.dope_run.specs.declared.status.Status.TheVariants.{Done, WriteFault, 
 use Rattle.dope_run.specs.declared.player.Player.{Player}
 use Rattle.dope_run.specs.Framing.{Item, IsItem, IsLine, wants_of, bytes_of, bytes_of_item, has_feed, line_limit}
 use Rattle.dope_run.specs.Script.{events_of_order, BeginsOff, BeginsUnread, BeginsTooLong}
-use Rattle.dope_run.specs.Transcript.{Plays}
+use Rattle.dope_run.specs.Transcript.{Plays, Leaves}
 use Rattle.dope_run.specs.Obeying.{Obeyed, Says}
-use Rattle.dope_run.specs.Playing.{LineDone, LineUnread, LineCut, Fed, EndsSo, bare_item}
+use Rattle.dope_run.specs.Playing.{FirstFeed, LineDone, LineUnread, LineCut, Fed, EndsSo, bare_item}
 use Rattle.dope_run.specs.Cutting.{status_of}
 use Rattle.dope_run.proofs.Gaining.{text_of-append, Says-none, Says-after, Leaves-after}
 use Rattle.dope_run.proofs.Reading.{read_script-nil, read_script-cons, Plays-append}
@@ -29,12 +31,12 @@ unfolding wants_of
 IsItem-bare line is = record { line = is; payload = refl }
 
 -- a line that was read, and carried out
-pub line_done : (status : Status) (old new : Player) (before after : Output) (order : Order) → IsLine old.line.items → line_order old.line.items ≡ Some order → Obeyed status (events_of_order order) old.server.state new.server.state before after → new.lines ≡ old.lines + 1 → new.line.items ≡ [] → LineDone status old new before after
-line_done status old new before after order is read obeyed counts cleared = record {
+pub line_done : (status : Status) (line : List ℕ) (old new : Player) (before after : Output) (order : Order) → IsLine line → line_order line ≡ Some order → Obeyed status (events_of_order order) old.server.state new.server.state before after → new.lines ≡ old.lines + 1 → new.line.items ≡ [] → LineDone status line old new before after
+line_done status line old new before after order is read obeyed counts cleared = record {
   moments = obeyed.moments;
   plays = record {
-    whole = All-cons IsItem (bare_item old.line.items) [] (IsItem-bare old.line.items is) (All-nil IsItem);
-    script = read_script-cons (bare_item old.line.items) [] order [] read read_script-nil
+    whole = All-cons IsItem (bare_item line) [] (IsItem-bare line is) (All-nil IsItem);
+    script = read_script-cons (bare_item line) [] order [] read read_script-nil
         ∙ ap Some (append-nil (events_of_order order) ∙ sym obeyed.answers);
     run = obeyed.run;
   };
@@ -43,6 +45,36 @@ line_done status old new before after order is read obeyed counts cleared = reco
   counts = counts;
   cleared = cleared;
 }
+
+-- a line that asks for nothing
+obeyed_nothing : (from to : State) (out : Output) → to ≡ from → Obeyed Done [] from to out out
+obeyed_nothing from to out same = record { moments = []; answers = refl; run = tt; says = Says-none out; leaves = same }
+
+pub line_silent : (line : List ℕ) (old new : Player) (out : Output) → IsLine line → line_order line ≡ Some Nothing → new.server.state ≡ old.server.state → new.lines ≡ old.lines + 1 → new.line.items ≡ [] → LineDone Done line old new out out
+line_silent line old new out is read same counts cleared = line_done Done line old new out out Nothing is read (obeyed_nothing old.server.state new.server.state out same) counts cleared
+
+-- how a line went does not depend on the bytes that a player keeps
+pub line_moved : (status : Status) (line own : List ℕ) (a b c : Player) (before after : Output) → line ≡ own → b.server.state ≡ a.server.state → b.lines ≡ a.lines → LineDone status line b c before after → LineDone status own a c before after
+line_moved status line own a b c before after same_line same_state same_lines moved =
+    let done : LineDone status own b c before after = subst (λ xs. LineDone status xs b c before after) same_line moved in
+    record {
+      moments = done.moments;
+      plays = subst (λ s. Plays s (bare_item own ∷ []) done.moments) same_state done.plays;
+      says = done.says;
+      leaves = subst (λ s. Leaves status c.server.state s done.moments) same_state done.leaves;
+      counts = done.counts ∙ ap (λ n. n + 1) same_lines;
+      cleared = done.cleared;
+    }
+
+pub cut_moved : (cut : Cut) (line own : List ℕ) (a b c : Player) (before after : Output) → line ≡ own → b.server.state ≡ a.server.state → b.lines ≡ a.lines → LineCut cut line b c before after → LineCut cut own a c before after
+cut_moved (Unread place) line own a b c before after same_line same_state same_lines off = record {
+  unread = ap line_order (sym same_line) ∙ off.unread;
+  same_state = off.same_state ∙ same_state;
+  same_output = off.same_output;
+  counts = off.counts ∙ same_lines;
+  number = off.number;
+}
+cut_moved Unwritten line own a b c before after same_line same_state same_lines done = line_moved WriteFault line own a b c before after same_line same_state same_lines done
 
 pub IsLine-nil : (line : List ℕ) → line ≡ [] → IsLine line
 IsLine-nil line is = subst IsLine (sym is) (record { no_feed = refl; short = lit≤ tt })
@@ -64,12 +96,15 @@ pub Plays-nil : (from : State) → Plays from [] []
 Plays-nil from = record { whole = All-nil IsItem; script = read_script-nil; run = tt }
 
 -- a line's end, where the line was carried out, or its writing broke off
-fed_done : (old new : Player) (before after : Output) → LineDone Done old new before after → Fed Done old (10 ∷ []) new before after
-fed_done old new before after done = record {
-  items = bare_item old.line.items ∷ [];
+line_spelled : (kept bytes line : List ℕ) → kept ++ bytes ≡ line ++ 10 ∷ [] → kept ++ bytes ≡ bytes_of (bare_item line ∷ []) ++ []
+line_spelled kept bytes line whole = whole ∙ sym (bytes_of-bare line) ∙ sym (append-nil (bytes_of (bare_item line ∷ [])))
+
+fed_done : (line : List ℕ) (old : Player) (bytes : List ℕ) (new : Player) (before after : Output) → old.line.items ++ bytes ≡ line ++ 10 ∷ [] → LineDone Done line old new before after → Fed Done old bytes new before after
+fed_done line old bytes new before after whole done = record {
+  items = bare_item line ∷ [];
   moments = done.moments;
   rest = [];
-  spelled = sym (bytes_of-bare old.line.items) ∙ sym (append-nil (bytes_of (bare_item old.line.items ∷ [])));
+  spelled = line_spelled old.line.items bytes line whole;
   plays = done.plays;
   ends = sym done.cleared;
   says = done.says;
@@ -77,12 +112,12 @@ fed_done old new before after done = record {
   counts = done.counts;
 }
 
-fed_unwritten : (old new : Player) (before after : Output) → LineDone WriteFault old new before after → Fed WriteFault old (10 ∷ []) new before after
-fed_unwritten old new before after done = record {
-  items = bare_item old.line.items ∷ [];
+fed_unwritten : (line : List ℕ) (old : Player) (bytes : List ℕ) (new : Player) (before after : Output) → old.line.items ++ bytes ≡ line ++ 10 ∷ [] → LineDone WriteFault line old new before after → Fed WriteFault old bytes new before after
+fed_unwritten line old bytes new before after whole done = record {
+  items = bare_item line ∷ [];
   moments = done.moments;
   rest = [];
-  spelled = sym (bytes_of-bare old.line.items) ∙ sym (append-nil (bytes_of (bare_item old.line.items ∷ [])));
+  spelled = line_spelled old.line.items bytes line whole;
   plays = done.plays;
   ends = tt;
   says = done.says;
@@ -104,46 +139,57 @@ fed_off line old bytes new before after off same_state same_output same_lines nu
   counts = omega arith;
 }
 
-fed_unread : (line : ℕ) (old new : Player) (before after : Output) → IsLine old.line.items → LineUnread line old new before after → Fed (BadScript line) old (10 ∷ []) new before after
-fed_unread line old new before after is unread =
-    let whole : BeginsUnread (old.line.items ++ 10 ∷ []) = record { line = old.line.items; later = []; is_line = is; spelled = refl; unread = unread.unread } in
-    fed_off line old (10 ∷ []) new before after (inl whole) unread.same_state unread.same_output unread.counts unread.number
+fed_unread : (place : ℕ) (line : List ℕ) (old : Player) (bytes : List ℕ) (new : Player) (before after : Output) → IsLine line → old.line.items ++ bytes ≡ line ++ 10 ∷ [] → LineUnread place line old new before after → Fed (BadScript place) old bytes new before after
+fed_unread place line old bytes new before after is whole unread =
+    let begins : BeginsUnread (old.line.items ++ bytes) = record { line = line; later = []; is_line = is; spelled = whole; unread = unread.unread } in
+    fed_off place old bytes new before after (inl begins) unread.same_state unread.same_output unread.counts unread.number
 
-fed_cut : (cut : Cut) (old new : Player) (before after : Output) → IsLine old.line.items → LineCut cut old new before after → Fed (status_of cut) old (10 ∷ []) new before after
-fed_cut (Unread line) old new before after is done = fed_unread line old new before after is done
-fed_cut Unwritten old new before after is done = fed_unwritten old new before after done
+fed_cut : (cut : Cut) (line : List ℕ) (old : Player) (bytes : List ℕ) (new : Player) (before after : Output) → IsLine line → old.line.items ++ bytes ≡ line ++ 10 ∷ [] → LineCut cut line old new before after → Fed (status_of cut) old bytes new before after
+fed_cut (Unread place) line old bytes new before after is whole done = fed_unread place line old bytes new before after is whole done
+fed_cut Unwritten line old bytes new before after is whole done = fed_unwritten line old bytes new before after whole done
 
--- a line feed, by how the line's end went
-pub fed_line_feed : {T : Type 0} (result : Result T Cut) (old new : Player) (before after : Output) → IsLine old.line.items → MatchResult result (λ _. LineDone Done old new before after) (λ cut. LineCut cut old new before after) → MatchResult result (λ _. Fed Done old (10 ∷ []) new before after) (λ cut. Fed (status_of cut) old (10 ∷ []) new before after)
-fed_line_feed (Ok x) old new before after is done = fed_done old new before after done
-fed_line_feed (Err cut) old new before after is done = fed_cut cut old new before after is done
+-- bytes that make a line whole, by how the line went
+pub fed_line_feed : {T : Type 0} (result : Result T Cut) (line : List ℕ) (old : Player) (bytes : List ℕ) (new : Player) (before after : Output) → IsLine line → old.line.items ++ bytes ≡ line ++ 10 ∷ [] → MatchResult result (λ _. LineDone Done line old new before after) (λ cut. LineCut cut line old new before after) → MatchResult result (λ _. Fed Done old bytes new before after) (λ cut. Fed (status_of cut) old bytes new before after)
+fed_line_feed (Ok x) line old bytes new before after is whole done = fed_done line old bytes new before after whole done
+fed_line_feed (Err cut) line old bytes new before after is whole done = fed_cut cut line old bytes new before after is whole done
 
-has_feed-push : (line : List ℕ) (byte : ℕ) → has_feed line ≡ false → byte ≢ 10 → has_feed (line ++ byte ∷ []) ≡ false
-has_feed-push line byte clear other = list_any-append _ line (byte ∷ []) ∙ grind (arith, nat_tests)
-
--- a byte that goes onto the line
-pub fed_push : (old new : Player) (byte : ℕ) (out : Output) → new.server ≡ old.server → new.lines ≡ old.lines → new.line.items ≡ old.line.items ++ byte ∷ [] → Fed Done old (byte ∷ []) new out out
-fed_push old new byte out same_server same_lines pushed = record {
+-- bytes that go onto the line
+pub fed_stretch : (old : Player) (bytes : List ℕ) (new : Player) (out : Output) → new.server.state ≡ old.server.state → new.lines ≡ old.lines → new.line.items ≡ old.line.items ++ bytes → Fed Done old bytes new out out
+fed_stretch old bytes new out same_state same_lines put = record {
   items = [];
   moments = [];
-  rest = old.line.items ++ byte ∷ [];
-  spelled = sym (ap (λ xs. xs ++ (old.line.items ++ byte ∷ [])) bytes_of-nil);
+  rest = old.line.items ++ bytes;
+  spelled = sym (ap (λ xs. xs ++ (old.line.items ++ bytes)) bytes_of-nil);
   plays = Plays-nil old.server.state;
-  ends = sym pushed;
+  ends = sym put;
   says = Says-none out;
-  leaves = ap (λ s. s.state) same_server;
+  leaves = same_state;
   counts = omega arith;
 }
 
-pub IsLine-push : (line : List ℕ) (byte : ℕ) → IsLine line → byte ≢ 10 → length line < 520 → IsLine (line ++ byte ∷ [])
-IsLine-push line byte is other room = record { no_feed = has_feed-push line byte is.no_feed other; short = (let short : length line < 520 = room in omega (arith, length-append line (byte ∷ []))) }
+has_feed-append : (line bytes : List ℕ) → has_feed line ≡ false → has_feed bytes ≡ false → has_feed (line ++ bytes) ≡ false
+has_feed-append line bytes clear others = list_any-append _ line bytes ∙ grind (arith, nat_tests)
 
--- a byte too many for a line
-pub fed_too_long : (old : Player) (byte : ℕ) (out : Output) → IsLine old.line.items → byte ≢ 10 → length old.line.items ≡ 520 → Fed (BadScript (old.lines + 1)) old (byte ∷ []) old out out
-fed_too_long old byte out is other full =
-    let whole : take (line_limit + 1) (old.line.items ++ byte ∷ []) ≡ old.line.items ++ byte ∷ [] = take_all (line_limit + 1) (old.line.items ++ byte ∷ []) (omega (arith, length-append old.line.items (byte ∷ []))) in
-    let long : BeginsTooLong (old.line.items ++ byte ∷ []) = record { long = omega (arith, length-append old.line.items (byte ∷ [])); no_feed = ap has_feed whole ∙ has_feed-push old.line.items byte is.no_feed other } in
-    fed_off (old.lines + 1) old (byte ∷ []) old out out (inr long) refl refl refl refl
+no_first : (a b : Bool) → (a || b) ≡ false → a ≡ false
+no_first false b e = refl
+no_first true b e = cc
+
+-- a front of bytes without a line feed has none
+has_feed-take : (n : ℕ) (bytes : List ℕ) → has_feed bytes ≡ false → has_feed (take n bytes) ≡ false
+has_feed-take n bytes clear =
+    no_first (has_feed (take n bytes)) (has_feed (drop n bytes)) (sym (list_any-append _ (take n bytes) (drop n bytes)) ∙ ap has_feed (take-append-drop n bytes) ∙ clear)
+
+pub IsLine-stretch : (line bytes : List ℕ) → IsLine line → has_feed bytes ≡ false → length line + length bytes ≤ 520 → IsLine (line ++ bytes)
+IsLine-stretch line bytes is clear room = record { no_feed = has_feed-append line bytes is.no_feed clear; short = (let short : length line + length bytes ≤ 520 = room in omega (arith, length-append line bytes)) }
+
+-- bytes too many for a line
+pub fed_too_long : (old : Player) (bytes : List ℕ) (new : Player) (out : Output) → IsLine old.line.items → has_feed bytes ≡ false → 520 < length old.line.items + length bytes → new.server.state ≡ old.server.state → new.lines ≡ old.lines → Fed (BadScript (old.lines + 1)) old bytes new out out
+fed_too_long old bytes new out is clear many same_state same_lines =
+    let long : BeginsTooLong (old.line.items ++ bytes) = record {
+      long = (let enough : 520 < length old.line.items + length bytes = many in omega (arith, length-append old.line.items bytes));
+      no_feed = has_feed-take (line_limit + 1) (old.line.items ++ bytes) (has_feed-append old.line.items bytes is.no_feed clear);
+    } in
+    fed_off (old.lines + 1) old bytes new out out (inr long) same_state refl same_lines (ap (λ n. n + 1) (sym same_lines))
 
 -- ---- one piece after another
 
@@ -223,16 +269,41 @@ fed_none player out = record {
 pub fed_same : (status : Status) (a b : Player) (bytes others : List ℕ) (before after : Output) → bytes ≡ others → Fed status a bytes b before after → Fed status a others b before after
 fed_same status a b bytes others before after same fed = subst (λ xs. Fed status a xs b before after) same fed
 
--- one byte more of a piece
-pub fed_next : (status : Status) (a b c : Player) (bytes : List ℕ) (i : ℕ) (before middle after : Output) → i < length bytes → Fed Done a (take i bytes) b before middle → Fed status b (get_or bytes i 0 ∷ []) c middle after → Fed status a (take (i + 1) bytes) c before after
-fed_next status a b c bytes i before middle after inside front next =
-    fed_same status a c _ _ before after (sym (take_more bytes i 0 inside)) (fed_after status a b c (take i bytes) (get_or bytes i 0 ∷ []) before middle after front next)
+-- a stretch, and the line feed behind it that ends the line
+pub fed_end_done : (a b c : Player) (bytes : List ℕ) (before after : Output) → Fed Done a bytes b before before → LineDone Done b.line.items b c before after → Fed Done a (bytes ++ 10 ∷ []) c before after
+fed_end_done a b c bytes before after front done = fed_after Done a b c bytes (10 ∷ []) before before after front (fed_done b.line.items b (10 ∷ []) c before after refl done)
 
--- where a piece is cut off at its i-th byte
-pub fed_cut_in : (cut : Cut) (a b c : Player) (bytes : List ℕ) (i : ℕ) (before middle after : Output) → i < length bytes → Fed Done a (take i bytes) b before middle → Fed (status_of cut) b (get_or bytes i 0 ∷ []) c middle after → Fed (status_of cut) a bytes c before after
-fed_cut_in cut a b c bytes i before middle after inside front next =
-    fed_same (status_of cut) a c _ _ before after (take-append-drop (i + 1) bytes)
-    (fed_more cut a c (take (i + 1) bytes) (drop (i + 1) bytes) before after (fed_next (status_of cut) a b c bytes i before middle after inside front next))
+pub fed_end_cut : (cut : Cut) (a b c : Player) (bytes : List ℕ) (before after : Output) → Fed Done a bytes b before before → IsLine b.line.items → LineCut cut b.line.items b c before after → Fed (status_of cut) a (bytes ++ 10 ∷ []) c before after
+fed_end_cut cut a b c bytes before after front is done = fed_after (status_of cut) a b c bytes (10 ∷ []) before before after front (fed_cut cut b.line.items b (10 ∷ []) c before after is refl done)
+
+-- the bytes up to the first line feed, and it
+feed_taken : (bytes : List ℕ) (feed : ℕ) → FirstFeed bytes feed → take feed bytes ++ 10 ∷ [] ≡ take (feed + 1) bytes
+feed_taken bytes feed first = ap (λ b. take feed bytes ++ b ∷ []) (sym first.here) ∙ sym (take_more bytes feed 0 first.inside)
+
+pub fed_to_feed : (status : Status) (a b : Player) (bytes : List ℕ) (feed : ℕ) (before after : Output) → FirstFeed bytes feed → Fed status a (take feed bytes ++ 10 ∷ []) b before after → Fed status a (take (feed + 1) bytes) b before after
+fed_to_feed status a b bytes feed before after first fed = fed_same status a b _ _ before after (feed_taken bytes feed first) fed
+
+-- playing was cut off at the first line feed
+pub fed_cut_at_feed : (cut : Cut) (a b : Player) (bytes : List ℕ) (feed : ℕ) (before after : Output) → FirstFeed bytes feed → Fed (status_of cut) a (take feed bytes ++ 10 ∷ []) b before after → Fed (status_of cut) a bytes b before after
+fed_cut_at_feed cut a b bytes feed before after first fed =
+    fed_same (status_of cut) a b _ _ before after (take-append-drop (feed + 1) bytes)
+    (fed_more cut a b (take (feed + 1) bytes) (drop (feed + 1) bytes) before after (fed_to_feed (status_of cut) a b bytes feed before after first fed))
+
+-- what a slice from there to the end has
+pub slice_rest : (taken : ℕ) (bytes : List ℕ) → take (length bytes - taken) (drop taken bytes) ≡ drop taken bytes
+slice_rest taken bytes = take_all (length bytes - taken) (drop taken bytes) (omega (arith, length-drop taken bytes))
+
+-- some bytes more of a piece
+pub fed_next : (status : Status) (a b c : Player) (bytes rest : List ℕ) (taken count : ℕ) (before middle after : Output) → rest ≡ drop taken bytes → Fed Done a (take taken bytes) b before middle → Fed status b (take count rest) c middle after → Fed status a (take (taken + count) bytes) c before after
+fed_next status a b c bytes rest taken count before middle after left front next =
+    fed_same status a c _ _ before after (ap (λ xs. take taken bytes ++ take count xs) left ∙ sym (take-add taken count bytes))
+    (fed_after status a b c (take taken bytes) (take count rest) before middle after front next)
+
+-- where a piece is cut off in what is left of it
+pub fed_cut_in : (cut : Cut) (a b c : Player) (bytes rest : List ℕ) (taken : ℕ) (before middle after : Output) → rest ≡ drop taken bytes → Fed Done a (take taken bytes) b before middle → Fed (status_of cut) b rest c middle after → Fed (status_of cut) a bytes c before after
+fed_cut_in cut a b c bytes rest taken before middle after left front next =
+    fed_same (status_of cut) a c _ _ before after (ap (λ xs. take taken bytes ++ xs) left ∙ take-append-drop taken bytes)
+    (fed_after (status_of cut) a b c (take taken bytes) rest before middle after front next)
 
 pub bytes_of-cons : (line : List ℕ) (items : List Item) → bytes_of (bare_item line ∷ items) ≡ line ++ 10 ∷ bytes_of items
 unfolding bytes_of

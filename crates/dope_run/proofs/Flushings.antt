@@ -81,11 +81,11 @@ fed_dropped a b bytes k0 k1 waited waiting none first =
 
 -- ---- a last line
 
-line_from : (status : Status) (a b : Player) (k0 : Option (List ℕ)) (waited : List ℕ) (after : Output) → waited ≡ [] → LineDone status a b (output k0 waited) after → LineDone status a b (flushed k0) after
-line_from status a b k0 waited after none done = subst (λ w. LineDone status a b (output k0 w) after) none done
+line_from : (status : Status) (a b : Player) (k0 : Option (List ℕ)) (waited : List ℕ) (after : Output) → waited ≡ [] → LineDone status a.line.items a b (output k0 waited) after → LineDone status a.line.items a b (flushed k0) after
+line_from status a b k0 waited after none done = subst (λ w. LineDone status a.line.items a b (output k0 w) after) none done
 
 -- the line was carried out, with the output as it is later
-line_later : (status : Status) (a b : Player) (before between after : Output) → (done : LineDone status a b before between) → Says status before after (text_of done.moments) → LineDone status a b before after
+line_later : (status : Status) (a b : Player) (before between after : Output) → (done : LineDone status a.line.items a b before between) → Says status before after (text_of done.moments) → LineDone status a.line.items a b before after
 line_later status a b before between after done said = record {
   moments = done.moments;
   plays = done.plays;
@@ -95,12 +95,12 @@ line_later status a b before between after done said = record {
   cleared = done.cleared;
 }
 
-pub line_flushed : (a b : Player) (k0 k1 k2 : Option (List ℕ)) (waited waiting : List ℕ) → waited ≡ [] → LineDone Done a b (output k0 waited) (output k1 waiting) → Appends k1 k2 waiting → LineDone Done a b (flushed k0) (flushed k2)
+pub line_flushed : (a b : Player) (k0 k1 k2 : Option (List ℕ)) (waited waiting : List ℕ) → waited ≡ [] → LineDone Done a.line.items a b (output k0 waited) (output k1 waiting) → Appends k1 k2 waiting → LineDone Done a.line.items a b (flushed k0) (flushed k2)
 line_flushed a b k0 k1 k2 waited waiting none first wrote =
     let done = line_from Done a b k0 waited (output k1 waiting) none first in
     line_later Done a b (flushed k0) (output k1 waiting) (flushed k2) done (Puts-flushed (flushed k0) (output k1 waiting) k2 (text_of done.moments) done.says wrote)
 
-pub line_unflushed : (a b : Player) (k0 k1 k2 : Option (List ℕ)) (waited waiting : List ℕ) → waited ≡ [] → LineDone Done a b (output k0 waited) (output k1 waiting) → AppendsFront k1 k2 waiting → LineDone WriteFault a b (flushed k0) (flushed k2)
+pub line_unflushed : (a b : Player) (k0 k1 k2 : Option (List ℕ)) (waited waiting : List ℕ) → waited ≡ [] → LineDone Done a.line.items a b (output k0 waited) (output k1 waiting) → AppendsFront k1 k2 waiting → LineDone WriteFault a.line.items a b (flushed k0) (flushed k2)
 line_unflushed a b k0 k1 k2 waited waiting none first broken =
     let done = line_from Done a b k0 waited (output k1 waiting) none first in
     record {
@@ -113,7 +113,7 @@ line_unflushed a b k0 k1 k2 waited waiting none first broken =
     }
 
 -- the last line was cut off
-pub finished_cut : (cut : Cut) (a b : Player) (k0 k1 : Option (List ℕ)) (waited waiting : List ℕ) → waited ≡ [] → a.line.items ≢ [] → LineCut cut a b (output k0 waited) (output k1 waiting) → Finished (status_of cut) a b (flushed k0) (flushed k1)
+pub finished_cut : (cut : Cut) (a b : Player) (k0 k1 : Option (List ℕ)) (waited waiting : List ℕ) → waited ≡ [] → a.line.items ≢ [] → LineCut cut a.line.items a b (output k0 waited) (output k1 waiting) → Finished (status_of cut) a b (flushed k0) (flushed k1)
 finished_cut (Unread line) a b k0 k1 waited waiting none some off = (
   some,
   record {

@@ -1,6 +1,6 @@
 -- How a player of a script goes through bytes: which whole lines they make, which run they ask for, what was
 -- put out of it, and how far the player has come.
-use Rattle.std.specs.Prelude.{◌≡◌, ◌≢◌, ◌⊎◌, ℕ, ◌+◌, List, [], ◌∷◌, ◌++◌, length, Option, None}
+use Rattle.std.specs.Prelude.{◌≡◌, ◌≢◌, ◌⊎◌, ℕ, ◌+◌, ◌<◌, false, List, [], ◌∷◌, ◌++◌, length, take, slice_index, Option, None}
 use Rattle.std.specs.Io.KnownBytes.{Consumes}
 use Rattle.outside_io.specs.Outbox.{Output, flushed}
 use Rattle.kind_core.specs.declared.shapes.Shape.{Shape}
@@ -12,7 +12,7 @@ use Rattle.dope_run.specs.declared.cut.Cut.{Cut}
 use Rattle.dope_run.specs.declared.cut.Cut.TheVariants.{Unread, Unwritten}
 use Rattle.dope_run.specs.declared.player.Player.{Player}
 use Rattle.script_lines.specs.Lines.{line_order}
-use Rattle.dope_run.specs.Framing.{Item, IsLine, bytes_of}
+use Rattle.dope_run.specs.Framing.{Item, IsLine, bytes_of, has_feed}
 use Rattle.dope_run.specs.Script.{BeginsOff}
 use Rattle.dope_run.specs.Text.{text_of}
 use Rattle.dope_run.specs.Transcript.{Plays, Leaves}
@@ -27,25 +27,31 @@ pub record IsPlayer (player : Player) : Type 0 where
 abbrev pub bare_item : List ℕ → Item
 bare_item line = record { line = line; payload = [] }
 
--- The player's line was read and carried out.
-pub record LineDone (status : Status) (old new : Player) (before after : Output) : Type 0 where
+-- The first line feed among the bytes is the one at this index.
+pub record FirstFeed (bytes : List ℕ) (index : ℕ) : Type 0 where
+  pub inside : index < length bytes
+  pub before : has_feed (take index bytes) ≡ false
+  pub here : slice_index bytes index ≡ 10
+
+-- The line was read and carried out.
+pub record LineDone (status : Status) (line : List ℕ) (old new : Player) (before after : Output) : Type 0 where
   pub moments : List Moment
-  pub plays : Plays old.server.state (bare_item old.line.items ∷ []) moments
+  pub plays : Plays old.server.state (bare_item line ∷ []) moments
   pub says : Says status before after (text_of moments)
   pub leaves : Leaves status new.server.state old.server.state moments
   pub counts : new.lines ≡ old.lines + 1
   pub cleared : new.line.items ≡ []
 
--- The player's line is off the grammar; nothing happened.
-pub record LineUnread (line : ℕ) (old new : Player) (before after : Output) : Type 0 where
-  pub unread : line_order old.line.items ≡ None
+-- The line, which has this place in the script, from 1, is off the grammar; nothing happened.
+pub record LineUnread (place : ℕ) (line : List ℕ) (old new : Player) (before after : Output) : Type 0 where
+  pub unread : line_order line ≡ None
   pub same_state : new.server.state ≡ old.server.state
   pub same_output : after ≡ before
   pub counts : new.lines ≡ old.lines
-  pub number : line ≡ new.lines + 1
+  pub number : place ≡ new.lines + 1
 
-abbrev pub LineCut : Cut → Player → Player → Output → Output → Type 0
-LineCut (Unread line) = LineUnread line
+abbrev pub LineCut : Cut → List ℕ → Player → Player → Output → Output → Type 0
+LineCut (Unread place) = LineUnread place
 LineCut Unwritten = LineDone WriteFault
 
 -- What stands behind the whole lines: the player's own line, or one that is off the grammar.
@@ -84,7 +90,7 @@ pub record Going (start player : Player) (count : ℕ) (source_old source_new si
 -- The end of the script was met: a last line without a line feed counts as a line.
 abbrev pub Finished : Status → Player → Player → Output → Output → Type 0
 Finished Done old new before after =
-    ((old.line.items ≡ []) × (new ≡ old) × (after ≡ before)) ⊎ ((old.line.items ≢ []) × LineDone Done old new before after)
-Finished (BadScript line) old new before after = (old.line.items ≢ []) × LineUnread line old new before after
-Finished WriteFault old new before after = (old.line.items ≢ []) × LineDone WriteFault old new before after
+    ((old.line.items ≡ []) × (new ≡ old) × (after ≡ before)) ⊎ ((old.line.items ≢ []) × LineDone Done old.line.items old new before after)
+Finished (BadScript line) old new before after = (old.line.items ≢ []) × LineUnread line old.line.items old new before after
+Finished WriteFault old new before after = (old.line.items ≢ []) × LineDone WriteFault old.line.items old new before after
 Finished _ old new before after = ⊥

@@ -1,17 +1,26 @@
-//! Playing a script, byte by byte.
-ghost use Rattle.std.specs.Prelude.{◌≡◌, ℕ, ◌+◌, ◌<◌, ◌≤◌, ◌^◌, ◌∷◌, [], length, MatchResult, OnOk, IfErr};
+//! Playing a script, a stretch of bytes at a time.
+ghost use Rattle.std.specs.Prelude.{◌≡◌, ◌≢◌, ℕ, ◌+◌, ◌<◌, ◌≤◌, ◌^◌, ◌∷◌, ◌++◌, [], true, false, length, take, drop, MatchOption, MatchResult, OnOk, IfOk, IfErr, Some};
 ghost use Rattle.outside_io.specs.Count.{Rose};
-ghost use Rattle.outside_io.specs.Outbox.{output, flushed};
+ghost use Rattle.outside_io.specs.Outbox.{Output, output, flushed};
+ghost use Rattle.desk_model.specs.State.{IsState};
+ghost use Rattle.script_lines.specs.declared.order.Order.TheVariants.{Nothing};
+ghost use Rattle.script_lines.specs.Lines.{line_order};
 ghost use Rattle.dope_run.specs.declared.status.Status.TheVariants.{Done};
 ghost use Rattle.dope_run.specs.Cutting.{status_of};
-ghost use Rattle.dope_run.specs.Playing.{IsPlayer, LineDone, LineCut, Fed};
+ghost use Rattle.dope_run.specs.Framing.{IsLine, has_feed};
+ghost use Rattle.dope_run.specs.Playing.{IsPlayer, FirstFeed, LineDone, LineCut, Fed};
 
 use crate::cut::Cut;
 use crate::obeying::obey;
 use arrayvec::ArrayVec;
 use outside_io::{Outbox, Sink};
+use script_lines::laws::comments_ask_for_nothing;
 use script_lines::line_order;
 use server_core::Server;
+use std::mem;
+
+/// The bytes that a line has at most, without its line feed.
+const LINE_LIMIT: usize = 520;
 
 /// A player of a script: its server, the bytes of the line that is not yet whole, and how many lines were carried
 /// out.
@@ -22,24 +31,52 @@ pub struct Player {
     pub lines: u64,
 }
 
+/// The index, from 0, of the first line feed among the bytes. None: they have none.
+fn feed_in(bytes: &[u8]) -> Option<usize>
+    ensures { MatchOption result (has_feed bytes.now ≡ false) (FirstFeed bytes.now) }
+{
+    for (i, byte) in bytes.iter().enumerate() {
+        if *byte == b'\n' {
+            return Some(i);
+        }
+    }
+    None
+}
+
+/// Whether the line is seen at its first byte to ask for nothing, so that it need not be read.
+fn is_silent(line: &[u8]) -> bool
+    ensures { result ≡ true → line_order line.now ≡ Some Nothing }
+{
+    comments_ask_for_nothing();
+    match line {
+        [first, ..] => *first == b'#',
+        [] => true,
+    }
+}
+
 impl Player {
-    /// Carries out the player's line, which is whole.
-    pub fn end_line<K: Sink>(&mut self, out: &mut Outbox, sink: &mut K) -> Result<(), Cut>
-        requires player { IsPlayer self.old }
+    /// Carries out a whole line, which is given without its line feed, where no bytes of a line are kept.
+    fn carry_out<K: Sink>(&mut self, line: &[u8], out: &mut Outbox, sink: &mut K) -> Result<(), Cut>
+        requires state { IsState self.old.server.state }
+        requires none_kept { self.old.line.items ≡ [] }
+        requires is_line { IsLine line.now }
         requires room { self.old.lines + 1 < 2 ^ 64 }
         ensures told { MatchResult result
-            (λ _. LineDone Done self.old self.new (output (K.held sink.old) out.old) (output (K.held sink.new) out.new))
-            (λ cut. LineCut cut self.old self.new (output (K.held sink.old) out.old) (output (K.held sink.new) out.new)) }
+            (λ _. LineDone Done line.now self.old self.new (output (K.held sink.old) out.old) (output (K.held sink.new) out.new))
+            (λ cut. LineCut cut line.now self.old self.new (output (K.held sink.old) out.old) (output (K.held sink.new) out.new)) }
         ensures still_player { OnOk result (IsPlayer self.new) }
         ensures later { K.faults sink.old ≤ K.faults sink.new }
         ensures cause { IfErr result (λ cut. cut ≡ Cut.Unwritten → Rose (K.faults sink.old) (K.faults sink.new)) }
     {
-        match line_order(self.line.as_slice()) {
+        if is_silent(line) {
+            self.lines += 1;
+            return Ok(());
+        }
+        match line_order(line) {
             None => Err(Cut::Unread {
                 line: self.lines + 1,
             }),
             Some(order) => {
-                self.line.clear();
                 self.lines += 1;
                 match obey(&order, &mut self.server, out, sink) {
                     Ok(()) => Ok(()),
@@ -49,28 +86,96 @@ impl Player {
         }
     }
 
-    /// Takes one byte of the script.
-    fn byte<K: Sink>(&mut self, byte: u8, out: &mut Outbox, sink: &mut K) -> Result<(), Cut>
+    /// Carries out the player's line, which is whole.
+    pub fn end_line<K: Sink>(&mut self, out: &mut Outbox, sink: &mut K) -> Result<(), Cut>
         requires player { IsPlayer self.old }
         requires room { self.old.lines + 1 < 2 ^ 64 }
         ensures told { MatchResult result
-            (λ _. Fed Done self.old (byte ∷ []) self.new (output (K.held sink.old) out.old) (output (K.held sink.new) out.new))
-            (λ cut. Fed (status_of cut) self.old (byte ∷ []) self.new (output (K.held sink.old) out.old) (output (K.held sink.new) out.new)) }
+            (λ _. LineDone Done self.old.line.items self.old self.new (output (K.held sink.old) out.old) (output (K.held sink.new) out.new))
+            (λ cut. LineCut cut self.old.line.items self.old self.new (output (K.held sink.old) out.old) (output (K.held sink.new) out.new)) }
         ensures still_player { OnOk result (IsPlayer self.new) }
-        ensures lines { OnOk result (self.new.lines ≤ self.old.lines + 1) }
         ensures later { K.faults sink.old ≤ K.faults sink.new }
         ensures cause { IfErr result (λ cut. cut ≡ Cut.Unwritten → Rose (K.faults sink.old) (K.faults sink.new)) }
     {
-        if byte == b'\n' {
-            return self.end_line(out, sink);
+        let line = mem::replace(&mut self.line, ArrayVec::new());
+        match self.carry_out(line.as_slice(), out, sink) {
+            Ok(()) => Ok(()),
+            Err(cut) => Err(cut),
         }
-        if self.line.is_full() {
-            return Err(Cut::Unread {
+    }
+
+    /// Puts bytes that have no line feed onto the player's line. Where it would pass a line's limit, playing is cut
+    /// off there.
+    fn stretch(&mut self, bytes: &[u8]) -> Result<(), Cut>
+        requires player { IsPlayer self.old }
+        requires no_feed { has_feed bytes.now ≡ false }
+        requires room { self.old.lines + 1 < 2 ^ 64 }
+        ensures told { (out : Output) → MatchResult result
+            (λ _. Fed Done self.old bytes.now self.new out out)
+            (λ cut. Fed (status_of cut) self.old bytes.now self.new out out) }
+        ensures still_player { OnOk result (IsPlayer self.new) }
+        ensures lines { OnOk result (self.new.lines ≡ self.old.lines) }
+        ensures unread { IfErr result (λ cut. cut ≢ Cut.Unwritten) }
+    {
+        match self.line.try_extend_from_slice(bytes) {
+            Ok(()) => Ok(()),
+            Err(_) => Err(Cut::Unread {
                 line: self.lines + 1,
-            });
+            }),
         }
-        self.line.push(byte);
-        Ok(())
+    }
+
+    /// Takes bytes that have no line feed, and the line feed that stands behind them. Where they are a whole line,
+    /// they are carried out where they stand.
+    fn end_of_line<K: Sink>(&mut self, bytes: &[u8], out: &mut Outbox, sink: &mut K) -> Result<(), Cut>
+        requires player { IsPlayer self.old }
+        requires no_feed { has_feed bytes.now ≡ false }
+        requires room { self.old.lines + 1 < 2 ^ 64 }
+        ensures told { MatchResult result
+            (λ _. Fed Done self.old (bytes.now ++ 10 ∷ []) self.new (output (K.held sink.old) out.old) (output (K.held sink.new) out.new))
+            (λ cut. Fed (status_of cut) self.old (bytes.now ++ 10 ∷ []) self.new (output (K.held sink.old) out.old) (output (K.held sink.new) out.new)) }
+        ensures still_player { OnOk result (IsPlayer self.new) }
+        ensures lines { OnOk result (self.new.lines ≡ self.old.lines + 1) }
+        ensures later { K.faults sink.old ≤ K.faults sink.new }
+        ensures cause { IfErr result (λ cut. cut ≡ Cut.Unwritten → Rose (K.faults sink.old) (K.faults sink.new)) }
+    {
+        if self.line.is_empty() && bytes.len() <= LINE_LIMIT {
+            return self.carry_out(bytes, out, sink);
+        }
+        match self.stretch(bytes) {
+            Ok(()) => match self.end_line(out, sink) {
+                Ok(()) => Ok(()),
+                Err(cut) => Err(cut),
+            },
+            Err(cut) => Err(cut),
+        }
+    }
+
+    /// Takes the bytes up to the first line feed and with it, or all where there is none, and answers their number.
+    fn front<K: Sink>(&mut self, bytes: &[u8], out: &mut Outbox, sink: &mut K) -> Result<usize, Cut>
+        requires player { IsPlayer self.old }
+        requires some { 1 ≤ length bytes.now }
+        requires room { self.old.lines + length bytes.now < 2 ^ 64 }
+        ensures told { MatchResult result
+            (λ count. Fed Done self.old (take count bytes.now) self.new (output (K.held sink.old) out.old) (output (K.held sink.new) out.new))
+            (λ cut. Fed (status_of cut) self.old bytes.now self.new (output (K.held sink.old) out.old) (output (K.held sink.new) out.new)) }
+        ensures some_taken { IfOk result (λ count. 1 ≤ count) }
+        ensures bound { IfOk result (λ count. count ≤ length bytes.now) }
+        ensures still_player { OnOk result (IsPlayer self.new) }
+        ensures lines { IfOk result (λ count. self.new.lines ≤ self.old.lines + count) }
+        ensures later { K.faults sink.old ≤ K.faults sink.new }
+        ensures cause { IfErr result (λ cut. cut ≡ Cut.Unwritten → Rose (K.faults sink.old) (K.faults sink.new)) }
+    {
+        match feed_in(bytes) {
+            Some(feed) => match self.end_of_line(&bytes[..feed], out, sink) {
+                Ok(()) => Ok(feed + 1),
+                Err(cut) => Err(cut),
+            },
+            None => match self.stretch(bytes) {
+                Ok(()) => Ok(bytes.len()),
+                Err(cut) => Err(cut),
+            },
+        }
     }
 
     /// Takes bytes of the script, in order, up to the first at which playing is cut off.
@@ -85,9 +190,10 @@ impl Player {
         ensures later { K.faults sink.old ≤ K.faults sink.new }
         ensures cause { IfErr result (λ cut. cut ≡ Cut.Unwritten → Rose (K.faults sink.old) (K.faults sink.new)) }
     {
-        for byte in bytes {
-            match self.byte(*byte, out, sink) {
-                Ok(()) => {}
+        let mut taken = 0;
+        while taken < bytes.len() {
+            match self.front(&bytes[taken..], out, sink) {
+                Ok(count) => taken += count,
                 Err(cut) => return Err(cut),
             }
         }
