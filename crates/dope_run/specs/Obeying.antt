@@ -9,13 +9,14 @@ use Rattle.dope_run.specs.declared.status.Status.TheVariants.{WriteFault}
 use Rattle.dope_run.specs.Text.{text_of}
 use Rattle.dope_run.specs.Transcript.{Leaves}
 
--- The whole text was put out; or, where the writing broke off, a front of what waited before and of the text was written.
+-- The whole text was put out; or, where the writing broke off, a front of what waited before and of the text
+-- was written.
 abbrev pub Says : Status → Output → Output → List ℕ → Type 0
 Says WriteFault old new text = PutsFront old new text
 Says _ old new text = Puts old new text
 
--- The events happened to the machine from `old` on, the server is left in `new`, and the text was put out; where
--- the writing broke off, a front of the text was, and the server is left in a state of that run.
+-- The events happened to the machine from `old` on, the server is left in `new`, and the text was put out;
+-- where the writing broke off, a front of it was written, and the server is left in a state of that run.
 pub record Obeyed (status : Status) (events : List Event) (old new : State) (before after : Output) : Type 0 where
   pub moments : List Moment
   pub answers : events_of moments ≡ events

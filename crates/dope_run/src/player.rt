@@ -200,8 +200,8 @@ impl Player {
         Ok(())
     }
 
-    /// Takes the bytes of one read, in order, up to the first at which playing is cut off, and writes their output.
-    /// Output that can't be written cuts playing off as well, also before a line off the grammar.
+    /// Takes the bytes of one read, in order, up to the first at which playing is cut off, and writes their
+    /// output. Output that can't be written cuts playing off as well, also before a line off the grammar.
     pub fn take<K: Sink>(&mut self, bytes: &[u8], out: &mut Outbox, sink: &mut K) -> Result<(), Cut>
         requires player { IsPlayer self.old }
         requires room { self.old.lines + length bytes.now < 2 ^ 64 }

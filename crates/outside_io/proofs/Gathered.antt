@@ -1,5 +1,5 @@
--- Output that is gathered, through one call after another: what two calls put is one text, and what a flush writes
--- is what waited.
+-- Output that is gathered, through one call after another: what two calls put is one text, and what a flush
+-- writes is what waited.
 use Rattle.std.proofs.Common.{◌≡◌, ℕ, List, [], ◌++◌, Option, Result, Ok, Err, OnOk, OnErr, append_assoc, append-nil, sym, ap, subst, ◌∙◌}
 use Rattle.std.specs.Io.KnownBytes.{Appends}
 use Rattle.outside_io.specs.Sink.{AppendsFront}

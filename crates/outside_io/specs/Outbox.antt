@@ -1,4 +1,4 @@
--- Output that is gathered: of the bytes that were put, the first are written, and the rest wait in memory, in order.
+-- Output that is gathered: of the bytes that were put the first are written, and the rest wait in order.
 use Rattle.std.specs.Prelude.{◌≡◌, ℕ, List, [], ◌++◌, Option}
 use Rattle.std.specs.Io.KnownBytes.{Appends}
 use Rattle.outside_io.specs.Sink.{AppendsFront}
@@ -15,8 +15,8 @@ output held waiting = record { held = held; waiting = waiting }
 abbrev pub flushed : Option (List ℕ) → Output
 flushed held = output held []
 
--- The output has grown by these bytes: what waited and they, in this order, were written up to a place, and wait
--- from there on.
+-- The output has grown by these bytes: what waited and they, in this order, were written up to a place, and
+-- wait from there on.
 pub record Puts (old new : Output) (bytes : List ℕ) : Type 0 where
   pub written : List ℕ
   pub cut : old.waiting ++ bytes ≡ written ++ new.waiting

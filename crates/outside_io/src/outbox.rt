@@ -15,8 +15,8 @@ use std::marker::Model;
 const ROOM: usize = 4096;
 
 /// Output that waits in memory, so that many short texts go to a sink in one write: `put` gathers bytes, and
-/// `flush` writes what waits. Both are given the sink. An outbox has room for 4,096 bytes, which it takes when it
-/// is made; it takes no more memory later, however much is put.
+/// `flush` writes what waits. Both are given the sink. An outbox has room for 4,096 bytes, which it takes when
+/// it is made; it takes no more memory later, however much is put.
 ///
 /// Contracts see the bytes that wait, in order. `docs/DECISIONS.md`, "The run", says when a run writes them.
 #[derive(Debug, Drop)]
@@ -46,9 +46,9 @@ impl Outbox {
         }
     }
 
-    /// Puts `bytes` behind what waits, and writes some of it where there is no room for all. `Failed` comes only
-    /// where the sink's count of faults rose in this call; then a front of what waited and of `bytes` was
-    /// written, and the rest of it is dropped.
+    /// Puts `bytes` behind what waits, and writes some of it where there is no room for all. `Failed` comes
+    /// only where the sink's count of faults rose in this call; then a front of what waited and of `bytes`
+    /// was written, and the rest of it is dropped.
     pub fn put<K: Sink>(&mut self, bytes: &[u8], sink: &mut K) -> Result<(), Failed>
         ensures ok { OnOk result (Puts (output (K.held sink.old) self.old) (output (K.held sink.new) self.new) bytes.now) }
         ensures err { OnErr result (PutsFront (output (K.held sink.old) self.old) (output (K.held sink.new) self.new) bytes.now) }
@@ -72,8 +72,9 @@ impl Outbox {
         write_all(sink, bytes)
     }
 
-    /// Writes all that waits; where nothing waits, it doesn't ask the sink. `Failed` comes only where the sink's
-    /// count of faults rose in this call; then a front of what waited was written, and the rest of it is dropped.
+    /// Writes all that waits; where nothing waits, it doesn't ask the sink. `Failed` comes only where the
+    /// sink's count of faults rose in this call; then a front of what waited was written, and the rest of it
+    /// is dropped.
     pub fn flush<K: Sink>(&mut self, sink: &mut K) -> Result<(), Failed>
         ensures ok { OnOk result (Appends (K.held sink.old) (K.held sink.new) self.old) }
         ensures err { OnErr result (AppendsFront (K.held sink.old) (K.held sink.new) self.old) }
