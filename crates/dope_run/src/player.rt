@@ -13,6 +13,7 @@ ghost use Rattle.dope_run.specs.Playing.{IsPlayer, FirstFeed, LineDone, LineCut,
 use crate::cut::Cut;
 use crate::obeying::obey;
 use arrayvec::ArrayVec;
+use memchr::memchr;
 use outside_io::{Outbox, Sink};
 use script_lines::laws::comments_ask_for_nothing;
 use script_lines::line_order;
@@ -35,12 +36,7 @@ pub struct Player {
 fn feed_in(bytes: &[u8]) -> Option<usize>
     ensures { MatchOption result (has_feed bytes.now ≡ false) (FirstFeed bytes.now) }
 {
-    for (i, byte) in bytes.iter().enumerate() {
-        if *byte == b'\n' {
-            return Some(i);
-        }
-    }
-    None
+    memchr(b'\n', bytes)
 }
 
 /// Whether the line is seen at its first byte to ask for nothing, so that it need not be read.
@@ -55,7 +51,35 @@ fn is_silent(line: &[u8]) -> bool
 }
 
 impl Player {
-    /// Carries out a whole line, which is given without its line feed, where no bytes of a line are kept.
+    /// Reads a whole line, which is given without its line feed, and carries it out, where no bytes of a line are kept.
+    fn obey_line<K: Sink>(&mut self, line: &[u8], out: &mut Outbox, sink: &mut K) -> Result<(), Cut>
+        requires state { IsState self.old.server.state }
+        requires none_kept { self.old.line.items ≡ [] }
+        requires is_line { IsLine line.now }
+        requires room { self.old.lines + 1 < 2 ^ 64 }
+        ensures told { MatchResult result
+            (λ _. LineDone Done line.now self.old self.new (output (K.held sink.old) out.old) (output (K.held sink.new) out.new))
+            (λ cut. LineCut cut line.now self.old self.new (output (K.held sink.old) out.old) (output (K.held sink.new) out.new)) }
+        ensures still_player { OnOk result (IsPlayer self.new) }
+        ensures later { K.faults sink.old ≤ K.faults sink.new }
+        ensures cause { IfErr result (λ cut. cut ≡ Cut.Unwritten → Rose (K.faults sink.old) (K.faults sink.new)) }
+    {
+        match line_order(line) {
+            None => Err(Cut::Unread {
+                line: self.lines + 1,
+            }),
+            Some(order) => {
+                self.lines += 1;
+                match obey(&order, &mut self.server, out, sink) {
+                    Ok(()) => Ok(()),
+                    Err(_) => Err(Cut::Unwritten),
+                }
+            }
+        }
+    }
+
+    /// Carries out a whole line, which is given without its line feed, where no bytes of a line are kept. A silent one
+    /// is not read, since that takes room for a command.
     fn carry_out<K: Sink>(&mut self, line: &[u8], out: &mut Outbox, sink: &mut K) -> Result<(), Cut>
         requires state { IsState self.old.server.state }
         requires none_kept { self.old.line.items ≡ [] }
@@ -72,18 +96,7 @@ impl Player {
             self.lines += 1;
             return Ok(());
         }
-        match line_order(line) {
-            None => Err(Cut::Unread {
-                line: self.lines + 1,
-            }),
-            Some(order) => {
-                self.lines += 1;
-                match obey(&order, &mut self.server, out, sink) {
-                    Ok(()) => Ok(()),
-                    Err(_) => Err(Cut::Unwritten),
-                }
-            }
-        }
+        self.obey_line(line, out, sink)
     }
 
     /// Carries out the player's line, which is whole.
