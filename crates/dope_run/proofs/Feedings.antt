@@ -2,7 +2,7 @@
 use Rattle.std.proofs.lemmas.Bool.Decides.{nat_tests}
 use Rattle.memchr.specs.Find.{IsFirstByte, is_byte}
 use Rattle.std.proofs.lemmas.Bool.{eqb-true}
-use Rattle.std.proofs.Common.{zero, suc, Option, None, MatchOption, ◌==◌, Result, Ok, Err, MatchResult, ◌≡◌, ◌≢◌, ℕ, ◌+◌, ◌-◌, ◌≤◌, ◌<◌, Bool, true, false, ◌||◌, List, [], ◌∷◌, ◌++◌, length, take, drop, get_or, Some, refl, sym, ap, subst, ◌∙◌, inl, inr, arith, lit≤, append-nil, append_assoc, length-append, length-drop}
+use Rattle.std.proofs.Common.{zero, suc, Option, None, MatchOption, ◌==◌, Result, Ok, Err, MatchResult, ◌≡◌, ℕ, ◌+◌, ◌≤◌, ◌<◌, Bool, true, false, ◌||◌, List, [], ◌∷◌, ◌++◌, length, take, drop, get_or, Some, refl, sym, ap, subst, ◌∙◌, inl, inr, arith, lit≤, append-nil, append_assoc, length-append}
 use Rattle.outside_io.specs.Outbox.{Output, Puts}
 use Rattle.std.proofs.lemmas.List.Elements.{All-nil, All-cons}
 use Rattle.std.proofs.lemmas.List.Folds.{list_any-append, list_any_more}
@@ -181,9 +181,6 @@ has_feed-take : (n : ℕ) (bytes : List ℕ) → has_feed bytes ≡ false → ha
 has_feed-take n bytes clear =
     no_first (has_feed (take n bytes)) (has_feed (drop n bytes)) (sym (list_any-append _ (take n bytes) (drop n bytes)) ∙ ap has_feed (take-append-drop n bytes) ∙ clear)
 
-pub IsLine-stretch : (line bytes : List ℕ) → IsLine line → has_feed bytes ≡ false → length line + length bytes ≤ 520 → IsLine (line ++ bytes)
-IsLine-stretch line bytes is clear room = record { no_feed = has_feed-append line bytes is.no_feed clear; short = (let short : length line + length bytes ≤ 520 = room in omega (arith, length-append line bytes)) }
-
 -- bytes too many for a line
 pub fed_too_long : (old : Player) (bytes : List ℕ) (new : Player) (out : Output) → IsLine old.line.items → has_feed bytes ≡ false → 520 < length old.line.items + length bytes → new.server.state ≡ old.server.state → new.lines ≡ old.lines → Fed (BadScript (old.lines + 1)) old bytes new out out
 fed_too_long old bytes new out is clear many same_state same_lines =
@@ -316,10 +313,6 @@ pub fed_cut_at_feed : (cut : Cut) (a b : Player) (bytes : List ℕ) (feed : ℕ)
 fed_cut_at_feed cut a b bytes feed before after first fed =
     fed_same (status_of cut) a b _ _ before after (take-append-drop (feed + 1) bytes)
     (fed_more cut a b (take (feed + 1) bytes) (drop (feed + 1) bytes) before after (fed_to_feed (status_of cut) a b bytes feed before after first fed))
-
--- what a slice from there to the end has
-pub slice_rest : (taken : ℕ) (bytes : List ℕ) → take (length bytes - taken) (drop taken bytes) ≡ drop taken bytes
-slice_rest taken bytes = take_all (length bytes - taken) (drop taken bytes) (omega (arith, length-drop taken bytes))
 
 -- some bytes more of a piece
 pub fed_next : (status : Status) (a b c : Player) (bytes rest : List ℕ) (taken count : ℕ) (before middle after : Output) → rest ≡ drop taken bytes → Fed Done a (take taken bytes) b before middle → Fed status b (take count rest) c middle after → Fed status a (take (taken + count) bytes) c before after
