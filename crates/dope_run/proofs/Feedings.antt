@@ -1,9 +1,11 @@
 -- How a player goes through bytes, one after another.
 use Rattle.std.proofs.lemmas.Bool.Decides.{nat_tests}
-use Rattle.std.proofs.Common.{Result, Ok, Err, MatchResult, ◌≡◌, ◌≢◌, ℕ, ◌+◌, ◌-◌, ◌≤◌, ◌<◌, Bool, true, false, ◌||◌, List, [], ◌∷◌, ◌++◌, length, take, drop, get_or, Some, refl, sym, ap, subst, ◌∙◌, inl, inr, arith, lit≤, append-nil, append_assoc, length-append, length-drop}
+use Rattle.memchr.specs.Find.{IsFirstByte, is_byte}
+use Rattle.std.proofs.lemmas.Bool.{eqb-true}
+use Rattle.std.proofs.Common.{zero, suc, Option, None, MatchOption, ◌==◌, Result, Ok, Err, MatchResult, ◌≡◌, ℕ, ◌+◌, ◌≤◌, ◌<◌, Bool, true, false, ◌||◌, List, [], ◌∷◌, ◌++◌, length, take, drop, get_or, Some, refl, sym, ap, subst, ◌∙◌, inl, inr, arith, lit≤, append-nil, append_assoc, length-append}
 use Rattle.outside_io.specs.Outbox.{Output, Puts}
 use Rattle.std.proofs.lemmas.List.Elements.{All-nil, All-cons}
-use Rattle.std.proofs.lemmas.List.Folds.{list_any-append}
+use Rattle.std.proofs.lemmas.List.Folds.{list_any-append, list_any_more}
 use Rattle.std.proofs.lemmas.Grind.{flat_map-append}
 use Rattle.std.proofs.lemmas.List.{take_all, take_more, take-append-le, take-append-drop}
 use Rattle.std.proofs.Math.Seq.{take-add}
@@ -179,9 +181,6 @@ has_feed-take : (n : ℕ) (bytes : List ℕ) → has_feed bytes ≡ false → ha
 has_feed-take n bytes clear =
     no_first (has_feed (take n bytes)) (has_feed (drop n bytes)) (sym (list_any-append _ (take n bytes) (drop n bytes)) ∙ ap has_feed (take-append-drop n bytes) ∙ clear)
 
-pub IsLine-stretch : (line bytes : List ℕ) → IsLine line → has_feed bytes ≡ false → length line + length bytes ≤ 520 → IsLine (line ++ bytes)
-IsLine-stretch line bytes is clear room = record { no_feed = has_feed-append line bytes is.no_feed clear; short = (let short : length line + length bytes ≤ 520 = room in omega (arith, length-append line bytes)) }
-
 -- bytes too many for a line
 pub fed_too_long : (old : Player) (bytes : List ℕ) (new : Player) (out : Output) → IsLine old.line.items → has_feed bytes ≡ false → 520 < length old.line.items + length bytes → new.server.state ≡ old.server.state → new.lines ≡ old.lines → Fed (BadScript (old.lines + 1)) old bytes new out out
 fed_too_long old bytes new out is clear many same_state same_lines =
@@ -276,6 +275,32 @@ fed_end_done a b c bytes before after front done = fed_after Done a b c bytes (1
 pub fed_end_cut : (cut : Cut) (a b c : Player) (bytes : List ℕ) (before after : Output) → Fed Done a bytes b before before → IsLine b.line.items → LineCut cut b.line.items b c before after → Fed (status_of cut) a (bytes ++ 10 ∷ []) c before after
 fed_end_cut cut a b c bytes before after front is done = fed_after (status_of cut) a b c bytes (10 ∷ []) before before after front (fed_cut cut b.line.items b (10 ∷ []) c before after is refl done)
 
+-- ---- where the first line feed is
+
+not_so : (b : Bool) → (b ≡ true → ⊥) → b ≡ false
+not_so false never = refl
+not_so true never = absurd (never refl)
+
+-- no line feed below there
+clear_below : (n : ℕ) (bytes : List ℕ) → n ≤ length bytes → ((k : ℕ) → k < n → (get_or bytes k 0 == 10) ≡ true → ⊥) → has_feed (take n bytes) ≡ false
+clear_below zero bytes fits none = refl
+clear_below (suc n) bytes fits none =
+    let inside : n < length bytes = omega arith in
+    let on : suc n ≡ n + 1 = omega arith in
+    let front : has_feed (take n bytes) ≡ false = clear_below n bytes (omega arith) (λ k below. none k (omega arith)) in
+    let here : (get_or bytes n 0 == 10) ≡ false = not_so _ (none n (omega arith)) in
+    ap (λ m. has_feed (take m bytes)) on ∙ list_any_more (λ byte. byte == 10) bytes n 0 inside ∙ ap (λ b. b || (get_or bytes n 0 == 10)) front ∙ here
+
+-- what a search for a line feed says
+pub first_feed : (result : Option ℕ) (bytes : List ℕ) → IsFirstByte (is_byte 10) bytes result → MatchOption result (has_feed bytes ≡ false) (FirstFeed bytes)
+first_feed None bytes none =
+    ap has_feed (sym (take_all (length bytes) bytes (omega arith))) ∙ clear_below (length bytes) bytes (omega arith) (λ k below. none k (omega arith) below)
+first_feed (Some i) bytes found = record {
+  inside = found.0.high;
+  before = clear_below i bytes (let inside : i < length bytes = found.0.high in omega arith) (λ k below. found.0.before k (omega arith) below);
+  here = eqb-true _ _ found.1;
+}
+
 -- the bytes up to the first line feed, and it
 feed_taken : (bytes : List ℕ) (feed : ℕ) → FirstFeed bytes feed → take feed bytes ++ 10 ∷ [] ≡ take (feed + 1) bytes
 feed_taken bytes feed first = ap (λ b. take feed bytes ++ b ∷ []) (sym first.here) ∙ sym (take_more bytes feed 0 first.inside)
@@ -288,10 +313,6 @@ pub fed_cut_at_feed : (cut : Cut) (a b : Player) (bytes : List ℕ) (feed : ℕ)
 fed_cut_at_feed cut a b bytes feed before after first fed =
     fed_same (status_of cut) a b _ _ before after (take-append-drop (feed + 1) bytes)
     (fed_more cut a b (take (feed + 1) bytes) (drop (feed + 1) bytes) before after (fed_to_feed (status_of cut) a b bytes feed before after first fed))
-
--- what a slice from there to the end has
-pub slice_rest : (taken : ℕ) (bytes : List ℕ) → take (length bytes - taken) (drop taken bytes) ≡ drop taken bytes
-slice_rest taken bytes = take_all (length bytes - taken) (drop taken bytes) (omega (arith, length-drop taken bytes))
 
 -- some bytes more of a piece
 pub fed_next : (status : Status) (a b c : Player) (bytes rest : List ℕ) (taken count : ℕ) (before middle after : Output) → rest ≡ drop taken bytes → Fed Done a (take taken bytes) b before middle → Fed status b (take count rest) c middle after → Fed status a (take (taken + count) bytes) c before after

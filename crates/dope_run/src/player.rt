@@ -1,10 +1,10 @@
 //! Playing a script, a stretch of bytes at a time.
-ghost use Rattle.std.specs.Prelude.{◌≡◌, ◌≢◌, ℕ, ◌+◌, ◌<◌, ◌≤◌, ◌^◌, ◌∷◌, ◌++◌, [], true, false, length, take, drop, MatchOption, MatchResult, OnOk, IfOk, IfErr, Some};
+ghost use Rattle.std.specs.Prelude.{◌≡◌, ◌≢◌, ◌+◌, ◌<◌, ◌≤◌, ◌^◌, ◌∷◌, ◌++◌, [], true, false, length, take, MatchOption, MatchResult, OnOk, IfOk, IfErr, Some};
 ghost use Rattle.outside_io.specs.Count.{Rose};
 ghost use Rattle.outside_io.specs.Outbox.{Output, output, flushed};
 ghost use Rattle.desk_model.specs.State.{IsState};
 ghost use Rattle.script_lines.specs.declared.order.Order.TheVariants.{Nothing};
-ghost use Rattle.script_lines.specs.Lines.{line_order};
+ghost use Rattle.script_lines.specs.Lines.{is_silent, line_order};
 ghost use Rattle.dope_run.specs.declared.status.Status.TheVariants.{Done};
 ghost use Rattle.dope_run.specs.Cutting.{status_of};
 ghost use Rattle.dope_run.specs.Framing.{IsLine, has_feed};
@@ -13,6 +13,7 @@ ghost use Rattle.dope_run.specs.Playing.{IsPlayer, FirstFeed, LineDone, LineCut,
 use crate::cut::Cut;
 use crate::obeying::obey;
 use arrayvec::ArrayVec;
+use memchr::memchr;
 use outside_io::{Outbox, Sink};
 use script_lines::laws::comments_ask_for_nothing;
 use script_lines::line_order;
@@ -27,7 +28,7 @@ const LINE_LIMIT: usize = 520;
 #[derive(Drop)]
 pub struct Player {
     pub server: Server,
-    pub line: ArrayVec<u8, 520>,
+    pub line: ArrayVec<u8, LINE_LIMIT>,
     pub lines: u64,
 }
 
@@ -35,17 +36,14 @@ pub struct Player {
 fn feed_in(bytes: &[u8]) -> Option<usize>
     ensures { MatchOption result (has_feed bytes.now ≡ false) (FirstFeed bytes.now) }
 {
-    for (i, byte) in bytes.iter().enumerate() {
-        if *byte == b'\n' {
-            return Some(i);
-        }
-    }
-    None
+    memchr(b'\n', bytes)
 }
 
-/// Whether the line is seen at its first byte to ask for nothing, so that it need not be read.
+/// Whether the line is empty or a comment, so that it asks for nothing and need not be read.
+#[tactic(auto, unfolding(script_lines::specs::Lines::is_silent))]
 fn is_silent(line: &[u8]) -> bool
-    ensures { result ≡ true → line_order line.now ≡ Some Nothing }
+    ensures silent { result ≡ is_silent line.now }
+    ensures nothing { result ≡ true → line_order line.now ≡ Some Nothing }
 {
     comments_ask_for_nothing();
     match line {
@@ -55,7 +53,35 @@ fn is_silent(line: &[u8]) -> bool
 }
 
 impl Player {
-    /// Carries out a whole line, which is given without its line feed, where no bytes of a line are kept.
+    /// Reads a whole line, which is given without its line feed, and carries it out. No bytes of a line are kept.
+    fn obey_line<K: Sink>(&mut self, line: &[u8], out: &mut Outbox, sink: &mut K) -> Result<(), Cut>
+        requires state { IsState self.old.server.state }
+        requires none_kept { self.old.line.items ≡ [] }
+        requires is_line { IsLine line.now }
+        requires room { self.old.lines + 1 < 2 ^ 64 }
+        ensures told { MatchResult result
+            (λ _. LineDone Done line.now self.old self.new (output (K.held sink.old) out.old) (output (K.held sink.new) out.new))
+            (λ cut. LineCut cut line.now self.old self.new (output (K.held sink.old) out.old) (output (K.held sink.new) out.new)) }
+        ensures still_player { OnOk result (IsPlayer self.new) }
+        ensures later { K.faults sink.old ≤ K.faults sink.new }
+        ensures cause { IfErr result (λ cut. cut ≡ Cut.Unwritten → Rose (K.faults sink.old) (K.faults sink.new)) }
+    {
+        match line_order(line) {
+            None => Err(Cut::Unread {
+                line: self.lines + 1,
+            }),
+            Some(order) => {
+                self.lines += 1;
+                match obey(&order, &mut self.server, out, sink) {
+                    Ok(()) => Ok(()),
+                    Err(_) => Err(Cut::Unwritten),
+                }
+            }
+        }
+    }
+
+    /// Carries out a whole line, which is given without its line feed. No bytes of a line are kept. A silent line is
+    /// not read, since reading makes room for a command.
     fn carry_out<K: Sink>(&mut self, line: &[u8], out: &mut Outbox, sink: &mut K) -> Result<(), Cut>
         requires state { IsState self.old.server.state }
         requires none_kept { self.old.line.items ≡ [] }
@@ -72,21 +98,10 @@ impl Player {
             self.lines += 1;
             return Ok(());
         }
-        match line_order(line) {
-            None => Err(Cut::Unread {
-                line: self.lines + 1,
-            }),
-            Some(order) => {
-                self.lines += 1;
-                match obey(&order, &mut self.server, out, sink) {
-                    Ok(()) => Ok(()),
-                    Err(_) => Err(Cut::Unwritten),
-                }
-            }
-        }
+        self.obey_line(line, out, sink)
     }
 
-    /// Carries out the player's line, which is whole.
+    /// Carries out the bytes that the player keeps, which are a whole line.
     pub fn end_line<K: Sink>(&mut self, out: &mut Outbox, sink: &mut K) -> Result<(), Cut>
         requires player { IsPlayer self.old }
         requires room { self.old.lines + 1 < 2 ^ 64 }
@@ -104,8 +119,8 @@ impl Player {
         }
     }
 
-    /// Puts bytes that have no line feed onto the player's line. Where it would pass a line's limit, playing is cut
-    /// off there.
+    /// Puts bytes that have no line feed behind those that are kept of a line. Where the line would pass its limit,
+    /// playing is cut off there.
     fn stretch(&mut self, bytes: &[u8]) -> Result<(), Cut>
         requires player { IsPlayer self.old }
         requires no_feed { has_feed bytes.now ≡ false }
@@ -125,9 +140,14 @@ impl Player {
         }
     }
 
-    /// Takes bytes that have no line feed, and the line feed that stands behind them. Where they are a whole line,
-    /// they are carried out where they stand.
-    fn end_of_line<K: Sink>(&mut self, bytes: &[u8], out: &mut Outbox, sink: &mut K) -> Result<(), Cut>
+    /// Takes bytes that have no line feed, and the line feed behind them, which ends a line. A line of which nothing
+    /// is kept from before is carried out where it stands, with no copy.
+    fn end_of_line<K: Sink>(
+        &mut self,
+        bytes: &[u8],
+        out: &mut Outbox,
+        sink: &mut K,
+    ) -> Result<(), Cut>
         requires player { IsPlayer self.old }
         requires no_feed { has_feed bytes.now ≡ false }
         requires room { self.old.lines + 1 < 2 ^ 64 }

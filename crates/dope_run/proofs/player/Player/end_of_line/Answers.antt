@@ -1,7 +1,6 @@
-use Rattle.std.proofs.Common.{◌≡◌, ◌++◌, ◌∷◌, [], length, ◌≤◌, ap, refl, arith}
+use Rattle.std.proofs.Common.{◌≡◌, ◌++◌, ◌∷◌, [], length, ◌≤◌, ap, arith}
 use Rattle.std.proofs.lemmas.Grind.{common_steps}
 use Rattle.dope_run.specs.Framing.{IsLine}
-use Rattle.dope_run.specs.declared.status.Status.TheVariants.{Done}
 use Rattle.dope_run.proofs.Feedings.{fed_line_feed, fed_end_done, fed_end_cut, fed_more}
 use Rattle.dope_run.proofs.player.Player.end_of_line.Goals as goal
 

@@ -1,4 +1,4 @@
-use Rattle.std.proofs.Common.{◌≡◌, ◌<◌, ◌+◌, length, refl, arith}
+use Rattle.std.proofs.Common.{◌<◌, ◌+◌, length, refl, arith}
 use Rattle.std.proofs.lemmas.Grind.{common_steps}
 use Rattle.dope_run.proofs.Feedings.{fed_stretch, fed_too_long}
 use Rattle.dope_run.proofs.player.Player.stretch.Goals as goal
