@@ -183,35 +183,43 @@ fn breaks_off_in_front(
     })
 }
 
+/// A text of `before`, so many bytes of the desk's colour, and `behind`.
+fn dumped(alloc: Global, before: &str, count: u32, behind: &str) -> Result<Vec<u8>, Fail> {
+    let mut text = before.as_bytes().to_vec(alloc)?;
+    for _ in 0..count {
+        text.push(2)?;
+    }
+    text.extend_from_slice(behind.as_bytes())?;
+    Ok(text)
+}
+
+/// Whether the script writes this text, and a front of it where one of its first eight writes fails, none where
+/// that is the first.
+fn breaks_off_anywhere(
+    alloc: Global,
+    words: &str,
+    script: &str,
+    text: &[u8],
+) -> Result<bool, Fail> {
+    let whole = play(alloc, words, script)?;
+    let first = play_with(alloc, words, script, 4096, &[], &[1])?;
+    let mut broke_off = whole.status == Status::Done
+        && whole.held.as_slice() == text
+        && first.status == Status::WriteFault
+        && first.held.is_empty();
+    for write in 2..9 {
+        broke_off = broke_off && breaks_off_in_front(alloc, words, script, write, text)?;
+    }
+    Ok(broke_off)
+}
+
 #[test]
 fn a_write_fault_in_a_dump_leaves_a_front_of_it(rt: HostRuntime) -> Result<(), Fail> {
-    let mut small = b"dump 16 16\n".to_vec(rt.alloc())?;
-    small.extend_from_slice(&[2; 256])?;
-    small.extend_from_slice(b"\ndirty 0\n")?;
-    let mut large = b"dirty 0\ndump 128 64\n".to_vec(rt.alloc())?;
-    large.extend_from_slice(&[2; 8192])?;
-    large.extend_from_slice(b"\ndirty 0\n")?;
-    let cases = [
-        (SMALL, "dump\ndirty\n", small.as_slice()),
-        (
-            "play --width 128 --height 64 --budget 100 --spare 10",
-            "dirty\ndump\ndirty\n",
-            large.as_slice(),
-        ),
-    ];
-    for (words, script, text) in cases {
-        let whole = play(rt.alloc(), words, script)?;
-        assert_eq!(rt; whole.status, Status::Done);
-        assert!(rt; whole.held.as_slice() == text);
-        let first = play_with(rt.alloc(), words, script, 4096, &[], &[1])?;
-        assert_eq!(rt; first.status, Status::WriteFault);
-        assert!(rt; first.held.is_empty());
-        for write in 2..9 {
-            assert!(rt;
-                breaks_off_in_front(rt.alloc(), words, script, write, text)?,
-                "at write {write}"
-            );
-        }
-    }
+    let small = dumped(rt.alloc(), "dump 16 16\n", 256, "\ndirty 0\n")?;
+    assert!(rt; breaks_off_anywhere(rt.alloc(), SMALL, "dump\ndirty\n", small.as_slice())?);
+
+    let large = dumped(rt.alloc(), "dirty 0\ndump 128 64\n", 8192, "\ndirty 0\n")?;
+    let words = "play --width 128 --height 64 --budget 100 --spare 10";
+    assert!(rt; breaks_off_anywhere(rt.alloc(), words, "dirty\ndump\ndirty\n", large.as_slice())?);
     Ok(())
 }
