@@ -8,6 +8,7 @@ use Rattle.desk_model.specs.Named.{rows_of_others}
 use Rattle.desk_model.specs.Widgets.{is_joined}
 use Rattle.desk_model.specs.Desk.{Desk, is_connected}
 use Rattle.desk_model.specs.Refusing.{when, first_refusal, outcome}
+use Rattle.desk_model.specs.Ending.{event_end}
 
 -- the desk with one more client
 abbrev pub with_client : ℕ → Desk → Desk
@@ -16,7 +17,7 @@ with_client client desk = record desk { clients = desk.clients ++ client ∷ [] 
 -- `connect`. `short`: there is no memory for it.
 unfoldable pub step_connect : Desk → ℕ → Bool → Reply × Desk
 step_connect desk client short =
-    outcome desk (first_refusal (when (is_connected desk client) Connected ∷ when short Memory ∷ [])) (Done, with_client client desk)
+    event_end (outcome desk (first_refusal (when (is_connected desk client) Connected ∷ when short Memory ∷ [])) (Done, with_client client desk))
 
 -- the least of the `many` numbers from `from` on that isn't connected
 abbrev pub free_from : ℕ → ℕ → List ℕ → Option ℕ
@@ -34,7 +35,7 @@ hello_effect desk (Some client) = (Number (pos client), with_client client desk)
 
 unfoldable pub step_hello : Desk → Bool → Reply × Desk
 step_hello desk short =
-    outcome desk (first_refusal (when (is_none (free_client desk.clients)) (Full 16) ∷ when short Memory ∷ [])) (hello_effect desk (free_client desk.clients))
+    event_end (outcome desk (first_refusal (when (is_none (free_client desk.clients)) (Full 16) ∷ when short Memory ∷ [])) (hello_effect desk (free_client desk.clients)))
 
 -- A client leaves with its windows, widgets, admissions and events.
 abbrev pub without_client : ℕ → Desk → Desk
@@ -49,4 +50,4 @@ without_client client desk =
 
 -- `bye`
 unfoldable pub step_bye : Desk → ℕ → Reply × Desk
-step_bye desk client = outcome desk (when (not (is_connected desk client)) NotConnected) (Done, without_client client desk)
+step_bye desk client = event_end (outcome desk (when (not (is_connected desk client)) NotConnected) (Done, without_client client desk))

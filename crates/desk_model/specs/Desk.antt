@@ -1,12 +1,13 @@
 -- The desk: what the sequential server keeps. Widgets are named by client and name. No frame is admitted and no
--- event is kept yet, so the roster and the rings are empty, and the pointer is as at opening.
-use Rattle.std.specs.Prelude.{ℕ, Bool, ◌&&◌, nat_eq, List, []}
+-- event is kept yet, so the roster and the rings are empty.
+use Rattle.std.specs.Prelude.{ℕ, ℤ, Bool, ◌&&◌, nat_eq, List, []}
 use Rattle.std.specs.List.{list_any}
 use Rattle.std.specs.Str.{bytes_eq}
 use Rattle.kind_core.specs.declared.kinds.EventKind.{EventKind}
 use Rattle.kind_core.specs.declared.shapes.Shape.{Shape}
 use Rattle.desk_model.specs.Rows.{Row}
-use Rattle.desk_model.specs.Pointer.{Pointer, opening_pointer}
+use Rattle.desk_model.specs.declared.pointer.Pointer.{Pointer}
+use Rattle.desk_model.specs.Pointer.{opening_pointer}
 
 -- an admitted VScreen, with the pixels that it may be drawn in a tick
 pub record Admission : Type 0 where
@@ -14,10 +15,11 @@ pub record Admission : Type 0 where
   pub name : List ℕ
   pub share : ℕ
 
--- the events kept for a client, the oldest first, each with its tag and two numbers, and how many were lost
+-- the events kept for a client, the oldest first, each with its tag and two numbers, which may be negative (a
+-- release can be left of its widget or above it), and how many were lost
 pub record Ring : Type 0 where
   pub client : ℕ
-  pub kept : List (List ℕ × EventKind × ℕ × ℕ)
+  pub kept : List (List ℕ × EventKind × ℤ × ℤ)
   pub lost : ℕ
 
 pub record Desk : Type 0 where

@@ -1,8 +1,9 @@
 -- What holds of the desk at every moment.
-use Rattle.std.specs.Prelude.{ℕ, ◌≡◌, ◌≤◌, Bool, true, false, List, [], ◌∷◌}
+use Rattle.std.specs.Prelude.{ℕ, ◌≡◌, ◌≤◌, Bool, true, false, ◌&&◌, ◌||◌, nat_eq, is_none, length, List, [], ◌∷◌}
 use Rattle.std.specs.List.{list_all, list_any}
 use Rattle.std.specs.Option.{option_map_or}
 use Rattle.kind_core.specs.declared.kinds.Kind.{Kind}
+use Rattle.desk_model.specs.Shapes.{IsShape}
 use Rattle.desk_model.specs.Rows.{Row}
 use Rattle.desk_model.specs.Nodes.{any_kind, counts_with}
 use Rattle.desk_model.specs.Named.{row_named, has_name, rows_counted, is_kind_of}
@@ -11,7 +12,8 @@ use Rattle.desk_model.specs.Forest.{is_client}
 use Rattle.desk_model.specs.Planted.{IsPlanted}
 use Rattle.desk_model.specs.Fitting.{fits_table, fits_rules}
 use Rattle.desk_model.specs.Desk.{Desk, is_connected, is_window}
-use Rattle.desk_model.specs.Linking.{is_variable_kind, is_window_kind}
+use Rattle.desk_model.specs.Linking.{can_link, is_variable_kind, is_window_kind}
+use Rattle.desk_model.specs.Ending.{let_go}
 
 -- No client is connected twice.
 abbrev pub AreConnectedOnce : List ℕ → Type 0
@@ -27,12 +29,21 @@ AreNamedApart (row ∷ rows) = (list_any (has_name row.client row.name) rows ≡
 abbrev pub links_right : List Row → Row → Bool
 links_right rows row = option_map_or (λ name. is_kind_of is_variable_kind (row_named rows row.client name)) row.link true
 
+-- A row has a rule for each of 16 columns and 16 rows, and a place for the tag of each of the seven events.
+abbrev pub has_places : Row → Bool
+has_places row = nat_eq (length row.column_rules) 16 && (nat_eq (length row.row_rules) 16 && nat_eq (length row.bindings) 7)
+
+-- Only a row whose kind can be linked has a link.
+abbrev pub links_by_kind : Row → Bool
+links_by_kind row = is_none row.link || can_link row.kind
+
 -- No window is open twice.
 abbrev pub AreOpenOnce : List (ℕ × List ℕ) → Type 0
 AreOpenOnce [] = Unit {0}
 AreOpenOnce (window ∷ windows) = (list_any (is_window window.0 window.1) windows ≡ false) × AreOpenOnce windows
 
 pub record IsDesk (desk : Desk) : Type 0 where
+  pub shape : IsShape desk.shape
   pub clients : list_all is_client desk.clients ≡ true
   pub connected_once : AreConnectedOnce desk.clients
   pub owners : list_all (λ row. is_connected desk row.client) desk.rows ≡ true
@@ -41,8 +52,12 @@ pub record IsDesk (desk : Desk) : Type 0 where
   pub most_alike : (client : ℕ) (kind : Kind) → rows_counted client (counts_with kind) desk.rows ≤ 8
   pub planted : IsPlanted desk.rows
   pub linked : list_all (links_right desk.rows) desk.rows ≡ true
+  pub linked_by_kind : list_all links_by_kind desk.rows ≡ true
   pub fitting : list_all fits_table desk.rows ≡ true
   pub rules : list_all fits_rules desk.rows ≡ true
+  pub places : list_all has_places desk.rows ≡ true
   -- an open window is one of the Windows, and is open once
   pub windows : list_all (λ window. is_kind_of is_window_kind (row_named desk.rows window.0 window.1)) desk.windows ≡ true
   pub once : AreOpenOnce desk.windows
+  -- nothing is grabbed and nothing has the focus that is neither an open window nor under one
+  pub held : let_go desk ≡ desk

@@ -1,6 +1,6 @@
 -- What holds of every run of the machine: no tick writes more than the budget, and the screen comes right
 -- while nothing but ticks happens.
-use Rattle.std.specs.Prelude.{◌≡◌, ℕ, ◌+◌, ◌-◌, ◌*◌, ◌≤◌, List, ◌++◌, length}
+use Rattle.std.specs.Prelude.{◌≡◌, ℕ, ◌+◌, ◌-◌, ◌*◌, ◌/◌, ◌≤◌, List, ◌++◌, length}
 use Rattle.std.specs.List.{All}
 use Rattle.desk_model.specs.Picture.{picture}
 use Rattle.desk_model.specs.State.{State, dirty_count}
@@ -22,11 +22,24 @@ KeepsBudget from moments = All (λ (moment : Moment). written moment.answer ≤ 
 abbrev pub IsUndisturbed : List Moment → Type 0
 IsUndisturbed moments = All (λ (moment : Moment). moment.event ≡ Tick) moments
 
--- After n undisturbed ticks the dirty pixels have fallen by n times the spare, or to none; and where none is
--- dirty the screen is the desk drawn afresh.
+-- n divided by d, rounded up
+abbrev pub ceil_div : ℕ → ℕ → ℕ
+ceil_div n d = (n + d - 1) / d
+
+-- the ticks after which no pixel can be dirty: the dirty pixels divided by the spare, rounded up
+abbrev pub enough_ticks : State → ℕ
+enough_ticks state = ceil_div (dirty_count state) state.desk.shape.spare
+
+-- the screen is the desk drawn afresh
+abbrev pub IsDrawnAfresh : State → Type 0
+IsDrawnAfresh state = state.screen ≡ picture state.desk
+
+-- After n undisturbed ticks the dirty pixels have fallen by n times the spare, or to none; where none is dirty the
+-- screen is the desk drawn afresh; and so it is after enough ticks.
 pub record ComesRight (from : State) (ticks : List Moment) : Type 0 where
   pub fewer : dirty_count (state_after from ticks) ≤ dirty_count from - length ticks * from.desk.shape.spare
-  pub right : dirty_count (state_after from ticks) ≡ 0 → (state_after from ticks).screen ≡ picture (state_after from ticks).desk
+  pub right : dirty_count (state_after from ticks) ≡ 0 → IsDrawnAfresh (state_after from ticks)
+  pub afresh : enough_ticks from ≤ length ticks → IsDrawnAfresh (state_after from ticks)
 
 -- wherever in a run only ticks happen for a while
 abbrev pub ComesRightThroughout : State → List Moment → Type 0

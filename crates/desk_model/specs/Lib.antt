@@ -1,7 +1,6 @@
 pub mod Shapes
 pub mod Windows
 pub mod OpenWindows
-pub mod Budgeted
 pub mod Picture
 pub mod Reach
 pub mod Beat
@@ -23,6 +22,7 @@ pub mod Fitting
 pub mod Places
 pub mod Pointer
 pub mod Desk
+pub mod Ending
 pub mod Refusing
 pub mod AttrOptions
 pub mod PlaceOptions

@@ -1,12 +1,18 @@
 -- What a client does touches its own part of the desk alone, and what it is answered depends on that part alone.
-use Rattle.std.specs.Prelude.{ℕ, ◌≡◌, Bool, false, not, nat_eq, List}
+use Rattle.std.specs.Prelude.{ℕ, ◌≡◌, ◌⊎◌, Bool, false, not, nat_eq, List, Option, Some, None}
+use Rattle.std.specs.Option.{option_map}
 use Rattle.std.specs.List.{filter}
 use Rattle.cmd_words.specs.declared.commands.Command.{Command}
+use Rattle.cmd_words.specs.declared.replies.Reply.{Reply}
+use Rattle.desk_model.specs.declared.pointer.Pointer.{Pointer}
+use Rattle.desk_model.specs.declared.pointer.Grab.{Grab}
+use Rattle.desk_model.specs.declared.pointer.Grab.TheVariants.{Nothing, Widget, Drag}
 use Rattle.desk_model.specs.Rows.{Row}
 use Rattle.desk_model.specs.Named.{rows_of_others}
 use Rattle.desk_model.specs.Desk.{Desk, is_connected}
 use Rattle.desk_model.specs.Clients.{step_connect, step_bye}
 use Rattle.desk_model.specs.Commands.{step}
+use Rattle.desk_model.specs.DeskFacts.{IsDesk}
 
 abbrev pub own_rows : ℕ → List Row → List Row
 own_rows client rows = filter (λ row. nat_eq client row.client) rows
@@ -18,26 +24,46 @@ own_windows client windows = filter (λ window. nat_eq client window.0) windows
 abbrev pub windows_of_others : ℕ → List (ℕ × List ℕ) → List (ℕ × List ℕ)
 windows_of_others client windows = filter (λ window. not (nat_eq client window.0)) windows
 
+-- whether the grab, or the focus, is on a widget of the client
+abbrev pub IsGrabOf : ℕ → Grab → Type 0
+IsGrabOf client Nothing = ⊥
+IsGrabOf client (Widget owner name) = owner ≡ client
+IsGrabOf client (Drag owner name dx dy) = owner ≡ client
+
+abbrev pub IsFocusOf : ℕ → Option (ℕ × List ℕ) → Type 0
+IsFocusOf client None = ⊥
+IsFocusOf client (Some widget) = widget.0 ≡ client
+
+-- The pointer stays where it is, up or down, and so do its grab and focus; only where they are on the client's own
+-- widgets they may become none.
+pub record LeavesPointer (client : ℕ) (old new : Pointer) : Type 0 where
+  pub x : new.x ≡ old.x
+  pub y : new.y ≡ old.y
+  pub down : new.down ≡ old.down
+  pub grab : (new.grab ≡ old.grab) ⊎ (IsGrabOf client old.grab × (new.grab ≡ Nothing))
+  pub focus : (new.focus ≡ old.focus) ⊎ (IsFocusOf client old.focus × (new.focus ≡ None))
+
 -- What is not the client's is as it was: who else is connected, the others' rows, the order of their windows, their
--- admissions and events, and the pointer with its grab and focus.
+-- admissions and events, and the pointer but for its hold on the client's own widgets.
 pub record LeavesOthers (client : ℕ) (old new : Desk) : Type 0 where
   pub shape : new.shape ≡ old.shape
   pub clients : (other : ℕ) → nat_eq client other ≡ false → is_connected new other ≡ is_connected old other
   pub rows : rows_of_others client new.rows ≡ rows_of_others client old.rows
   pub windows : windows_of_others client new.windows ≡ windows_of_others client old.windows
-  pub pointer : new.pointer ≡ old.pointer
+  pub pointer : LeavesPointer client old.pointer new.pointer
   pub roster : filter (λ admission. not (nat_eq client admission.client)) new.roster ≡ filter (λ admission. not (nat_eq client admission.client)) old.roster
   pub rings : filter (λ ring. not (nat_eq client ring.client)) new.rings ≡ filter (λ ring. not (nat_eq client ring.client)) old.rings
 
--- A client's command, its coming and its going leave the others' parts as they were.
+-- A client's command, its coming and its going leave the others' parts of a valid desk as they were.
 abbrev pub CommandsLeaveOthers : Type 0
-CommandsLeaveOthers = (desk : Desk) (client : ℕ) (command : Command) (short : Bool) → LeavesOthers client desk (step desk client command short).1
+CommandsLeaveOthers =
+    (desk : Desk) (client : ℕ) (command : Command) (short : Bool) (reply : Reply) (next : Desk) → IsDesk desk → step desk client command short ≡ Some (reply, next) → LeavesOthers client desk next
 
 abbrev pub ConnectsLeaveOthers : Type 0
-ConnectsLeaveOthers = (desk : Desk) (client : ℕ) (short : Bool) → LeavesOthers client desk (step_connect desk client short).1
+ConnectsLeaveOthers = (desk : Desk) (client : ℕ) (short : Bool) → IsDesk desk → LeavesOthers client desk (step_connect desk client short).1
 
 abbrev pub ByesLeaveOthers : Type 0
-ByesLeaveOthers = (desk : Desk) (client : ℕ) → LeavesOthers client desk (step_bye desk client).1
+ByesLeaveOthers = (desk : Desk) (client : ℕ) → IsDesk desk → LeavesOthers client desk (step_bye desk client).1
 
 -- Two desks agree on the client's part: whether it is connected, its rows and its open windows.
 pub record AgreeOn (client : ℕ) (one two : Desk) : Type 0 where
@@ -46,10 +72,14 @@ pub record AgreeOn (client : ℕ) (one two : Desk) : Type 0 where
   pub rows : own_rows client one.rows ≡ own_rows client two.rows
   pub windows : own_windows client one.windows ≡ own_windows client two.windows
 
+-- the reply of a step, none where there is no step
+abbrev pub reply_of : Option (Reply × Desk) → Option Reply
+reply_of stepped = option_map (λ done. done.0) stepped
+
 -- Such desks answer each command of the client alike, under the same want of memory.
 abbrev pub AnswersDependOnOwnPart : Type 0
 AnswersDependOnOwnPart =
-    (one two : Desk) (client : ℕ) (command : Command) (short : Bool) → AgreeOn client one two → (step one client command short).0 ≡ (step two client command short).0
+    (one two : Desk) (client : ℕ) (command : Command) (short : Bool) → AgreeOn client one two → reply_of (step one client command short) ≡ reply_of (step two client command short)
 
 abbrev pub ConnectsDependOnOwnPart : Type 0
 ConnectsDependOnOwnPart =

@@ -5,7 +5,7 @@ use Rattle.std.specs.List.{count_by}
 use Rattle.kind_core.specs.declared.shapes.Shape.{Shape}
 use Rattle.desk_model.specs.Shapes.{area}
 use Rattle.desk_model.specs.Desk.{Desk, opening_desk}
-use Rattle.desk_model.specs.Budgeted.{IsBudgeted}
+use Rattle.desk_model.specs.DeskFacts.{IsDesk}
 use Rattle.desk_model.specs.Picture.{colour}
 
 pub record State : Type 0 where
@@ -42,9 +42,10 @@ seen_at state x y = if nat_lt x state.desk.shape.width && nat_lt y state.desk.sh
 unfoldable pub opening : Shape → State
 opening shape = record { desk = opening_desk shape; screen = replicate (area shape) 2; dirt = replicate (area shape) false }
 
--- Between any two events the lists have the screen's size, and each pixel is dirty or has its colour.
+-- Between any two events what holds of a desk holds, the lists have the screen's size, and each pixel is dirty or
+-- has its colour.
 pub record IsState (state : State) : Type 0 where
-  pub desk : IsBudgeted state.desk
+  pub desk : IsDesk state.desk
   pub screen : length state.screen ≡ area state.desk.shape
   pub dirt : length state.dirt ≡ area state.desk.shape
   pub current : EachPixel state.desk.shape (λ x y. is_dirty state x y ≡ false → byte_at state x y ≡ colour state.desk x y)

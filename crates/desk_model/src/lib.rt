@@ -3,8 +3,10 @@
 //! docs/MACHINE.md reads them in prose.
 #![tactic(auto)]
 
+mod pointer;
 mod window;
 
 pub use cmd_words::Drew;
 pub use kind_core::Shape;
+pub use pointer::{Grab, Pointer};
 pub use window::Window;
