@@ -3,7 +3,7 @@ use Rattle.std.proofs.Common.{◌≡◌, ℕ, Bool, true, false, cond, not, nat_
 use Rattle.std.proofs.lemmas.Bool.{true≢false, and_parts, and_from, not-true}
 use Rattle.std.specs.List.{list_all, filter}
 use Rattle.std.specs.Option.{option_map_or}
-use Rattle.kind_core.specs.declared.shapes.Shape.{Shape}
+use Rattle.desk_core.specs.declared.setting.Setting.{Setting}
 use Rattle.stack_core.specs.Stack.{IsStack}
 use Rattle.desk_model.specs.Rows.{Row}
 use Rattle.desk_model.specs.Nodes.{Node, node_at}
@@ -64,9 +64,9 @@ others_rules (e ∷ es) client old = by (others_rules es client parts.1) (not (n
     by rest false = rest
 
 -- the desk without the client
-pub desk_of-departed : (shape : Shape) (w : Widgets) (client : ℕ) (keys : List ℕ) → list_all (names_window (nodes w.entries)) keys ≡ true → desk_of shape (departed client w) (filter (is_others (nodes w.entries) client) keys) ≡ without_client client (desk_of shape w keys)
-desk_of-departed shape w client keys windows =
-    ap₂ (λ (rs : List Row) (ws : List (ℕ × List ℕ)). record (desk_of shape (departed client w) []) { rows = rs; windows = ws }) (rows_of-departed w client) (others_titles w.entries client keys windows ∙ windows_at-filter (nodes w.entries) client keys)
+pub desk_of-departed : (setting : Setting) (w : Widgets) (client : ℕ) (keys : List ℕ) → list_all (names_window (nodes w.entries)) keys ≡ true → desk_of setting (departed client w) (filter (is_others (nodes w.entries) client) keys) ≡ without_client client (desk_of setting w keys)
+desk_of-departed setting w client keys windows =
+    ap₂ (λ (rs : List Row) (ws : List (ℕ × List ℕ)). record (desk_of setting (departed client w) []) { rows = rs; windows = ws }) (rows_of-departed w client) (others_titles w.entries client keys windows ∙ windows_at-filter (nodes w.entries) client keys)
 
 pub IsStanding-departed : (joined : List ℕ) (w : Widgets) (client : ℕ) (keys : List ℕ) → IsStanding joined w keys → AreConnectedOnce (filter (λ other. not (nat_eq client other)) joined) → IsWidgets (departed client w) → IsStack (filter (is_others (nodes w.entries) client) keys) → IsStanding (filter (λ other. not (nat_eq client other)) joined) (departed client w) (filter (is_others (nodes w.entries) client) keys)
 IsStanding-departed joined w client keys kept once valid stack =

@@ -94,9 +94,9 @@ did_all step old new keys reply did standing valid =
     let O : List ℕ → Type 0 = λ clients. AreConnectedOnce clients in
     let titles = titles_kept (nodes old.entries) (nodes new.entries) keys did.kept standing.windows in
     record {
-      answer = λ shape.
-          ap₂ (λ (clients : List ℕ) (windows : List (ℕ × List ℕ)). (reply, record (desk_of shape old keys) { clients = clients; rows = rows_of new; windows = windows })) did.clients titles
-          ∙ did.answer (desk_of shape old keys);
+      answer = λ setting.
+          ap₂ (λ (clients : List ℕ) (windows : List (ℕ × List ℕ)). (reply, record (desk_of setting old keys) { clients = clients; rows = rows_of new; windows = windows })) did.clients titles
+          ∙ did.answer (desk_of setting old keys);
       clients = did.clients;
       kept = record { clients = refl; once = subst O (sym did.clients) standing.once; tree = valid; stack = standing.stack; windows = windows_kept (nodes old.entries) (nodes new.entries) keys did.kept standing.windows; rules = did.rules standing.rules };
     }

@@ -81,10 +81,10 @@ dropped_all w new client name key kind keys reply kept found closed unused left 
     subst P (sym left)
     (λ sound.
     record {
-      answer = λ shape.
-          ap₂ (λ (rs : List Row) (windows : List (ℕ × List ℕ)). (reply, record (desk_of shape w keys) { rows = rs; windows = windows })) gone (titles_left w.entries key keys closed)
-          ∙ ap (λ (r : Reply). (r, record (desk_of shape w keys) { rows = without_named client name (rows_of w) })) replied
-          ∙ sym (step_drop-by (desk_of shape w keys) client name (Some found.row) false found.named shut ∙ rw unused refl);
+      answer = λ setting.
+          ap₂ (λ (rs : List Row) (windows : List (ℕ × List ℕ)). (reply, record (desk_of setting w keys) { rows = rs; windows = windows })) gone (titles_left w.entries key keys closed)
+          ∙ ap (λ (r : Reply). (r, record (desk_of setting w keys) { rows = without_named client name (rows_of w) })) replied
+          ∙ sym (step_drop-by (desk_of setting w keys) client name (Some found.row) false found.named shut ∙ rw unused refl);
       clients = refl;
       kept = record { clients = refl; once = kept.once; tree = sound; stack = kept.stack; windows = windows_left w.entries key keys closed kept.windows; rules = rules_left w.entries key kept.rules };
     })

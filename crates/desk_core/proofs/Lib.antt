@@ -20,3 +20,5 @@ pub mod Departing
 pub mod Linked
 pub mod Valid
 pub mod ByeTells
+mod Holding
+mod Endings

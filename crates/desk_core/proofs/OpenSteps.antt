@@ -6,7 +6,7 @@ use Rattle.std.specs.List.{list_all, list_any, count_by}
 use Rattle.std.specs.Option.{option_map, option_map_or}
 use Rattle.kind_core.specs.declared.kinds.Kind.{Kind}
 use Rattle.kind_core.specs.declared.kinds.Kind.TheVariants.{Window}
-use Rattle.kind_core.specs.declared.shapes.Shape.{Shape}
+use Rattle.desk_core.specs.declared.setting.Setting.{Setting}
 use Rattle.cmd_words.specs.declared.replies.Reply.{Reply}
 use Rattle.cmd_words.specs.declared.replies.Reply.TheVariants.{Done, Refused}
 use Rattle.cmd_words.specs.declared.replies.Refusal.{Refusal}
@@ -191,9 +191,9 @@ unfolding step_open
 step_open-by desk client name row b h k = rw (h, k) refl
 
 -- a step that leaves the widgets and the windows
-pub refused_all : (step : Desk → Reply × Desk) (w : Widgets) (keys : List ℕ) (reply : Reply) (refusal : Refusal) → IsStanding w.clients w keys → reply ≡ Refused refusal → ((shape : Shape) → step (desk_of shape w keys) ≡ (Refused refusal, desk_of shape w keys)) → DidAll step w w keys keys reply
+pub refused_all : (step : Desk → Reply × Desk) (w : Widgets) (keys : List ℕ) (reply : Reply) (refusal : Refusal) → IsStanding w.clients w keys → reply ≡ Refused refusal → ((setting : Setting) → step (desk_of setting w keys) ≡ (Refused refusal, desk_of setting w keys)) → DidAll step w w keys keys reply
 refused_all step w keys reply refusal kept replied answer =
-    record { answer = λ shape. ap (λ (r : Reply). (r, desk_of shape w keys)) replied ∙ sym (answer shape); clients = refl; kept = kept }
+    record { answer = λ setting. ap (λ (r : Reply). (r, desk_of setting w keys)) replied ∙ sym (answer setting); clients = refl; kept = kept }
 
 pub opened_all : (w : Widgets) (client : ℕ) (name : List ℕ) (key : ℕ) (kind : Kind) (keys keys' : List ℕ) (reply : Reply) → IsStanding w.clients w keys → IsFound w client name key kind → is_window_kind kind ≡ true → holds_key keys key ≡ false → keys' ≡ key ∷ keys → IsStack keys' → reply ≡ Done → DidAll (λ desk. step_open desk client name) w w keys keys' reply
 opened_all w client name key kind keys keys' reply kept found window new pushed stack replied =
@@ -202,10 +202,10 @@ opened_all w client name key kind keys keys' reply kept found window new pushed 
     let P : List ℕ → Type 0 = λ ks. list_all (names_window (nodes w.entries)) ks ≡ true in
     let closed = is_open-holds_key w client name key kind keys kept.tree.forest.own_names found kept.windows ∙ new in
     record {
-      answer = λ shape.
-          ap₂ (λ (r : Reply) (ks : List ℕ). (r, desk_of shape w ks)) replied pushed
-          ∙ ap (λ (t : ℕ × List ℕ). (Done, record (desk_of shape w keys) { windows = t ∷ windows_at (nodes w.entries) keys })) title
-          ∙ sym (step_open-by (desk_of shape w keys) client name (Some found.row) false found.named closed ∙ rw right refl);
+      answer = λ setting.
+          ap₂ (λ (r : Reply) (ks : List ℕ). (r, desk_of setting w ks)) replied pushed
+          ∙ ap (λ (t : ℕ × List ℕ). (Done, record (desk_of setting w keys) { windows = t ∷ windows_at (nodes w.entries) keys })) title
+          ∙ sym (step_open-by (desk_of setting w keys) client name (Some found.row) false found.named closed ∙ rw right refl);
       clients = refl;
       kept = record { clients = kept.clients; once = kept.once; tree = kept.tree; stack = stack; windows = subst P (sym pushed) (and_from _ _ (found-window w client name key kind found window) kept.windows); rules = kept.rules };
     }

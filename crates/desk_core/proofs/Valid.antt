@@ -3,7 +3,7 @@ use Rattle.std.proofs.Common.{◌≡◌, ℕ, true, false, List, [], ◌∷◌, 
 use Rattle.std.proofs.lemmas.Bool.{true≢false, and_parts, and_from}
 use Rattle.std.specs.List.{list_all, list_any}
 use Rattle.std.specs.Option.{option_map}
-use Rattle.kind_core.specs.declared.shapes.Shape.{Shape}
+use Rattle.desk_core.specs.declared.setting.Setting.{Setting}
 use Rattle.stack_core.specs.Stack.{AreDistinct}
 use Rattle.desk_model.specs.Rows.{Row}
 use Rattle.desk_model.specs.Nodes.{Node, node_of, node_at, any_kind, counts_with}
@@ -58,7 +58,7 @@ IsTitled-names_window widgets key forest window = by (row_at widgets.entries key
         }
 
 -- each open window is a row of the kind Window
-windows-named : (widgets : Widgets) (keys : List ℕ) → IsForest widgets.clients (nodes widgets.entries) → list_all (names_window (nodes widgets.entries)) keys ≡ true → list_all (λ (window : ℕ × List ℕ). is_kind_of is_window_kind (row_named (rows_of widgets) window.0 window.1)) (windows_at (nodes widgets.entries) keys) ≡ true
+pub windows-named : (widgets : Widgets) (keys : List ℕ) → IsForest widgets.clients (nodes widgets.entries) → list_all (names_window (nodes widgets.entries)) keys ≡ true → list_all (λ (window : ℕ × List ℕ). is_kind_of is_window_kind (row_named (rows_of widgets) window.0 window.1)) (windows_at (nodes widgets.entries) keys) ≡ true
 windows-named widgets [] forest windows = refl
 windows-named widgets (key ∷ keys) forest windows =
     let parts = and_parts (names_window (nodes widgets.entries) key) (list_all (names_window (nodes widgets.entries)) keys) windows in
@@ -79,8 +79,8 @@ AreOpenOnce-windows_at widgets (key ∷ keys) forest windows distinct =
     is_open-holds_key widgets row.client row.name key row.kind keys forest.own_names titled.found parts.1 ∙ distinct.0 in
     (rw titled.title apart, AreOpenOnce-windows_at widgets keys forest parts.1 distinct.1)
 
-pub IsDesk-parts : (shape : Shape) (clients : List ℕ) (widgets : Widgets) (keys : List ℕ) → IsStanding clients widgets keys → IsDesk (desk_of shape widgets keys)
-IsDesk-parts shape clients widgets keys kept =
+pub IsDesk-parts : (setting : Setting) (clients : List ℕ) (widgets : Widgets) (keys : List ℕ) → IsStanding clients widgets keys → IsDesk (desk_of setting widgets keys)
+IsDesk-parts setting clients widgets keys kept =
     let forest = kept.tree.forest in
     let O : List ℕ → Type 0 = λ clients. AreConnectedOnce clients in
     record {
@@ -99,12 +99,12 @@ IsDesk-parts shape clients widgets keys kept =
     }
 
 -- where a client connects, the rows and the open windows are as they were
-pub IsDesk-joined : (shape : Shape) (clients now : List ℕ) (old new : Widgets) (client : ℕ) (keys : List ℕ) → IsStanding clients old keys → IsWidgets new → new ≡ joined client old → now ≡ clients ++ client ∷ [] → AreConnectedOnce now → IsDesk (desk_of shape new keys)
-IsDesk-joined shape clients now old new client keys kept tree left added once =
+pub IsDesk-joined : (setting : Setting) (clients now : List ℕ) (old new : Widgets) (client : ℕ) (keys : List ℕ) → IsStanding clients old keys → IsWidgets new → new ≡ joined client old → now ≡ clients ++ client ∷ [] → AreConnectedOnce now → IsDesk (desk_of setting new keys)
+IsDesk-joined setting clients now old new client keys kept tree left added once =
     let O : List ℕ → Type 0 = λ cs. AreConnectedOnce cs in
     let same : new.entries ≡ old.entries = ap (λ (w : Widgets). w.entries) left in
     let more : now ≡ new.clients = added ∙ ap (λ (cs : List ℕ). cs ++ client ∷ []) kept.clients ∙ sym (ap (λ (w : Widgets). w.clients) left) in
-    IsDesk-parts shape new.clients new keys
+    IsDesk-parts setting new.clients new keys
     (record {
       clients = refl;
       once = subst O more once;
@@ -115,7 +115,7 @@ IsDesk-joined shape clients now old new client keys kept tree left added once =
     })
 
 -- where none could, all is as it was
-pub IsDesk-same : (shape : Shape) (clients : List ℕ) (old new : Widgets) (keys : List ℕ) → IsStanding clients old keys → new ≡ old → IsDesk (desk_of shape new keys)
-IsDesk-same shape clients old new keys kept same =
-    let D : Widgets → Type 0 = λ w. IsDesk (desk_of shape w keys) in
-    subst D (sym same) (IsDesk-parts shape clients old keys kept)
+pub IsDesk-same : (setting : Setting) (clients : List ℕ) (old new : Widgets) (keys : List ℕ) → IsStanding clients old keys → new ≡ old → IsDesk (desk_of setting new keys)
+IsDesk-same setting clients old new keys kept same =
+    let D : Widgets → Type 0 = λ w. IsDesk (desk_of setting w keys) in
+    subst D (sym same) (IsDesk-parts setting clients old keys kept)

@@ -4,7 +4,7 @@ use Rattle.std.proofs.lemmas.Bool.{true≢false, and_parts}
 use Rattle.std.specs.List.{list_all}
 use Rattle.std.specs.Option.{option_map}
 use Rattle.kind_core.specs.declared.kinds.Attr.TheVariants.{X, Y, W, H}
-use Rattle.kind_core.specs.declared.shapes.Shape.{Shape}
+use Rattle.desk_core.specs.declared.setting.Setting.{Setting}
 use Rattle.kind_core.specs.declared.values.Value as value
 use Rattle.desk_model.specs.Rows.{Row, attr_of}
 use Rattle.desk_model.specs.Nodes.{Node, node_of, node_at}
@@ -68,18 +68,18 @@ sides_of_row None x y w h a b d e = absurd (cc)
 sides_of_row (Some row) x y w h a b d e = cc
 
 -- the place of the window with that index is that of its number's row
-pub open_windows-key : (shape : Shape) (w : Widgets) (clients : List ℕ) (keys : List ℕ) (i key : ℕ) → IsStanding clients w keys → slice_get keys i ≡ Some key → slice_get (open_windows (desk_of shape w keys)) i ≡ Some (place_of_row (row_at w.entries key))
+pub open_windows-key : (setting : Setting) (w : Widgets) (clients : List ℕ) (keys : List ℕ) (i key : ℕ) → IsStanding clients w keys → slice_get keys i ≡ Some key → slice_get (open_windows (desk_of setting w keys)) i ≡ Some (place_of_row (row_at w.entries key))
 unfolding open_windows
-open_windows-key shape w clients keys i key kept there =
+open_windows-key setting w clients keys i key kept there =
     let ns = nodes w.entries in
     let found : slice_get (windows_at ns keys) i ≡ Some (title_at ns key) = slice_get-map (title_at ns) keys i ∙ ap (option_map (title_at ns)) there in
     slice_get-map (place_of_window (rows_of w)) (windows_at ns keys) i
     ∙ ap (option_map (place_of_window (rows_of w))) found
     ∙ ap (λ (o : Option Row). Some (place_of_row o)) (title_row w clients keys key kept (window_live w keys i key kept.windows there))
 
-pub open_windows-past : (shape : Shape) (w : Widgets) (keys : List ℕ) (i : ℕ) → slice_get keys i ≡ None → slice_get (open_windows (desk_of shape w keys)) i ≡ None
+pub open_windows-past : (setting : Setting) (w : Widgets) (keys : List ℕ) (i : ℕ) → slice_get keys i ≡ None → slice_get (open_windows (desk_of setting w keys)) i ≡ None
 unfolding open_windows
-open_windows-past shape w keys i past =
+open_windows-past setting w keys i past =
     let ns = nodes w.entries in
     let none : slice_get (windows_at ns keys) i ≡ None = slice_get-map (title_at ns) keys i ∙ ap (option_map (title_at ns)) past in
     slice_get-map (place_of_window (rows_of w)) (windows_at ns keys) i ∙ ap (option_map (place_of_window (rows_of w))) none

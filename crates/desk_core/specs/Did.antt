@@ -2,7 +2,7 @@
 use Rattle.std.specs.Prelude.{ℕ, ◌≡◌, ◌↔◌, IsTrue, Bool, true, is_some, List, Some}
 use Rattle.std.specs.List.{list_all}
 use Rattle.kind_core.specs.declared.kinds.Kind.{Kind}
-use Rattle.kind_core.specs.declared.shapes.Shape.{Shape}
+use Rattle.desk_core.specs.declared.setting.Setting.{Setting}
 use Rattle.cmd_words.specs.declared.replies.Reply.{Reply}
 use Rattle.desk_model.specs.Rows.{Row}
 use Rattle.desk_model.specs.Nodes.{node_at, id_named}
@@ -36,7 +36,7 @@ TellsAll old new keys keys' changed =
 -- On the desk of the old widgets and open windows the step gives that reply, and the desk of the new ones, which
 -- keep what holds of them.
 pub record DidAll (step : Desk → Reply × Desk) (old new : Widgets) (keys keys' : List ℕ) (reply : Reply) : Type 0 where
-  pub answer : (shape : Shape) → (reply, desk_of shape new keys') ≡ step (desk_of shape old keys)
+  pub answer : (setting : Setting) → (reply, desk_of setting new keys') ≡ step (desk_of setting old keys)
   pub clients : new.clients ≡ old.clients
   pub kept : IsStanding new.clients new keys'
 

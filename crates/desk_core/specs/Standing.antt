@@ -2,15 +2,14 @@
 use Rattle.std.specs.Prelude.{ℕ, ◌≡◌, ◌↔◌, Bool, true, false, not, nat_eq, IsTrue, List, [], map}
 use Rattle.std.specs.List.{list_all}
 use Rattle.std.specs.Option.{option_map_or}
-use Rattle.kind_core.specs.declared.shapes.Shape.{Shape}
+use Rattle.desk_core.specs.declared.setting.Setting.{Setting}
 use Rattle.stack_core.specs.Stack.{IsStack}
 use Rattle.desk_model.specs.Nodes.{Node, node_at}
 use Rattle.desk_model.specs.Widgets.{Widgets, nodes, rows_of}
 use Rattle.desk_model.specs.Forest.{IsWidgets}
 use Rattle.desk_model.specs.Fitting.{fits_rules}
-use Rattle.desk_model.specs.DeskFacts.{AreConnectedOnce}
+use Rattle.desk_model.specs.DeskFacts.{AreConnectedOnce, IsDesk}
 use Rattle.desk_model.specs.Linking.{is_window_kind}
-use Rattle.desk_model.specs.Pointer.{opening_pointer}
 use Rattle.desk_model.specs.Desk.{Desk}
 
 pub record Standing : Type 0 where
@@ -27,14 +26,14 @@ abbrev pub windows_at : List (ℕ × Node) → List ℕ → List (ℕ × List �
 windows_at entries keys = map (title_at entries) keys
 
 -- the desk of these widgets, with the windows of these numbers open
-abbrev pub desk_of : Shape → Widgets → List ℕ → Desk
-desk_of shape widgets keys =
+abbrev pub desk_of : Setting → Widgets → List ℕ → Desk
+desk_of setting widgets keys =
     record {
-      shape = shape;
+      shape = setting.shape;
       clients = widgets.clients;
       rows = rows_of widgets;
       windows = windows_at (nodes widgets.entries) keys;
-      pointer = opening_pointer;
+      pointer = setting.pointer;
       roster = [];
       rings = [];
     }
@@ -55,6 +54,11 @@ pub record IsStanding (joined : List ℕ) (widgets : Widgets) (keys : List ℕ) 
   pub stack : IsStack keys
   pub windows : list_all (names_window (nodes widgets.entries)) keys ≡ true
   pub rules : list_all fits_rules (rows_of widgets) ≡ true
+
+-- the same, and what holds of the desk that they make up
+pub record IsKept (setting : Setting) (joined : List ℕ) (widgets : Widgets) (keys : List ℕ) : Type 0 where
+  pub standing : IsStanding joined widgets keys
+  pub desk : IsDesk (desk_of setting widgets keys)
 
 -- whether the call says rightly that it changed the rows, the open windows or their order
 abbrev pub TellsChange : Standing → Standing → Type 0

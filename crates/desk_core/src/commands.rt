@@ -1,8 +1,8 @@
 //! Which command is answered by which function.
 
-ghost use Rattle.std.specs.Prelude.{◌≡◌, true};
+ghost use Rattle.std.specs.Prelude.{◌≡◌, true, IfSome};
 ghost use Rattle.desk_model.specs.Widgets.{is_joined};
-ghost use Rattle.desk_model.specs.Commands.{row_step};
+ghost use Rattle.desk_model.specs.Commands.{is_built, row_of};
 ghost use Rattle.desk_core.specs.Standing.{IsStanding};
 ghost use Rattle.desk_model.specs.Refusing.{is_memory};
 ghost use Rattle.desk_core.specs.Did.{DidAll, TellsAll};
@@ -13,16 +13,18 @@ use crate::linking::{bind, link, unlink};
 use crate::making::{get, make, set};
 use crate::opening::open_window;
 use crate::rules::{rule_column, rule_row};
-use cmd_words::{Command, Reply};
+use cmd_words::Command;
 use stack_core::Stack;
 use tree_core::Tree;
 
-/// The answer to a connected client's command.
+/// The answer to a connected client's command, one of those that are built.
 pub(crate) fn obey(tree: &mut Tree, windows: &mut Stack, client: u32, command: &Command) -> Answer
     requires standing { IsStanding tree.old.clients tree.old windows.old }
     requires connected { is_joined tree.old.clients client ≡ true }
+    requires built { is_built command.now ≡ true }
     ensures tells { TellsAll tree.old tree.new windows.old windows.new result.changed }
-    ensures did { DidAll (λ desk. row_step desk client command.now (is_memory result.reply)) tree.old tree.new windows.old windows.new result.reply }
+    ensures did { IfSome (row_of command.now)
+        (λ row. DidAll (λ desk. row desk client (is_memory result.reply)) tree.old tree.new windows.old windows.new result.reply) }
 {
     match command {
         Command::New { name, kind } => make(tree, client, name, *kind),
@@ -50,9 +52,12 @@ pub(crate) fn obey(tree: &mut Tree, windows: &mut Stack, client: u32, command: &
         Command::Unbind { name, event } => bind(tree, client, name, *event, None),
         Command::OpenWindow { name } => open_window(tree, windows, client, name),
         Command::DropWidget { name } => drop_widget(tree, windows, client, name),
-        _ => Answer {
-            reply: Reply::NoEvent,
-            changed: false,
-        },
+        Command::CloseWindow { .. }
+        | Command::TopWindow { .. }
+        | Command::Mode { .. }
+        | Command::Admit { .. }
+        | Command::Leave { .. }
+        | Command::SendFrame { .. }
+        | Command::Poll => unreachable!(),
     }
 }

@@ -1,9 +1,10 @@
-ghost use Rattle.std.specs.Prelude.{◌≡◌, ◌<◌, ◌≤◌, ◌↔◌, IsSome, true, false, [], length, slice_get};
+ghost use Rattle.std.specs.Prelude.{◌≡◌, ◌<◌, ◌≤◌, ◌↔◌, IsSome, Some, true, false, [], length, slice_get};
 ghost use Rattle.std.specs.Option.{option_map};
 ghost use Rattle.desk_model.specs.Desk.{opening_desk};
 ghost use Rattle.desk_model.specs.DeskFacts.{IsDesk};
 ghost use Rattle.desk_model.specs.OpenWindows.{open_windows};
 ghost use Rattle.desk_model.specs.Clients.{step_bye, step_connect, step_hello};
+ghost use Rattle.desk_model.specs.Shapes.{IsShape};
 ghost use Rattle.desk_model.specs.Commands.{is_built, step};
 ghost use Rattle.desk_model.specs.OwnPart.{LeavesOthers};
 ghost use Rattle.desk_core.specs.Standing.{TellsChange};
@@ -11,20 +12,22 @@ ghost use Rattle.desk_model.specs.Refusing.{is_memory};
 
 use crate::clients::Clients;
 use crate::commands::obey;
+use crate::holding::let_go;
 use crate::opening::{close_windows, place_of};
+use crate::setting::Setting;
 use cmd_words::{Command, Refusal, Reply};
-use kind_core::Shape;
+use desk_model::{Grab, Pointer, Shape};
 use stack_core::Stack;
 use std::alloc::Global;
 use std::marker::Model;
 use tree_core::{Id, Tree};
 
-/// The desk: the connected clients, their widgets and the order of the open windows. It answers each client's
-/// command. Contracts see the record `Standing`: the desk of desk_model, and whether the last call changed it.
+/// The desk: the connected clients, their widgets, the order of the open windows and the pointer. It answers each
+/// client's command. Contracts see the record `Standing`: the desk of desk_model, and whether the last call changed it.
 /// See docs/MACHINE.md, "The desk".
 #[derive(Drop)]
 pub struct Desk {
-    shape: Shape,
+    setting: Setting,
     clients: Clients,
     tree: Tree,
     windows: Stack,
@@ -32,24 +35,32 @@ pub struct Desk {
 }
 
 impl Model for Desk {
-    ghost use Rattle.desk_core.specs.Standing.{Standing, desk_of, IsStanding};
+    ghost use Rattle.desk_core.specs.Standing.{Standing, desk_of, IsKept};
 
     ghost Value = { Standing };
 
-    ghost view = { λ d. record { desk = desk_of d.shape d.tree d.windows; changed = d.changed } };
+    ghost view = { λ d. record { desk = desk_of d.setting d.tree d.windows; changed = d.changed } };
 
-    ghost invariant = { λ d. IsStanding d.clients d.tree d.windows };
+    ghost invariant = { λ d. IsKept d.setting d.clients d.tree d.windows };
 }
 
 impl Desk {
-    /// A desk of this shape with no clients. See docs/MACHINE.md, "The desk".
+    /// A desk of this shape, whose numbers are in range, with no clients. See docs/MACHINE.md, "The desk".
     pub fn new(alloc: Global, shape: Shape) -> Desk
+        requires { IsShape shape }
         ensures opening { result.desk ≡ opening_desk shape }
         ensures valid { IsDesk result.desk }
         ensures changed { result.changed ≡ false }
     {
+        let pointer = Pointer {
+            x: 0,
+            y: 0,
+            down: false,
+            grab: Grab::Nothing,
+            focus: None,
+        };
         Desk {
-            shape,
+            setting: Setting { shape, pointer },
             clients: Clients::new(),
             tree: Tree::new(alloc),
             windows: Stack::new(),
@@ -59,7 +70,6 @@ impl Desk {
 
     /// Connects a client, 1 to 16, and answers Done. Refuses Connected where it is connected, and else Memory
     /// where there is none. See docs/GUIDE.md, "Commands".
-    #[tactic(auto, unfolding(desk_model::specs::Clients::step_connect))]
     pub fn connect(&mut self, client: u32) -> Reply
         requires low { 1 ≤ client }
         requires high { client ≤ 16 }
@@ -83,7 +93,6 @@ impl Desk {
 
     /// Connects the least client, 1 to 16, that isn't connected, and answers its number. Refuses Full with 16
     /// where all are connected, and else Memory where there is none. See docs/GUIDE.md, "Commands".
-    #[tactic(auto, unfolding(desk_model::specs::Clients::step_hello))]
     pub fn hello(&mut self) -> Reply
         ensures step { (result, self.new.desk) ≡ step_hello self.old.desk (is_memory result) }
         ensures valid { IsDesk self.new.desk }
@@ -107,14 +116,13 @@ impl Desk {
     /// `get`, else Done. Refuses NotConnected where the client isn't connected; else each command has its own
     /// refusals, and the first that holds is the answer. `payload` has the bytes of a frame, so far none. See
     /// docs/GUIDE.md, "Commands".
-    #[tactic(auto, unfolding(desk_model::specs::Commands::step))]
     pub fn step(&mut self, client: u32, command: &Command, payload: &[u8]) -> Reply
         requires low { 1 ≤ client }
         requires high { client ≤ 16 }
         requires built { is_built command.now ≡ true }
         requires bare { payload.now ≡ [] }
         ensures changed { TellsChange self.old self.new }
-        ensures step { (result, self.new.desk) ≡ step self.old.desk client command.now (is_memory result) }
+        ensures step { step self.old.desk client command.now (is_memory result) ≡ Some (result, self.new.desk) }
         ensures others { LeavesOthers client self.old.desk self.new.desk }
         ensures valid { IsDesk self.new.desk }
     {
@@ -123,13 +131,13 @@ impl Desk {
             return Reply::Refused(Refusal::NotConnected);
         }
         let answer = obey(&mut self.tree, &mut self.windows, client, command);
+        let_go(&self.tree, &self.windows, &mut self.setting);
         self.changed = answer.changed;
         answer.reply
     }
 
     /// A client, 1 to 16, leaves with its windows and widgets, and is answered Done. Refuses NotConnected where
     /// it isn't connected. See docs/GUIDE.md, "Commands".
-    #[tactic(auto, unfolding(desk_model::specs::Clients::step_bye))]
     pub fn bye(&mut self, client: u32) -> Reply
         requires low { 1 ≤ client }
         requires high { client ≤ 16 }
@@ -146,6 +154,7 @@ impl Desk {
         close_windows(&self.tree, &mut self.windows, client);
         self.tree.drop_client(client);
         self.clients.leave(client);
+        let_go(&self.tree, &self.windows, &mut self.setting);
         self.changed = count > 0;
         Reply::Done
     }

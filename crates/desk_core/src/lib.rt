@@ -7,12 +7,14 @@ mod commands;
 mod desk;
 mod finding;
 mod hanging;
+mod holding;
 pub mod laws;
 mod linking;
 mod making;
 mod opening;
 mod places;
 mod rules;
+mod setting;
 
 pub use desk::Desk;
 

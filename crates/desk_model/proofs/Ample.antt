@@ -1,5 +1,6 @@
 -- Where there is memory, no step answers that there is none.
 use Rattle.std.proofs.Common.{◌≡◌, ℕ, ℤ, Bool, true, false, not, is_none, List, [], ◌∷◌, map, Option, Some, None, refl, Result, Ok, Err}
+use Rattle.std.proofs.lemmas.Bool.{false≢true}
 use Rattle.std.specs.Option.{option_and_then}
 use Rattle.kind_core.specs.declared.kinds.Kind.{Kind}
 use Rattle.kind_core.specs.declared.kinds.Attr.{Attr}
@@ -10,7 +11,7 @@ use Rattle.kind_core.specs.declared.values.AttrRefusal.{AttrRefusal}
 use Rattle.kind_core.specs.declared.values.AttrRefusal.TheVariants.{NotOfKind, OutOfRange}
 use Rattle.kind_core.specs.Attributes.{domain_of, judged}
 use Rattle.cmd_words.specs.declared.commands.Command.{Command}
-use Rattle.cmd_words.specs.declared.commands.Command.TheVariants.{New, Set, Get, Place, Lift, ColumnConfig, RowConfig, Link, Unlink, Bind, Unbind, OpenWindow, DropWidget}
+use Rattle.cmd_words.specs.declared.commands.Command.TheVariants.{New, Set, Get, Place, Lift, ColumnConfig, RowConfig, Link, Unlink, Bind, Unbind, OpenWindow, CloseWindow, TopWindow, Mode, Admit, Leave, SendFrame, DropWidget, Poll}
 use Rattle.cmd_words.specs.declared.commands.PlaceOption.{PlaceOption}
 use Rattle.cmd_words.specs.declared.commands.PlaceOption.TheVariants.{Column, Row as line, Pad}
 use Rattle.cmd_words.specs.declared.commands.ConfigOption.{ConfigOption}
@@ -31,7 +32,8 @@ use Rattle.desk_model.specs.Hanging.{place_refusals, place_effect, lift_refusal,
 use Rattle.desk_model.specs.Hanging.{config_refusal as rule_refusal}
 use Rattle.desk_model.specs.Linking.{link_refusal, link_effect, unlink_refusal, unlink_effect, bind_refusal, bind_effect, open_refusal, open_effect, step_link, step_unlink, step_bind, step_open}
 use Rattle.desk_model.specs.Clients.{with_client, without_client, step_connect, step_hello, step_bye, free_client, hello_effect}
-use Rattle.desk_model.specs.Commands.{row_step, step}
+use Rattle.desk_model.specs.Commands.{is_built, asked, step}
+use Rattle.desk_model.specs.Ending.{let_go, event_end}
 
 -- a refusal for want of memory
 abbrev is_want : Option Refusal → Bool
@@ -146,27 +148,43 @@ unfolding step_open
 ample-open desk client name =
     answers desk (open_refusal desk client name) (open_effect desk client name) (search (then, want-when)) refl
 
-ample-row : (desk : Desk) (client : ℕ) (command : Command) → is_memory (row_step desk client command false).0 ≡ false
-unfolding row_step
-ample-row desk client (New name kind) = ample-new desk client name kind
-ample-row desk client (Set name options) = ample-set desk client name options
-ample-row desk client (Get name attr) = ample-get desk client name attr
-ample-row desk client (Place parent child options) = ample-place desk client parent child options
-ample-row desk client (Lift parent child) = ample-lift desk client parent child
-ample-row desk client (ColumnConfig name index options) = ample-column desk client name index options
-ample-row desk client (RowConfig name index options) = ample-line desk client name index options
-ample-row desk client (Link name variable) = ample-link desk client name variable
-ample-row desk client (Unlink name) = ample-unlink desk client name
-ample-row desk client (Bind name event tag) = ample-bind desk client name event (Some tag)
-ample-row desk client (Unbind name event) = ample-bind desk client name event None
-ample-row desk client (OpenWindow name) = ample-open desk client name
-ample-row desk client (DropWidget name) = ample-drop desk client name
-ample-row desk client _ = refl
+-- there is a step, and it isn't answered so
+pub record Ample (stepped : Option (Reply × Desk)) : Type 0 where
+  pub reply : Reply
+  pub next : Desk
+  pub steps : stepped ≡ Some (reply, next)
+  pub has_memory : is_memory reply ≡ false
 
-pub ample-command : (desk : Desk) (client : ℕ) (command : Command) → is_memory (step desk client command false).0 ≡ false
+ample-asked : (desk : Desk) (client : ℕ) (row : Desk → ℕ → Bool → Reply × Desk) → is_memory (row desk client false).0 ≡ false → Ample (Some (event_end (asked row desk client false)))
+ample-asked desk client row has_memory = record {
+  reply = (asked row desk client false).0;
+  next = let_go (asked row desk client false).1;
+  steps = refl;
+  has_memory = answers desk (when (not (is_connected desk client)) NotConnected) (row desk client false) (want-when (not (is_connected desk client)) NotConnected refl) has_memory;
+}
+
+pub ample-command : (desk : Desk) (client : ℕ) (command : Command) → is_built command ≡ true → Ample (step desk client command false)
 unfolding step
-ample-command desk client command =
-    answers desk (when (not (is_connected desk client)) NotConnected) (row_step desk client command false) (want-when (not (is_connected desk client)) NotConnected refl) (ample-row desk client command)
+ample-command desk client (New name kind) built = ample-asked desk client (λ desk client short. step_new desk client name kind short) (ample-new desk client name kind)
+ample-command desk client (Set name options) built = ample-asked desk client (λ desk client short. step_set desk client name options) (ample-set desk client name options)
+ample-command desk client (Get name attr) built = ample-asked desk client (λ desk client short. step_get desk client name attr) (ample-get desk client name attr)
+ample-command desk client (Place parent child options) built = ample-asked desk client (λ desk client short. step_place desk client parent child options) (ample-place desk client parent child options)
+ample-command desk client (Lift parent child) built = ample-asked desk client (λ desk client short. step_lift desk client parent child) (ample-lift desk client parent child)
+ample-command desk client (ColumnConfig name index options) built = ample-asked desk client (λ desk client short. step_column desk client name index options) (ample-column desk client name index options)
+ample-command desk client (RowConfig name index options) built = ample-asked desk client (λ desk client short. step_line desk client name index options) (ample-line desk client name index options)
+ample-command desk client (Link name variable) built = ample-asked desk client (λ desk client short. step_link desk client name variable) (ample-link desk client name variable)
+ample-command desk client (Unlink name) built = ample-asked desk client (λ desk client short. step_unlink desk client name) (ample-unlink desk client name)
+ample-command desk client (Bind name event tag) built = ample-asked desk client (λ desk client short. step_bind desk client name event (Some tag)) (ample-bind desk client name event (Some tag))
+ample-command desk client (Unbind name event) built = ample-asked desk client (λ desk client short. step_bind desk client name event None) (ample-bind desk client name event None)
+ample-command desk client (OpenWindow name) built = ample-asked desk client (λ desk client short. step_open desk client name) (ample-open desk client name)
+ample-command desk client (DropWidget name) built = ample-asked desk client (λ desk client short. step_drop desk client name) (ample-drop desk client name)
+ample-command desk client (CloseWindow name) built = absurd (false≢true built)
+ample-command desk client (TopWindow name) built = absurd (false≢true built)
+ample-command desk client (Mode name w h) built = absurd (false≢true built)
+ample-command desk client (Admit name period) built = absurd (false≢true built)
+ample-command desk client (Leave name) built = absurd (false≢true built)
+ample-command desk client (SendFrame name size) built = absurd (false≢true built)
+ample-command desk client Poll built = absurd (false≢true built)
 
 pub ample-connect : (desk : Desk) (client : ℕ) → is_memory (step_connect desk client false).0 ≡ false
 unfolding step_connect

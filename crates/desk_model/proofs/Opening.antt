@@ -8,6 +8,7 @@ use Rattle.desk_model.specs.Desk.{opening_desk}
 use Rattle.desk_model.specs.State.{IsState, opening, dirty_count, count_true}
 use Rattle.desk_model.specs.Windows.{shown_by_any}
 use Rattle.desk_model.specs.OpenWindows.{open_windows}
+use Rattle.desk_model.proofs.Desks.{IsDesk-opening}
 use Rattle.desk_model.proofs.Marks.{count_true-cons}
 use Rattle.desk_model.proofs.Reach.{colour_of_bare}
 
@@ -18,7 +19,7 @@ count_true-replicate (suc n) = omega (arith, count_true-cons false (replicate n 
 pub IsState-opening : (shape : Shape) → IsShape shape → IsState (opening shape)
 unfolding opening shown_by_any open_windows
 IsState-opening shape is = record {
-  desk = record { shape = is };
+  desk = IsDesk-opening shape is;
   screen = length-replicate (area shape) 2;
   dirt = length-replicate (area shape) false;
   current = λ x y hx hy clean.

@@ -1,6 +1,6 @@
 -- A change of one client's widgets leaves the other clients' rows.
 use Rattle.std.proofs.Common.{◌≡◌, ℕ, Bool, true, false, cond, ◌&&◌, not, nat_eq, List, [], ◌∷◌, ◌++◌, refl, sym, ◌∙◌}
-use Rattle.std.proofs.lemmas.Bool.{eqb-true, eqb-false, eq-eqb, ne_eqb}
+use Rattle.std.proofs.lemmas.Bool.{true≢false, eqb-true, eqb-false, eq-eqb, ne_eqb}
 use Rattle.std.proofs.Math.Bool.{or-false}
 use Rattle.std.proofs.lemmas.List.{append-nil}
 use Rattle.std.proofs.lemmas.List.Elements.{filter-append}
@@ -24,6 +24,17 @@ filter-filter p (x ∷ xs) = by (filter-filter p xs) (p x) refl
     by : filter p (filter p xs) ≡ filter p xs → (b : Bool) → p x ≡ b → filter p (cond b (x ∷ filter p xs) (filter p xs)) ≡ cond b (x ∷ filter p xs) (filter p xs)
     by rest true e = rw (e, rest) refl
     by rest false e = rest
+
+-- What passes a test is among what passes a wider one.
+pub filter-within : {X : Type 0} (p q : X → Bool) → ((x : X) → q x ≡ true → p x ≡ true) → (xs : List X) → filter q (filter p xs) ≡ filter q xs
+filter-within p q wider [] = refl
+filter-within {X} p q wider (x ∷ xs) = by (filter-within p q wider xs) (p x) refl (q x) refl
+  where
+    by : filter q (filter p xs) ≡ filter q xs → (kept : Bool) → p x ≡ kept → (wanted : Bool) → q x ≡ wanted → filter q (cond kept (x ∷ filter p xs) (filter p xs)) ≡ cond wanted (x ∷ filter q xs) (filter q xs)
+    by rest true e true f = rw (f, rest) refl
+    by rest true e false f = rw (f, rest) refl
+    by rest false e true f = absurd (true≢false (sym (wider x f) ∙ e))
+    by rest false e false f = rest
 
 -- the others' rows after a change of one row that leaves its client
 pub rows_of_others-with_named : (client : ℕ) (name : List ℕ) (change : Row → Row) (rows : List Row) → ((row : Row) → (change row).client ≡ row.client) → rows_of_others client (with_named client name change rows) ≡ rows_of_others client rows

@@ -1,5 +1,6 @@
 -- Two desks that agree on a client's part answer each of its commands alike.
-use Rattle.std.proofs.Common.{◌≡◌, ℕ, ℤ, Bool, nat_eq, List, Option, Some, None, refl}
+use Rattle.std.proofs.Common.{◌≡◌, ℕ, ℤ, Bool, nat_eq, List, Option, Some, None, refl, ap}
+use Rattle.std.specs.Option.{option_map}
 use Rattle.std.specs.Str.{bytes_eq}
 use Rattle.kind_core.specs.declared.kinds.Kind.{Kind}
 use Rattle.kind_core.specs.declared.kinds.Attr.{Attr}
@@ -19,7 +20,7 @@ use Rattle.desk_model.specs.PlaceOptions.{cell_given}
 use Rattle.desk_model.specs.Making.{new_refusal, set_refusal, get_refusal, get_effect, drop_refusal, new_effect, set_effect, drop_effect, step_new, step_set, step_get, step_drop}
 use Rattle.desk_model.specs.Hanging.{place_refusals, place_effect, lift_refusal, lift_effect, config_refusal, column_effect, line_effect, step_place, step_lift, step_column, step_line}
 use Rattle.desk_model.specs.Linking.{link_refusal, link_effect, unlink_refusal, unlink_effect, bind_refusal, bind_effect, open_refusal, open_effect, step_link, step_unlink, step_bind, step_open}
-use Rattle.desk_model.specs.Commands.{row_step}
+use Rattle.desk_model.specs.Commands.{row_of}
 use Rattle.desk_model.specs.OwnPart.{AgreeOn}
 use Rattle.desk_model.proofs.OwnRows.{list_any-agree, row_named-agree, rows_counted-agree, child_in-agree, depth_in-agree, is_above_in-agree, height_in-agree, named-is_used-agree}
 
@@ -127,20 +128,19 @@ answer-open one two client name agree =
     answer-outcome one two (open_refusal one client name) (open_refusal two client name) (open_effect one client name) (open_effect two client name)
     (rw (row_named-agree client name one.rows two.rows agree.rows, is_open-agree client name one two agree) refl) refl
 
--- each command that is built, and the reply to the others
-pub answer-row_step : (one two : Desk) (client : ℕ) (command : Command) (short : Bool) → AgreeOn client one two → (row_step one client command short).0 ≡ (row_step two client command short).0
-unfolding row_step
-answer-row_step one two client (New name kind) short agree = answer-new one two client name kind short agree
-answer-row_step one two client (Set name options) short agree = answer-set one two client name options agree
-answer-row_step one two client (Get name attr) short agree = answer-get one two client name attr agree
-answer-row_step one two client (Place parent child options) short agree = answer-place one two client parent child options agree
-answer-row_step one two client (Lift parent child) short agree = answer-lift one two client parent child agree
-answer-row_step one two client (ColumnConfig name index options) short agree = answer-column one two client name index options agree
-answer-row_step one two client (RowConfig name index options) short agree = answer-line one two client name index options agree
-answer-row_step one two client (Link name variable) short agree = answer-link one two client name variable agree
-answer-row_step one two client (Unlink name) short agree = answer-unlink one two client name agree
-answer-row_step one two client (Bind name event tag) short agree = answer-bind one two client name event (Some tag) agree
-answer-row_step one two client (Unbind name event) short agree = answer-bind one two client name event None agree
-answer-row_step one two client (OpenWindow name) short agree = answer-open one two client name agree
-answer-row_step one two client (DropWidget name) short agree = answer-drop one two client name agree
-answer-row_step one two client _ short agree = refl
+-- each row
+pub answer-row : (one two : Desk) (client : ℕ) (command : Command) (short : Bool) → AgreeOn client one two → option_map (λ row. (row one client short).0) (row_of command) ≡ option_map (λ row. (row two client short).0) (row_of command)
+answer-row one two client (New name kind) short agree = ap Some (answer-new one two client name kind short agree)
+answer-row one two client (Set name options) short agree = ap Some (answer-set one two client name options agree)
+answer-row one two client (Get name attr) short agree = ap Some (answer-get one two client name attr agree)
+answer-row one two client (Place parent child options) short agree = ap Some (answer-place one two client parent child options agree)
+answer-row one two client (Lift parent child) short agree = ap Some (answer-lift one two client parent child agree)
+answer-row one two client (ColumnConfig name index options) short agree = ap Some (answer-column one two client name index options agree)
+answer-row one two client (RowConfig name index options) short agree = ap Some (answer-line one two client name index options agree)
+answer-row one two client (Link name variable) short agree = ap Some (answer-link one two client name variable agree)
+answer-row one two client (Unlink name) short agree = ap Some (answer-unlink one two client name agree)
+answer-row one two client (Bind name event tag) short agree = ap Some (answer-bind one two client name event (Some tag) agree)
+answer-row one two client (Unbind name event) short agree = ap Some (answer-bind one two client name event None agree)
+answer-row one two client (OpenWindow name) short agree = ap Some (answer-open one two client name agree)
+answer-row one two client (DropWidget name) short agree = ap Some (answer-drop one two client name agree)
+answer-row one two client _ short agree = refl

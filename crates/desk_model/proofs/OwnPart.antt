@@ -1,6 +1,11 @@
 -- What a client does leaves the others' part of the desk, and what it is answered depends on its own part alone.
-use Rattle.std.proofs.Common.{◌≡◌, ℕ, ℤ, Bool, not, nat_eq, List, [], ◌∷◌, ◌++◌, Option, Some, None, refl}
-use Rattle.std.specs.Prelude.{unsigned_abs}
+use Rattle.std.proofs.Common.{◌≡◌, ℕ, ℤ, Bool, true, false, cond, not, nat_eq, List, [], ◌∷◌, ◌++◌, Option, Some, None, ◌⊎◌, inl, inr, refl, sym, ap, ◌∙◌, subst}
+use Rattle.std.proofs.lemmas.Bool.{eqb-true}
+use Rattle.std.proofs.lemmas.Option.{some_pair_parts}
+use Rattle.std.specs.Prelude.{unsigned_abs, IfSome}
+use Rattle.std.specs.List.{filter}
+use Rattle.std.specs.Option.{option_map}
+use Rattle.std.specs.Str.{bytes_eq}
 use Rattle.kind_core.specs.declared.kinds.Kind.{Kind}
 use Rattle.kind_core.specs.declared.kinds.Attr.{Attr}
 use Rattle.kind_core.specs.declared.kinds.EventKind.{EventKind}
@@ -12,24 +17,41 @@ use Rattle.cmd_words.specs.declared.commands.Command.TheVariants.{New, Set, Get,
 use Rattle.cmd_words.specs.declared.replies.Reply.{Reply}
 use Rattle.cmd_words.specs.declared.replies.Reply.TheVariants.{Done}
 use Rattle.cmd_words.specs.declared.replies.Refusal.{Refusal}
+use Rattle.cmd_words.specs.declared.replies.Refusal.TheVariants.{Memory, NotConnected, Connected}
 use Rattle.desk_model.specs.Rows.{Row, new_row, with_spot, with_link, with_binding}
 use Rattle.desk_model.specs.Named.{rows_of_others, with_named, without_named}
-use Rattle.desk_model.specs.Desk.{Desk, Admission, Ring}
-use Rattle.desk_model.specs.Refusing.{outcome}
+use Rattle.desk_model.specs.declared.pointer.Pointer.{Pointer}
+use Rattle.desk_model.specs.declared.pointer.Grab.{Grab}
+use Rattle.desk_model.specs.declared.pointer.Grab.TheVariants.{Nothing, Widget, Drag}
+use Rattle.desk_model.specs.Desk.{Desk, Admission, Ring, is_connected, is_open}
+use Rattle.desk_model.specs.Refusing.{when, first_refusal, outcome}
 use Rattle.desk_model.specs.AttrOptions.{with_attrs}
 use Rattle.desk_model.specs.PlaceOptions.{cell_given}
 use Rattle.desk_model.specs.Making.{new_refusal, set_refusal, get_refusal, get_effect, drop_refusal, new_effect, set_effect, drop_effect, step_new, step_set, step_get, step_drop}
 use Rattle.desk_model.specs.Hanging.{place_refusals, place_effect, lift_refusal, lift_effect, config_refusal, column_effect, line_effect, with_column, with_line, step_place, step_lift, step_column, step_line}
 use Rattle.desk_model.specs.Linking.{link_refusal, link_effect, unlink_refusal, unlink_effect, bind_refusal, bind_effect, open_refusal, open_effect, step_link, step_unlink, step_bind, step_open}
 use Rattle.desk_model.specs.Clients.{step_connect, step_bye, with_client, without_client}
-use Rattle.desk_model.specs.Commands.{row_step, step}
-use Rattle.desk_model.specs.OwnPart.{LeavesOthers, CommandsLeaveOthers, ConnectsLeaveOthers, ByesLeaveOthers, AnswersDependOnOwnPart, ConnectsDependOnOwnPart, ByesDependOnOwnPart}
-use Rattle.desk_model.proofs.OthersRows.{filter-filter, rows_of_others-with_named, rows_of_others-without_named, rows_of_others-push, client-new_row, client-with_attrs, windows_of_others-cons, list_any-push_other, list_any-without_other}
-use Rattle.desk_model.proofs.OwnAnswers.{answer-outcome, answer-row_step}
+use Rattle.desk_model.specs.Commands.{row_of, asked, step}
+use Rattle.desk_model.specs.Ending.{is_in_window, grab_left, focus_left, let_go, event_end}
+use Rattle.desk_model.specs.Trees.{root_of, most_levels}
+use Rattle.desk_model.specs.OwnPart.{own_rows, own_windows, windows_of_others, IsGrabOf, IsFocusOf, LeavesPointer, reply_of, LeavesOthers, CommandsLeaveOthers, ConnectsLeaveOthers, ByesLeaveOthers, AnswersDependOnOwnPart, ConnectsDependOnOwnPart, ByesDependOnOwnPart}
+use Rattle.desk_model.proofs.OthersRows.{filter-filter, filter-within, rows_of_others-with_named, rows_of_others-without_named, rows_of_others-push, client-new_row, client-with_attrs, windows_of_others-cons, list_any-push_other, list_any-without_other}
+use Rattle.desk_model.proofs.OwnRows.{list_any-agree, root_in-agree}
+use Rattle.desk_model.proofs.OwnAnswers.{answer-outcome, answer-row}
+
+-- What is not the client's, and the whole pointer, is as it was: before a step's ending.
+pub record LeavesApart (client : ℕ) (old new : Desk) : Type 0 where
+  pub shape : new.shape ≡ old.shape
+  pub clients : (other : ℕ) → nat_eq client other ≡ false → is_connected new other ≡ is_connected old other
+  pub rows : rows_of_others client new.rows ≡ rows_of_others client old.rows
+  pub windows : windows_of_others client new.windows ≡ windows_of_others client old.windows
+  pub pointer : new.pointer ≡ old.pointer
+  pub roster : filter (λ admission. not (nat_eq client admission.client)) new.roster ≡ filter (λ admission. not (nat_eq client admission.client)) old.roster
+  pub rings : filter (λ ring. not (nat_eq client ring.client)) new.rings ≡ filter (λ ring. not (nat_eq client ring.client)) old.rings
 
 -- a change of the rows alone
-LeavesOthers-rows : (client : ℕ) (desk : Desk) (rows : List Row) → rows_of_others client rows ≡ rows_of_others client desk.rows → LeavesOthers client desk (record desk { rows = rows })
-LeavesOthers-rows client desk rows kept = record {
+LeavesApart-rows : (client : ℕ) (desk : Desk) (rows : List Row) → rows_of_others client rows ≡ rows_of_others client desk.rows → LeavesApart client desk (record desk { rows = rows })
+LeavesApart-rows client desk rows kept = record {
   shape = refl;
   clients = λ other differ. refl;
   rows = kept;
@@ -40,87 +62,87 @@ LeavesOthers-rows client desk rows kept = record {
 }
 
 -- a desk that stays
-pub LeavesOthers-same : (client : ℕ) (desk : Desk) → LeavesOthers client desk desk
-LeavesOthers-same client desk = LeavesOthers-rows client desk desk.rows refl
+pub LeavesApart-same : (client : ℕ) (desk : Desk) → LeavesApart client desk desk
+LeavesApart-same client desk = LeavesApart-rows client desk desk.rows refl
 
 -- a refused command leaves the whole desk
-LeavesOthers-outcome : (client : ℕ) (desk : Desk) (refusal : Option Refusal) (effect : Reply × Desk) → LeavesOthers client desk effect.1 → LeavesOthers client desk (outcome desk refusal effect).1
-LeavesOthers-outcome client desk None effect leaves = leaves
-LeavesOthers-outcome client desk (Some refusal) effect leaves = LeavesOthers-same client desk
+LeavesApart-outcome : (client : ℕ) (desk : Desk) (refusal : Option Refusal) (effect : Reply × Desk) → LeavesApart client desk effect.1 → LeavesApart client desk (outcome desk refusal effect).1
+LeavesApart-outcome client desk None effect leaves = leaves
+LeavesApart-outcome client desk (Some refusal) effect leaves = LeavesApart-same client desk
 
 -- a change of one row that leaves its client
-LeavesOthers-with_named : (client : ℕ) (name : List ℕ) (change : Row → Row) (desk : Desk) → ((row : Row) → (change row).client ≡ row.client) → LeavesOthers client desk (record desk { rows = with_named client name change desk.rows })
-LeavesOthers-with_named client name change desk same = LeavesOthers-rows client desk (with_named client name change desk.rows) (rows_of_others-with_named client name change desk.rows same)
+LeavesApart-with_named : (client : ℕ) (name : List ℕ) (change : Row → Row) (desk : Desk) → ((row : Row) → (change row).client ≡ row.client) → LeavesApart client desk (record desk { rows = with_named client name change desk.rows })
+LeavesApart-with_named client name change desk same = LeavesApart-rows client desk (with_named client name change desk.rows) (rows_of_others-with_named client name change desk.rows same)
 
-LeavesOthers-new : (desk : Desk) (client : ℕ) (name : List ℕ) (kind : Kind) (short : Bool) → LeavesOthers client desk (step_new desk client name kind short).1
+LeavesApart-new : (desk : Desk) (client : ℕ) (name : List ℕ) (kind : Kind) (short : Bool) → LeavesApart client desk (step_new desk client name kind short).1
 unfolding step_new
-LeavesOthers-new desk client name kind short =
-    LeavesOthers-outcome client desk (new_refusal desk client name kind short) (new_effect desk client name kind)
-    (LeavesOthers-rows client desk (desk.rows ++ new_row client name kind ∷ []) (rows_of_others-push client desk.rows (new_row client name kind) (client-new_row client name kind)))
+LeavesApart-new desk client name kind short =
+    LeavesApart-outcome client desk (new_refusal desk client name kind short) (new_effect desk client name kind)
+    (LeavesApart-rows client desk (desk.rows ++ new_row client name kind ∷ []) (rows_of_others-push client desk.rows (new_row client name kind) (client-new_row client name kind)))
 
-LeavesOthers-set : (desk : Desk) (client : ℕ) (name : List ℕ) (options : List (Attr × value.Value)) → LeavesOthers client desk (step_set desk client name options).1
+LeavesApart-set : (desk : Desk) (client : ℕ) (name : List ℕ) (options : List (Attr × value.Value)) → LeavesApart client desk (step_set desk client name options).1
 unfolding step_set
-LeavesOthers-set desk client name options =
-    LeavesOthers-outcome client desk (set_refusal desk client name options) (set_effect desk client name options)
-    (LeavesOthers-with_named client name (with_attrs options) desk (client-with_attrs options))
+LeavesApart-set desk client name options =
+    LeavesApart-outcome client desk (set_refusal desk client name options) (set_effect desk client name options)
+    (LeavesApart-with_named client name (with_attrs options) desk (client-with_attrs options))
 
-LeavesOthers-get : (desk : Desk) (client : ℕ) (name : List ℕ) (attr : Attr) → LeavesOthers client desk (step_get desk client name attr).1
+LeavesApart-get : (desk : Desk) (client : ℕ) (name : List ℕ) (attr : Attr) → LeavesApart client desk (step_get desk client name attr).1
 unfolding step_get
-LeavesOthers-get desk client name attr =
-    LeavesOthers-outcome client desk (get_refusal desk client name attr) (get_effect desk client name attr) (LeavesOthers-same client desk)
+LeavesApart-get desk client name attr =
+    LeavesApart-outcome client desk (get_refusal desk client name attr) (get_effect desk client name attr) (LeavesApart-same client desk)
 
-LeavesOthers-drop : (desk : Desk) (client : ℕ) (name : List ℕ) → LeavesOthers client desk (step_drop desk client name).1
+LeavesApart-drop : (desk : Desk) (client : ℕ) (name : List ℕ) → LeavesApart client desk (step_drop desk client name).1
 unfolding step_drop
-LeavesOthers-drop desk client name =
-    LeavesOthers-outcome client desk (drop_refusal desk client name) (drop_effect desk client name)
-    (LeavesOthers-rows client desk (without_named client name desk.rows) (rows_of_others-without_named client name desk.rows))
+LeavesApart-drop desk client name =
+    LeavesApart-outcome client desk (drop_refusal desk client name) (drop_effect desk client name)
+    (LeavesApart-rows client desk (without_named client name desk.rows) (rows_of_others-without_named client name desk.rows))
 
-LeavesOthers-place : (desk : Desk) (client : ℕ) (parent child : List ℕ) (options : List (PlaceOption × ℤ)) → LeavesOthers client desk (step_place desk client parent child options).1
+LeavesApart-place : (desk : Desk) (client : ℕ) (parent child : List ℕ) (options : List (PlaceOption × ℤ)) → LeavesApart client desk (step_place desk client parent child options).1
 unfolding step_place
-LeavesOthers-place desk client parent child options =
-    LeavesOthers-outcome client desk (place_refusals desk client parent child options) (place_effect desk client parent child options)
-    (LeavesOthers-with_named client child (with_spot (Some (parent, cell_given options))) desk (λ row. refl))
+LeavesApart-place desk client parent child options =
+    LeavesApart-outcome client desk (place_refusals desk client parent child options) (place_effect desk client parent child options)
+    (LeavesApart-with_named client child (with_spot (Some (parent, cell_given options))) desk (λ row. refl))
 
-LeavesOthers-lift : (desk : Desk) (client : ℕ) (parent child : List ℕ) → LeavesOthers client desk (step_lift desk client parent child).1
+LeavesApart-lift : (desk : Desk) (client : ℕ) (parent child : List ℕ) → LeavesApart client desk (step_lift desk client parent child).1
 unfolding step_lift
-LeavesOthers-lift desk client parent child =
-    LeavesOthers-outcome client desk (lift_refusal desk client parent child) (lift_effect desk client child)
-    (LeavesOthers-with_named client child (with_spot None) desk (λ row. refl))
+LeavesApart-lift desk client parent child =
+    LeavesApart-outcome client desk (lift_refusal desk client parent child) (lift_effect desk client child)
+    (LeavesApart-with_named client child (with_spot None) desk (λ row. refl))
 
-LeavesOthers-column : (desk : Desk) (client : ℕ) (name : List ℕ) (index : ℤ) (options : List (ConfigOption × ℤ)) → LeavesOthers client desk (step_column desk client name index options).1
+LeavesApart-column : (desk : Desk) (client : ℕ) (name : List ℕ) (index : ℤ) (options : List (ConfigOption × ℤ)) → LeavesApart client desk (step_column desk client name index options).1
 unfolding step_column
-LeavesOthers-column desk client name index options =
-    LeavesOthers-outcome client desk (config_refusal desk client name index options) (column_effect desk client name index options)
-    (LeavesOthers-with_named client name (with_column (unsigned_abs index) options) desk (λ row. refl))
+LeavesApart-column desk client name index options =
+    LeavesApart-outcome client desk (config_refusal desk client name index options) (column_effect desk client name index options)
+    (LeavesApart-with_named client name (with_column (unsigned_abs index) options) desk (λ row. refl))
 
-LeavesOthers-line : (desk : Desk) (client : ℕ) (name : List ℕ) (index : ℤ) (options : List (ConfigOption × ℤ)) → LeavesOthers client desk (step_line desk client name index options).1
+LeavesApart-line : (desk : Desk) (client : ℕ) (name : List ℕ) (index : ℤ) (options : List (ConfigOption × ℤ)) → LeavesApart client desk (step_line desk client name index options).1
 unfolding step_line
-LeavesOthers-line desk client name index options =
-    LeavesOthers-outcome client desk (config_refusal desk client name index options) (line_effect desk client name index options)
-    (LeavesOthers-with_named client name (with_line (unsigned_abs index) options) desk (λ row. refl))
+LeavesApart-line desk client name index options =
+    LeavesApart-outcome client desk (config_refusal desk client name index options) (line_effect desk client name index options)
+    (LeavesApart-with_named client name (with_line (unsigned_abs index) options) desk (λ row. refl))
 
-LeavesOthers-link : (desk : Desk) (client : ℕ) (name variable : List ℕ) → LeavesOthers client desk (step_link desk client name variable).1
+LeavesApart-link : (desk : Desk) (client : ℕ) (name variable : List ℕ) → LeavesApart client desk (step_link desk client name variable).1
 unfolding step_link
-LeavesOthers-link desk client name variable =
-    LeavesOthers-outcome client desk (link_refusal desk client name variable) (link_effect desk client name variable)
-    (LeavesOthers-with_named client name (with_link (Some variable)) desk (λ row. refl))
+LeavesApart-link desk client name variable =
+    LeavesApart-outcome client desk (link_refusal desk client name variable) (link_effect desk client name variable)
+    (LeavesApart-with_named client name (with_link (Some variable)) desk (λ row. refl))
 
-LeavesOthers-unlink : (desk : Desk) (client : ℕ) (name : List ℕ) → LeavesOthers client desk (step_unlink desk client name).1
+LeavesApart-unlink : (desk : Desk) (client : ℕ) (name : List ℕ) → LeavesApart client desk (step_unlink desk client name).1
 unfolding step_unlink
-LeavesOthers-unlink desk client name =
-    LeavesOthers-outcome client desk (unlink_refusal desk client name) (unlink_effect desk client name)
-    (LeavesOthers-with_named client name (with_link None) desk (λ row. refl))
+LeavesApart-unlink desk client name =
+    LeavesApart-outcome client desk (unlink_refusal desk client name) (unlink_effect desk client name)
+    (LeavesApart-with_named client name (with_link None) desk (λ row. refl))
 
-LeavesOthers-bind : (desk : Desk) (client : ℕ) (name : List ℕ) (event : EventKind) (tag : Option (List ℕ)) → LeavesOthers client desk (step_bind desk client name event tag).1
+LeavesApart-bind : (desk : Desk) (client : ℕ) (name : List ℕ) (event : EventKind) (tag : Option (List ℕ)) → LeavesApart client desk (step_bind desk client name event tag).1
 unfolding step_bind
-LeavesOthers-bind desk client name event tag =
-    LeavesOthers-outcome client desk (bind_refusal desk client name event) (bind_effect desk client name event tag)
-    (LeavesOthers-with_named client name (with_binding event tag) desk (λ row. refl))
+LeavesApart-bind desk client name event tag =
+    LeavesApart-outcome client desk (bind_refusal desk client name event) (bind_effect desk client name event tag)
+    (LeavesApart-with_named client name (with_binding event tag) desk (λ row. refl))
 
-LeavesOthers-open : (desk : Desk) (client : ℕ) (name : List ℕ) → LeavesOthers client desk (step_open desk client name).1
+LeavesApart-open : (desk : Desk) (client : ℕ) (name : List ℕ) → LeavesApart client desk (step_open desk client name).1
 unfolding step_open
-LeavesOthers-open desk client name =
-    LeavesOthers-outcome client desk (open_refusal desk client name) (open_effect desk client name)
+LeavesApart-open desk client name =
+    LeavesApart-outcome client desk (open_refusal desk client name) (open_effect desk client name)
     (record {
       shape = refl;
       clients = λ other differ. refl;
@@ -131,27 +153,26 @@ LeavesOthers-open desk client name =
       rings = refl;
     })
 
--- each command that is built, and the others, which change nothing
-pub LeavesOthers-row_step : (desk : Desk) (client : ℕ) (command : Command) (short : Bool) → LeavesOthers client desk (row_step desk client command short).1
-unfolding row_step
-LeavesOthers-row_step desk client (New name kind) short = LeavesOthers-new desk client name kind short
-LeavesOthers-row_step desk client (Set name options) short = LeavesOthers-set desk client name options
-LeavesOthers-row_step desk client (Get name attr) short = LeavesOthers-get desk client name attr
-LeavesOthers-row_step desk client (Place parent child options) short = LeavesOthers-place desk client parent child options
-LeavesOthers-row_step desk client (Lift parent child) short = LeavesOthers-lift desk client parent child
-LeavesOthers-row_step desk client (ColumnConfig name index options) short = LeavesOthers-column desk client name index options
-LeavesOthers-row_step desk client (RowConfig name index options) short = LeavesOthers-line desk client name index options
-LeavesOthers-row_step desk client (Link name variable) short = LeavesOthers-link desk client name variable
-LeavesOthers-row_step desk client (Unlink name) short = LeavesOthers-unlink desk client name
-LeavesOthers-row_step desk client (Bind name event tag) short = LeavesOthers-bind desk client name event (Some tag)
-LeavesOthers-row_step desk client (Unbind name event) short = LeavesOthers-bind desk client name event None
-LeavesOthers-row_step desk client (OpenWindow name) short = LeavesOthers-open desk client name
-LeavesOthers-row_step desk client (DropWidget name) short = LeavesOthers-drop desk client name
-LeavesOthers-row_step desk client _ short = LeavesOthers-same client desk
+-- each row
+LeavesApart-row : (desk : Desk) (client : ℕ) (command : Command) (short : Bool) → IfSome (row_of command) (λ row. LeavesApart client desk (row desk client short).1)
+LeavesApart-row desk client (New name kind) short = LeavesApart-new desk client name kind short
+LeavesApart-row desk client (Set name options) short = LeavesApart-set desk client name options
+LeavesApart-row desk client (Get name attr) short = LeavesApart-get desk client name attr
+LeavesApart-row desk client (Place parent child options) short = LeavesApart-place desk client parent child options
+LeavesApart-row desk client (Lift parent child) short = LeavesApart-lift desk client parent child
+LeavesApart-row desk client (ColumnConfig name index options) short = LeavesApart-column desk client name index options
+LeavesApart-row desk client (RowConfig name index options) short = LeavesApart-line desk client name index options
+LeavesApart-row desk client (Link name variable) short = LeavesApart-link desk client name variable
+LeavesApart-row desk client (Unlink name) short = LeavesApart-unlink desk client name
+LeavesApart-row desk client (Bind name event tag) short = LeavesApart-bind desk client name event (Some tag)
+LeavesApart-row desk client (Unbind name event) short = LeavesApart-bind desk client name event None
+LeavesApart-row desk client (OpenWindow name) short = LeavesApart-open desk client name
+LeavesApart-row desk client (DropWidget name) short = LeavesApart-drop desk client name
+LeavesApart-row desk client _ short = tt
 
 -- the client comes
-pub LeavesOthers-with_client : (client : ℕ) (desk : Desk) → LeavesOthers client desk (with_client client desk)
-LeavesOthers-with_client client desk = record {
+pub LeavesApart-with_client : (client : ℕ) (desk : Desk) → LeavesApart client desk (with_client client desk)
+LeavesApart-with_client client desk = record {
   shape = refl;
   clients = λ other differ. list_any-push_other client other desk.clients differ;
   rows = refl;
@@ -162,8 +183,8 @@ LeavesOthers-with_client client desk = record {
 }
 
 -- the client goes
-pub LeavesOthers-without_client : (client : ℕ) (desk : Desk) → LeavesOthers client desk (without_client client desk)
-LeavesOthers-without_client client desk = record {
+pub LeavesApart-without_client : (client : ℕ) (desk : Desk) → LeavesApart client desk (without_client client desk)
+LeavesApart-without_client client desk = record {
   shape = refl;
   clients = λ other differ. list_any-without_other client other desk.clients differ;
   rows = filter-filter (λ (row : Row). not (nat_eq client row.client)) desk.rows;
@@ -173,24 +194,135 @@ LeavesOthers-without_client client desk = record {
   rings = filter-filter (λ (ring : Ring). not (nat_eq client ring.client)) desk.rings;
 }
 
--- the six laws
-pub commands_leave_others : CommandsLeaveOthers
+-- another client's widget is in a window as it was
+is_in_window-others : (client other : ℕ) (name : List ℕ) (old new : Desk) → nat_eq client other ≡ false → LeavesApart client old new → is_in_window new other name ≡ is_in_window old other name
+is_in_window-others client other name old new differ leaves =
+    let others : (x : ℕ) → nat_eq other x ≡ true → not (nat_eq client x) ≡ true = λ x e. rw (← eqb-true other x e, differ) refl in
+    let rows : own_rows other new.rows ≡ own_rows other old.rows =
+    sym (filter-within (λ (row : Row). not (nat_eq client row.client)) (λ (row : Row). nat_eq other row.client) (λ row. others row.client) new.rows)
+    ∙ ap (own_rows other) leaves.rows
+    ∙ filter-within (λ (row : Row). not (nat_eq client row.client)) (λ (row : Row). nat_eq other row.client) (λ row. others row.client) old.rows in
+    let windows : own_windows other new.windows ≡ own_windows other old.windows =
+    sym (filter-within (λ (window : ℕ × List ℕ). not (nat_eq client window.0)) (λ (window : ℕ × List ℕ). nat_eq other window.0) (λ window. others window.0) new.windows)
+    ∙ ap (own_windows other) leaves.windows
+    ∙ filter-within (λ (window : ℕ × List ℕ). not (nat_eq client window.0)) (λ (window : ℕ × List ℕ). nat_eq other window.0) (λ window. others window.0) old.windows in
+    ap (λ root. is_open new other root) (root_in-agree most_levels other name new.rows old.rows rows)
+    ∙ list_any-agree (λ (window : ℕ × List ℕ). nat_eq other window.0) (λ (window : ℕ × List ℕ). bytes_eq (root_of old.rows other name) window.1) new.windows old.windows windows
+
+-- a grab and a focus stay, or were on the client's own widgets
+grab-left : (client : ℕ) (old new : Desk) (grab : Grab) → LeavesApart client old new → grab_left (is_in_window old) grab ≡ grab → (grab_left (is_in_window new) grab ≡ grab) ⊎ (IsGrabOf client grab × (grab_left (is_in_window new) grab ≡ Nothing))
+grab-left client old new Nothing leaves held = inl refl
+grab-left client old new (Widget owner name) leaves held = by (nat_eq client owner) refl (is_in_window new owner name) refl
+  where
+    by : (own : Bool) → nat_eq client owner ≡ own → (stays : Bool) → is_in_window new owner name ≡ stays → (cond stays (Widget owner name) Nothing ≡ Widget owner name) ⊎ ((owner ≡ client) × (cond stays (Widget owner name) Nothing ≡ Nothing))
+    by own mine true e = inl refl
+    by true mine false e = inr (sym (eqb-true client owner mine), refl)
+    by false mine false e = inl (ap (λ stays. cond stays (Widget owner name) Nothing) (sym e ∙ is_in_window-others client owner name old new mine leaves) ∙ held)
+grab-left client old new (Drag owner name dx dy) leaves held = by (nat_eq client owner) refl (is_in_window new owner name) refl
+  where
+    by : (own : Bool) → nat_eq client owner ≡ own → (stays : Bool) → is_in_window new owner name ≡ stays → (cond stays (Drag owner name dx dy) Nothing ≡ Drag owner name dx dy) ⊎ ((owner ≡ client) × (cond stays (Drag owner name dx dy) Nothing ≡ Nothing))
+    by own mine true e = inl refl
+    by true mine false e = inr (sym (eqb-true client owner mine), refl)
+    by false mine false e = inl (ap (λ stays. cond stays (Drag owner name dx dy) Nothing) (sym e ∙ is_in_window-others client owner name old new mine leaves) ∙ held)
+
+focus-left : (client : ℕ) (old new : Desk) (focus : Option (ℕ × List ℕ)) → LeavesApart client old new → focus_left (is_in_window old) focus ≡ focus → (focus_left (is_in_window new) focus ≡ focus) ⊎ (IsFocusOf client focus × (focus_left (is_in_window new) focus ≡ None))
+focus-left client old new None leaves held = inl refl
+focus-left client old new (Some widget) leaves held = by (nat_eq client widget.0) refl (is_in_window new widget.0 widget.1) refl
+  where
+    by : (own : Bool) → nat_eq client widget.0 ≡ own → (stays : Bool) → is_in_window new widget.0 widget.1 ≡ stays → (cond stays (Some widget) None ≡ Some widget) ⊎ ((widget.0 ≡ client) × (cond stays (Some widget) None ≡ None))
+    by own mine true e = inl refl
+    by true mine false e = inr (sym (eqb-true client widget.0 mine), refl)
+    by false mine false e = inl (ap (λ stays. cond stays (Some widget) None) (sym e ∙ is_in_window-others client widget.0 widget.1 old new mine leaves) ∙ held)
+
+LeavesPointer-let_go : (client : ℕ) (old new : Desk) (pointer : Pointer) → pointer ≡ old.pointer → let_go old ≡ old → LeavesApart client old new → LeavesPointer client old.pointer (record pointer { grab = grab_left (is_in_window new) pointer.grab; focus = focus_left (is_in_window new) pointer.focus })
+unfolding let_go
+LeavesPointer-let_go client old new pointer same held leaves =
+    subst (λ (p : Pointer). LeavesPointer client old.pointer (record p { grab = grab_left (is_in_window new) p.grab; focus = focus_left (is_in_window new) p.focus })) (sym same)
+    (record {
+      x = refl;
+      y = refl;
+      down = refl;
+      grab = grab-left client old new old.pointer.grab leaves (ap (λ (d : Desk). d.pointer.grab) held);
+      focus = focus-left client old new old.pointer.focus leaves (ap (λ (d : Desk). d.pointer.focus) held);
+    })
+
+-- a step's ending
+pub LeavesOthers-let_go : (client : ℕ) (old new : Desk) → let_go old ≡ old → LeavesApart client old new → LeavesOthers client old (let_go new)
+unfolding let_go
+LeavesOthers-let_go client old new held leaves = record {
+  shape = leaves.shape;
+  clients = leaves.clients;
+  rows = leaves.rows;
+  windows = leaves.windows;
+  pointer = LeavesPointer-let_go client old new new.pointer leaves.pointer held leaves;
+  roster = leaves.roster;
+  rings = leaves.rings;
+}
+
+-- What a step did before its ending left the others' parts and the pointer.
+pub record Ends (client : ℕ) (old next : Desk) : Type 0 where
+  pub before : Desk
+  pub ended : next ≡ let_go before
+  pub leaves : LeavesApart client old before
+
+pub command_ends : (desk : Desk) (client : ℕ) (command : Command) (short : Bool) (reply : Reply) (next : Desk) → step desk client command short ≡ Some (reply, next) → Ends client desk next
 unfolding step
-commands_leave_others desk client command short =
-    LeavesOthers-outcome client desk _ (row_step desk client command short) (LeavesOthers-row_step desk client command short)
+command_ends desk client command short reply next e = by (row_of command) (LeavesApart-row desk client command short) e
+  where
+    by : (row : Option (Desk → ℕ → Bool → Reply × Desk)) → IfSome row (λ row. LeavesApart client desk (row desk client short).1) → option_map (λ row. event_end (asked row desk client short)) row ≡ Some (reply, next) → Ends client desk next
+    by None leaves e = absurd (cc)
+    by (Some row) leaves e = record {
+      before = (asked row desk client short).1;
+      ended = sym (some_pair_parts (asked row desk client short).0 reply (let_go (asked row desk client short).1) next e).1;
+      leaves = LeavesApart-outcome client desk (when (not (is_connected desk client)) NotConnected) (row desk client short) leaves;
+    }
+
+pub connect_ends : (desk : Desk) (client : ℕ) (short : Bool) → Ends client desk (step_connect desk client short).1
+unfolding step_connect
+connect_ends desk client short = record {
+  before = (outcome desk (first_refusal (when (is_connected desk client) Connected ∷ when short Memory ∷ [])) (Done, with_client client desk)).1;
+  ended = refl;
+  leaves = LeavesApart-outcome client desk (first_refusal (when (is_connected desk client) Connected ∷ when short Memory ∷ [])) (Done, with_client client desk) (LeavesApart-with_client client desk);
+}
+
+pub bye_ends : (desk : Desk) (client : ℕ) → Ends client desk (step_bye desk client).1
+unfolding step_bye
+bye_ends desk client = record {
+  before = (outcome desk (when (not (is_connected desk client)) NotConnected) (Done, without_client client desk)).1;
+  ended = refl;
+  leaves = LeavesApart-outcome client desk (when (not (is_connected desk client)) NotConnected) (Done, without_client client desk) (LeavesApart-without_client client desk);
+}
+
+pub shape-let_go : (desk : Desk) → (let_go desk).shape ≡ desk.shape
+unfolding let_go
+shape-let_go desk = refl
+
+pub shape-ends : (client : ℕ) (old next : Desk) → Ends client old next → next.shape ≡ old.shape
+shape-ends client old next ends = ap (λ (d : Desk). d.shape) ends.ended ∙ shape-let_go ends.before ∙ ends.leaves.shape
+
+leaves-ends : (client : ℕ) (old next : Desk) → let_go old ≡ old → Ends client old next → LeavesOthers client old next
+leaves-ends client old next held ends =
+    subst (λ (d : Desk). LeavesOthers client old d) (sym ends.ended) (LeavesOthers-let_go client old ends.before held ends.leaves)
+
+-- the laws
+pub commands_leave_others : CommandsLeaveOthers
+commands_leave_others desk client command short reply next is e = leaves-ends client desk next is.held (command_ends desk client command short reply next e)
 
 pub connects_leave_others : ConnectsLeaveOthers
-unfolding step_connect
-connects_leave_others desk client short = LeavesOthers-outcome client desk _ (Done, with_client client desk) (LeavesOthers-with_client client desk)
+connects_leave_others desk client short is = leaves-ends client desk _ is.held (connect_ends desk client short)
 
 pub byes_leave_others : ByesLeaveOthers
-unfolding step_bye
-byes_leave_others desk client = LeavesOthers-outcome client desk _ (Done, without_client client desk) (LeavesOthers-without_client client desk)
+byes_leave_others desk client is = leaves-ends client desk _ is.held (bye_ends desk client)
 
 pub answers_depend_on_own_part : AnswersDependOnOwnPart
 unfolding step
-answers_depend_on_own_part one two client command short agree =
-    answer-outcome one two _ _ (row_step one client command short) (row_step two client command short) (rw agree.connected refl) (answer-row_step one two client command short agree)
+answers_depend_on_own_part one two client command short agree = by (row_of command) (answer-row one two client command short agree)
+  where
+    by : (row : Option (Desk → ℕ → Bool → Reply × Desk)) → option_map (λ row. (row one client short).0) row ≡ option_map (λ row. (row two client short).0) row → reply_of (option_map (λ row. event_end (asked row one client short)) row) ≡ reply_of (option_map (λ row. event_end (asked row two client short)) row)
+    by None same = refl
+    by (Some row) same =
+        let replies : (row one client short).0 ≡ (row two client short).0 = cc in
+        ap Some (answer-outcome one two (when (not (is_connected one client)) NotConnected) (when (not (is_connected two client)) NotConnected) (row one client short) (row two client short) (rw agree.connected refl) replies)
 
 pub connects_depend_on_own_part : ConnectsDependOnOwnPart
 unfolding step_connect

@@ -8,7 +8,7 @@ use Rattle.std.specs.Str.{bytes_eq}
 use Rattle.kind_core.specs.declared.kinds.Kind.{Kind}
 use Rattle.desk_model.specs.Rows.{Row}
 use Rattle.desk_model.specs.Named.{has_name, row_named, rows_counted}
-use Rattle.desk_model.specs.Trees.{parent_of, is_child, links_to, child_in, depth_in, is_above_in, greatest_child, height_in, is_used}
+use Rattle.desk_model.specs.Trees.{parent_of, is_child, links_to, child_in, depth_in, is_above_in, greatest_child, height_in, root_in, is_used}
 use Rattle.desk_model.specs.OwnPart.{own_rows}
 
 -- A test within another finds the same among what passes the other.
@@ -84,6 +84,14 @@ is_above_in-agree (suc most) client upper name a b e = rw (parent_of-agree clien
     by : ((name : List ℕ) → is_above_in most a client upper name ≡ is_above_in most b client upper name) → (next : Option (List ℕ)) → option_map_or (is_above_in most a client upper) next false ≡ option_map_or (is_above_in most b client upper) next false
     by rest None = refl
     by rest (Some next) = rest next
+
+pub root_in-agree : (most client : ℕ) (name : List ℕ) (a b : List Row) → own_rows client a ≡ own_rows client b → root_in most a client name ≡ root_in most b client name
+root_in-agree zero client name a b e = refl
+root_in-agree (suc most) client name a b e = rw (parent_of-agree client name a b e) (by (λ name. root_in-agree most client name a b e) (parent_of b client name))
+  where
+    by : ((name : List ℕ) → root_in most a client name ≡ root_in most b client name) → (upper : Option (List ℕ)) → option_map_or (root_in most a client) upper name ≡ option_map_or (root_in most b client) upper name
+    by rest None = refl
+    by rest (Some upper) = rest upper
 
 -- the children of a client's widget are its own
 greatest_child-own : (measure : List ℕ → ℕ) (client : ℕ) (name : List ℕ) (rows : List Row) → greatest_child measure client name (own_rows client rows) ≡ greatest_child measure client name rows

@@ -1,6 +1,7 @@
 -- From each valid state each event has an answer and a state after it, and each list of events has a run.
-use Rattle.std.proofs.Common.{◌≡◌, ℕ, ◌+◌, ◌-◌, ◌*◌, ◌/◌, ◌%◌, min, Bool, false, not, ◌&&◌, ◌||◌, cond, List, [], ◌∷◌, length, get_or, map, refl, sym, ap, ◌∙◌}
-use Rattle.std.specs.List.{range_with_len}
+use Rattle.std.proofs.Common.{◌≡◌, ℕ, ◌+◌, ◌-◌, ◌*◌, ◌/◌, ◌%◌, min, Bool, true, false, not, ◌&&◌, ◌||◌, cond, List, [], ◌∷◌, length, get_or, map, refl, sym, ap, ◌∙◌}
+use Rattle.std.specs.List.{All, range_with_len}
+use Rattle.std.proofs.lemmas.List.Elements.{All-head, All-tail}
 use Rattle.std.proofs.lemmas.List.FromFn.{length-map-range_with_len}
 use Rattle.cmd_words.specs.declared.inputs.Drew.{Drew}
 use Rattle.cmd_words.specs.declared.replies.Reply.{Reply}
@@ -13,13 +14,14 @@ use Rattle.desk_model.specs.Picture.{colour}
 use Rattle.desk_model.specs.Reach.{in_reach}
 use Rattle.desk_model.specs.Refusing.{is_memory}
 use Rattle.desk_model.specs.Clients.{step_connect, step_hello, step_bye}
-use Rattle.desk_model.specs.Commands.{step}
+use Rattle.cmd_words.specs.declared.commands.Command.{Command}
+use Rattle.desk_model.specs.Commands.{is_built, step}
 use Rattle.desk_model.specs.Beat.{beat, in_band, band_count}
 use Rattle.desk_model.specs.State.{State, IsState, byte_at, is_dirty, index_of, dirty_count, count_true, seen_at}
 use Rattle.desk_model.specs.Events.{Event, Answer}
 use Rattle.desk_model.specs.Events.Event.{Connect, Hello, Bye, Ask, Misread, Tick, CountDirty, LookAt, Dump}
 use Rattle.desk_model.specs.Events.Answer.{Replied, Drawn, Counted, Seen, Dumped}
-use Rattle.desk_model.specs.Step.{Step, Changed, Answered, Ticked}
+use Rattle.desk_model.specs.Step.{Step, Changed, Answered, Obeyed, Ticked, CanCome}
 use Rattle.desk_model.specs.Run.{Moment, Run, events_of}
 use Rattle.desk_model.proofs.Telling.{tell_desks}
 use Rattle.desk_model.proofs.Ample.{ample-connect, ample-hello, ample-bye, ample-command}
@@ -90,28 +92,42 @@ answered_state old stepped same ample is =
     let to = changed_state old (stepped (is_memory reply)).1 is (same (is_memory reply)) in
     (reply, to.0, record { reply_is = ap (λ short. (stepped short).0) (sym ample); change = to.1 })
 
-pub next_state : (old : State) (event : Event) → IsState old → (answer : Answer) × (new : State) × Step old event answer new
-next_state old (Connect client) is =
+-- the same of a client's command
+obeyed_state : (old : State) (client : ℕ) (command : Command) → is_built command ≡ true → IsState old → (answer : Reply) × (new : State) × Obeyed old client command answer new
+obeyed_state old client command built is =
+    let ample = ample-command old.desk client command built in
+    let to = changed_state old ample.next is (shape-step_command old.desk client command false ample.reply ample.next ample.steps) in (
+      ample.reply,
+      to.0,
+      record {
+        next = ample.next;
+        step_is = ap (λ short. step old.desk client command short) ample.has_memory ∙ ample.steps;
+        change = to.1;
+      },
+    )
+
+pub next_state : (old : State) (event : Event) → CanCome event → IsState old → (answer : Answer) × (new : State) × Step old event answer new
+next_state old (Connect client) can is =
     let to = answered_state old (λ short. step_connect old.desk client short) (shape-step_connect old.desk client) (ample-connect old.desk client) is in
-    (Replied to.0, to.1, to.2)
-next_state old Hello is =
+    (Replied to.0, to.1, (can, to.2))
+next_state old Hello can is =
     let to = answered_state old (λ short. step_hello old.desk short) (shape-step_hello old.desk) (ample-hello old.desk) is in
     (Replied to.0, to.1, to.2)
-next_state old (Bye client) is =
+next_state old (Bye client) can is =
     let to = answered_state old (λ short. step_bye old.desk client) (λ short. shape-step_bye old.desk client) (ample-bye old.desk client) is in
     (Replied to.0, to.1, to.2)
-next_state old (Ask client command) is =
-    let to = answered_state old (λ short. step old.desk client command short) (shape-step_command old.desk client command) (ample-command old.desk client command) is in
+next_state old (Ask client command) can is =
+    let to = obeyed_state old client command can is in
     (Replied to.0, to.1, to.2)
-next_state old (Misread client place) is = (Replied (Refused (Syntax place)), old, (refl, refl))
-next_state old Tick is = let to = ticked_state old is in (Drawn to.0, to.1, to.2)
-next_state old CountDirty is = (Counted (dirty_count old), old, (refl, refl))
-next_state old (LookAt x y) is = (Seen (seen_at old x y), old, (refl, refl))
-next_state old Dump is = (Dumped old.screen, old, (refl, refl))
+next_state old (Misread client place) can is = (Replied (Refused (Syntax place)), old, (refl, refl))
+next_state old Tick can is = let to = ticked_state old is in (Drawn to.0, to.1, to.2)
+next_state old CountDirty can is = (Counted (dirty_count old), old, (refl, refl))
+next_state old (LookAt x y) can is = (Seen (seen_at old x y), old, (refl, refl))
+next_state old Dump can is = (Dumped old.screen, old, (refl, refl))
 
-pub some_run : (from : State) (events : List Event) → IsState from → (moments : List Moment) × (events_of moments ≡ events) × Run from moments
-some_run from [] is = ([], refl, tt)
-some_run from (event ∷ events) is =
-    let to = next_state from event is in
-    let rest = some_run to.1 events (IsState-step from event to.0 to.1 is to.2) in
+pub some_run : (from : State) (events : List Event) → All CanCome events → IsState from → (moments : List Moment) × (events_of moments ≡ events) × Run from moments
+some_run from [] can is = ([], refl, tt)
+some_run from (event ∷ events) can is =
+    let to = next_state from event (All-head CanCome event events can) is in
+    let rest = some_run to.1 events (All-tail CanCome event events can) (IsState-step from event to.0 to.1 is to.2) in
     (record { event = event; answer = to.0; after = to.1 } ∷ rest.0, ap (λ later. event ∷ later) rest.1, (to.2, rest.2))

@@ -3,6 +3,8 @@ use Rattle.std.proofs.Common.{◌≡◌, ℕ, suc, ◌-◌, ◌*◌, ◌≤◌, 
 use Rattle.std.specs.List.{All}
 use Rattle.std.proofs.lemmas.List.{map-append}
 use Rattle.std.proofs.lemmas.List.Elements.{All-nil, All-cons, All-head, All-tail}
+use Rattle.std.proofs.lemmas.Grind.{div_ceil_times}
+use Rattle.std.proofs.Math.Nat.{mul-le-mul_right}
 use Rattle.kind_core.specs.declared.shapes.Shape.{Shape}
 use Rattle.desk_model.specs.State.{State, IsState, dirty_count}
 use Rattle.desk_model.specs.Events.{Event, Answer}
@@ -10,7 +12,7 @@ use Rattle.desk_model.specs.Events.Event.{Connect, Hello, Bye, Ask, Misread, Tic
 use Rattle.desk_model.specs.Events.Answer.{Replied, Drawn, Counted, Seen, Dumped}
 use Rattle.desk_model.specs.Step.{Step}
 use Rattle.desk_model.specs.Run.{Moment, Run, state_after, events_of}
-use Rattle.desk_model.specs.Laws.{written, KeepsBudget, IsUndisturbed, ComesRight, ComesRightThroughout, KeepsLaws}
+use Rattle.desk_model.specs.Laws.{enough_ticks, written, KeepsBudget, IsUndisturbed, ComesRight, ComesRightThroughout, KeepsLaws}
 use Rattle.desk_model.proofs.Steps.{IsState-step, shape-step}
 use Rattle.desk_model.proofs.Ticks.{ticked-within_budget, ticked-fewer, clean-is_picture}
 
@@ -93,11 +95,23 @@ fewer-ticks from (m ∷ ticks) is run only =
         let q' : last ≤ mid - n * spare = subst (λ s. last ≤ mid - n * s) e q in
         omega arith
 
+-- after enough ticks none is dirty
+none-ticks : (from : State) (ticks : List Moment) → IsState from → Run from ticks → IsUndisturbed ticks → enough_ticks from ≤ length ticks → dirty_count (state_after from ticks) ≡ 0
+none-ticks from ticks is run only enough =
+    let spare = from.desk.shape.spare in
+    let fewer = fewer-ticks from ticks is run only in
+    let all = (div_ceil_times (dirty_count from) spare is.desk.shape.spare_least).0 in
+    let cover = mul-le-mul_right spare enough in
+    omega (arith, fewer, all, cover)
+
 pub ComesRight-run : (from : State) (ticks : List Moment) → IsState from → Run from ticks → IsUndisturbed ticks → ComesRight from ticks
-ComesRight-run from ticks is run only = record {
-  fewer = fewer-ticks from ticks is run only;
-  right = clean-is_picture (state_after from ticks) (IsState-run from ticks is run);
-}
+ComesRight-run from ticks is run only =
+    let right = clean-is_picture (state_after from ticks) (IsState-run from ticks is run) in
+    record {
+      fewer = fewer-ticks from ticks is run only;
+      right = right;
+      afresh = λ enough. right (none-ticks from ticks is run only enough);
+    }
 
 pub ComesRightThroughout-run : (from : State) (moments : List Moment) → IsState from → Run from moments → ComesRightThroughout from moments
 ComesRightThroughout-run from moments is run before ticks later e only =

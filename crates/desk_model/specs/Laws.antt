@@ -1,7 +1,8 @@
 -- What holds of every run of the machine: no tick writes more than the budget, and the screen comes right
 -- while nothing but ticks happens.
-use Rattle.std.specs.Prelude.{◌≡◌, ℕ, ◌+◌, ◌-◌, ◌*◌, ◌/◌, ◌≤◌, List, ◌++◌, length}
+use Rattle.std.specs.Prelude.{◌≡◌, ℕ, ◌+◌, ◌-◌, ◌*◌, ◌≤◌, List, ◌++◌, length}
 use Rattle.std.specs.List.{All}
+use Rattle.std.specs.Int.{div_ceil}
 use Rattle.desk_model.specs.Picture.{picture}
 use Rattle.desk_model.specs.State.{State, dirty_count}
 use Rattle.desk_model.specs.Events.{Answer}
@@ -22,13 +23,9 @@ KeepsBudget from moments = All (λ (moment : Moment). written moment.answer ≤ 
 abbrev pub IsUndisturbed : List Moment → Type 0
 IsUndisturbed moments = All (λ (moment : Moment). moment.event ≡ Tick) moments
 
--- n divided by d, rounded up
-abbrev pub ceil_div : ℕ → ℕ → ℕ
-ceil_div n d = (n + d - 1) / d
-
 -- the ticks after which no pixel can be dirty: the dirty pixels divided by the spare, rounded up
 abbrev pub enough_ticks : State → ℕ
-enough_ticks state = ceil_div (dirty_count state) state.desk.shape.spare
+enough_ticks state = div_ceil (dirty_count state) state.desk.shape.spare
 
 -- the screen is the desk drawn afresh
 abbrev pub IsDrawnAfresh : State → Type 0

@@ -1,2 +1,3 @@
 pub mod Spoken
 pub mod Heard
+pub mod Suiting

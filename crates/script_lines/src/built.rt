@@ -16,6 +16,18 @@ pub fn is_built(command: &Command) -> bool
         | Command::Leave { .. }
         | Command::SendFrame { .. }
         | Command::Poll => false,
-        _ => true,
+        Command::New { .. }
+        | Command::Set { .. }
+        | Command::Get { .. }
+        | Command::Place { .. }
+        | Command::Lift { .. }
+        | Command::ColumnConfig { .. }
+        | Command::RowConfig { .. }
+        | Command::Link { .. }
+        | Command::Unlink { .. }
+        | Command::Bind { .. }
+        | Command::Unbind { .. }
+        | Command::OpenWindow { .. }
+        | Command::DropWidget { .. } => true,
     }
 }

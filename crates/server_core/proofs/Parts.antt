@@ -12,9 +12,9 @@ use Rattle.desk_model.specs.Windows.{shown_by_any, top_at}
 use Rattle.desk_model.specs.Picture.{colour, colour_through}
 use Rattle.desk_model.specs.Reach.{IsTouched, is_shown, in_reach}
 use Rattle.desk_model.specs.Refusing.{is_memory}
-use Rattle.desk_model.specs.Beat.{beat, in_band, band_count}
+use Rattle.desk_model.specs.Beat.{beat, in_band}
 use Rattle.desk_model.specs.State.{IsState, count_true, opening}
-use Rattle.desk_model.specs.Step.{Changed, Answered, Ticked}
+use Rattle.desk_model.specs.Step.{Obeyed, Changed, Answered, Ticked}
 use Rattle.desk_core.specs.Standing.{Standing, TellsChange}
 use Rattle.server_core.specs.Serving.{state_of, IsServing}
 use Rattle.server_core.specs.Sweeping.{SweptTo, mark_at, colour_under}
@@ -24,7 +24,11 @@ use Rattle.canvas_core.proofs.Span.{with_span-one}
 use Rattle.desk_model.proofs.Pixels.{place_of_pixel}
 use Rattle.desk_model.proofs.Reach.{open_windows-same}
 use Rattle.desk_model.proofs.Telling.{IsTouched-told}
-use Rattle.desk_model.proofs.Steps.{IsState-changed, IsState-ticked}
+use Rattle.cmd_words.specs.declared.commands.Command.{Command}
+use Rattle.desk_model.specs.DeskFacts.{IsDesk}
+use Rattle.desk_model.specs.Commands.{step}
+use Rattle.desk_model.proofs.Beat.{band_count-none}
+use Rattle.desk_model.proofs.Steps.{IsState-changed, IsState-ticked, shape-step_command}
 use Rattle.server_core.proofs.Sweeps.{SweptTo-count}
 use Rattle.server_core.proofs.Marks.{or_false}
 
@@ -73,19 +77,16 @@ Changed-followed before after windows bytes dirt new_windows count new_dirt widt
           ∙ ap (λ w. mark_at dirt (y * w + x) || in_reach after.changed before.desk after.desk x y) wide;
     }
 
--- What a call on the desk, and following it, make of the parts: a step of the machine, and parts that serve on.
-pub step_of_parts : {shape : Shape} {windows : List Window} {canvas : Screen} {dirt : List Bool} {dirty : ℕ} {new_windows : List Window} {count : ℕ} {new_dirt : List Bool} (before after : Standing) (stepped : Bool → Reply × Desk) (reply : Reply) → ((short : Bool) → (stepped short).1.shape ≡ before.desk.shape) → IsServing shape before.desk windows canvas dirt dirty → (reply, after.desk) ≡ stepped (is_memory reply) → TellsChange before after → Followed after shape.width windows dirt new_windows count new_dirt → Answered (state_of before.desk canvas.bytes dirt) stepped reply (state_of after.desk canvas.bytes new_dirt) × IsServing shape after.desk new_windows canvas new_dirt count
-step_of_parts {shape} {windows} {canvas} {dirt} {dirty} {new_windows} {count} {new_dirt} before after stepped reply keeps is step tells f =
+-- What a call on the desk, and following it, make of the parts: a change of the state, and parts that serve on.
+pub change_of_parts : {shape : Shape} {windows : List Window} {canvas : Screen} {dirt : List Bool} {dirty : ℕ} {new_windows : List Window} {count : ℕ} {new_dirt : List Bool} (before after : Standing) → after.desk.shape ≡ before.desk.shape → IsDesk after.desk → IsServing shape before.desk windows canvas dirt dirty → TellsChange before after → Followed after shape.width windows dirt new_windows count new_dirt → Changed (state_of before.desk canvas.bytes dirt) after.desk (state_of after.desk canvas.bytes new_dirt) × IsServing shape after.desk new_windows canvas new_dirt count
+change_of_parts {shape} {windows} {canvas} {dirt} {dirty} {new_windows} {count} {new_dirt} before after same fine is tells f =
     let old = state_of before.desk canvas.bytes dirt in
     let new = state_of after.desk canvas.bytes new_dirt in
-    let next : Desk = (stepped (is_memory reply)).1 in
-    let desk : after.desk ≡ next = ap (λ (s : Reply × Desk). s.1) step in
-    let same : after.desk.shape ≡ before.desk.shape = ap (λ (d : Desk). d.shape) desk ∙ keeps (is_memory reply) in
     let wide : shape.width ≡ before.desk.shape.width = ap (λ (s : Shape). s.width) (sym is.shape_is) in
     let ch : Changed old after.desk new = Changed-followed before after windows canvas.bytes dirt new_windows count new_dirt shape.width is.state wide is.windows_are same tells f in (
-      record { reply_is = ap (λ (s : Reply × Desk). s.0) step; change = subst (λ (d : Desk). Changed old d new) desk ch },
+      ch,
       record {
-        state = IsState-changed old after.desk new is.state same ch;
+        state = IsState-changed old after.desk new is.state fine same ch;
         shape_is = same ∙ is.shape_is;
         windows_are = followed_windows before after windows new_windows is.windows_are tells f.windows_are;
         screen = is.screen;
@@ -95,9 +96,28 @@ step_of_parts {shape} {windows} {canvas} {dirt} {dirty} {new_windows} {count} {n
       },
     )
 
+-- The same as a step of the machine.
+pub step_of_parts : {shape : Shape} {windows : List Window} {canvas : Screen} {dirt : List Bool} {dirty : ℕ} {new_windows : List Window} {count : ℕ} {new_dirt : List Bool} (before after : Standing) (stepped : Bool → Reply × Desk) (reply : Reply) → ((short : Bool) → (stepped short).1.shape ≡ before.desk.shape) → IsDesk after.desk → IsServing shape before.desk windows canvas dirt dirty → (reply, after.desk) ≡ stepped (is_memory reply) → TellsChange before after → Followed after shape.width windows dirt new_windows count new_dirt → Answered (state_of before.desk canvas.bytes dirt) stepped reply (state_of after.desk canvas.bytes new_dirt) × IsServing shape after.desk new_windows canvas new_dirt count
+step_of_parts {shape} {windows} {canvas} {dirt} {dirty} {new_windows} {count} {new_dirt} before after stepped reply keeps fine is step tells f =
+    let old = state_of before.desk canvas.bytes dirt in
+    let new = state_of after.desk canvas.bytes new_dirt in
+    let desk : after.desk ≡ (stepped (is_memory reply)).1 = ap (λ (s : Reply × Desk). s.1) step in
+    let same : after.desk.shape ≡ before.desk.shape = ap (λ (d : Desk). d.shape) desk ∙ keeps (is_memory reply) in
+    let made = change_of_parts before after same fine is tells f in (
+      record { reply_is = ap (λ (s : Reply × Desk). s.0) step; change = subst (λ (d : Desk). Changed old d new) desk made.0 },
+      made.1,
+    )
+
+-- The same of a client's command.
+pub obeyed_of_parts : {shape : Shape} {windows : List Window} {canvas : Screen} {dirt : List Bool} {dirty : ℕ} {new_windows : List Window} {count : ℕ} {new_dirt : List Bool} (before after : Standing) (client : ℕ) (command : Command) (reply : Reply) → IsDesk after.desk → IsServing shape before.desk windows canvas dirt dirty → step before.desk client command (is_memory reply) ≡ Some (reply, after.desk) → TellsChange before after → Followed after shape.width windows dirt new_windows count new_dirt → Obeyed (state_of before.desk canvas.bytes dirt) client command reply (state_of after.desk canvas.bytes new_dirt) × IsServing shape after.desk new_windows canvas new_dirt count
+obeyed_of_parts before after client command reply fine is steps tells f =
+    let same : after.desk.shape ≡ before.desk.shape = shape-step_command before.desk client command (is_memory reply) reply after.desk steps in
+    let made = change_of_parts before after same fine is tells f in
+    (record { next = after.desk; step_is = steps; change = made.0 }, made.1)
+
 -- a sweep of the whole map is a tick
 Ticked-from_sweep : (desk : Desk) (bytes : List ℕ) (dirt : List Bool) (bands queue left : ℕ) (new_bytes : List ℕ) (new_dirt : List Bool) → IsState (state_of desk bytes dirt) → SweptTo (length dirt) (colour_under (open_windows desk) desk.shape.width) (desk.shape.budget - bands) bytes dirt queue new_bytes new_dirt → bands ≡ 0 → left ≡ count_true dirt - queue → Ticked (state_of desk bytes dirt) (record { bands = bands; queue = queue; left = left }) (state_of desk new_bytes new_dirt)
-unfolding beat in_band band_count colour
+unfolding beat in_band colour
 Ticked-from_sweep desk bytes dirt bands queue left new_bytes new_dirt is s none e =
     record {
       desk = refl;
@@ -110,7 +130,7 @@ Ticked-from_sweep desk bytes dirt bands queue left new_bytes new_dirt is s none 
           ∙ ap (λ c. cond lost c (get_or bytes k 0)) (at_pixel (λ u v. colour desk u v) desk.shape.width x y hx)
           ∙ ap (λ b. cond b (colour desk x y) (get_or bytes k 0)) (or_false lost);
       dirt = λ x y hx hy on. s.cleans (y * desk.shape.width + x) on;
-      bands = none;
+      bands = none ∙ sym (band_count-none desk);
       queue = SweptTo-count (colour_under (open_windows desk) desk.shape.width) (desk.shape.budget - bands) bytes dirt queue new_bytes new_dirt s;
       left = omega (arith, s.cleaned);
       cleaned = s.cleaned;

@@ -1,5 +1,6 @@
 -- The laws of the machine, each a statement over its definitions alone.
-use Rattle.std.specs.Prelude.{◌≡◌, ◌≢◌, ℕ, Bool, false, List, ◌++◌}
+use Rattle.std.specs.Prelude.{◌≡◌, ◌≢◌, ℕ, ◌-◌, ◌*◌, ◌≤◌, Bool, false, List, ◌++◌, length}
+use Rattle.std.specs.List.{All}
 use Rattle.cmd_words.specs.declared.inputs.Drew.{Drew}
 use Rattle.kind_core.specs.declared.shapes.Shape.{Shape}
 use Rattle.desk_model.specs.Shapes.{IsShape}
@@ -11,10 +12,10 @@ use Rattle.desk_model.specs.State.{State, IsState, opening, dirty_count}
 use Rattle.desk_model.specs.Events.{Event, Answer}
 use Rattle.desk_model.specs.Events.Event.{Tick}
 use Rattle.desk_model.specs.Events.Answer.{Drawn}
-use Rattle.desk_model.specs.Step.{Step}
+use Rattle.desk_model.specs.Step.{Step, CanCome}
 use Rattle.desk_model.specs.Chosen.{lost_marks, TickedWith}
 use Rattle.desk_model.specs.Run.{Moment, Run, state_after, events_of}
-use Rattle.desk_model.specs.Laws.{KeepsLaws}
+use Rattle.desk_model.specs.Laws.{KeepsBudget, IsUndisturbed, enough_ticks, IsDrawnAfresh, KeepsLaws}
 
 -- Between any two desks no pixel outside the reach has another colour.
 abbrev pub ColoursAgreeOutsideTheReach : Type 0
@@ -30,7 +31,7 @@ BeatsChangeOnlyTheirBands =
 abbrev pub OpeningIsValid : Type 0
 OpeningIsValid = (shape : Shape) → IsShape shape → IsState (opening shape)
 
--- A step from a valid state leads to a valid one: each pixel stays dirty or right.
+-- A step from a valid state leads to a valid one: what holds of a desk holds, and each pixel stays dirty or right.
 abbrev pub StepsKeepStatesValid : Type 0
 StepsKeepStatesValid =
     (old : State) (event : Event) (answer : Answer) (new : State) → IsState old → Step old event answer new → IsState new
@@ -50,15 +51,15 @@ abbrev pub CleanStatesShowThePicture : Type 0
 CleanStatesShowThePicture =
     (state : State) → IsState state → dirty_count state ≡ 0 → state.screen ≡ picture state.desk
 
--- From each valid state each event has an answer and a state after it.
+-- From each valid state each event that can come has an answer and a state after it.
 abbrev pub EventsHaveAnswers : Type 0
 EventsHaveAnswers =
-    (old : State) (event : Event) → IsState old → (answer : Answer) × (new : State) × Step old event answer new
+    (old : State) (event : Event) → CanCome event → IsState old → (answer : Answer) × (new : State) × Step old event answer new
 
--- From each valid state each list of events has a run.
+-- From each valid state each list of events that can come has a run.
 abbrev pub EventsHaveARun : Type 0
 EventsHaveARun =
-    (from : State) (events : List Event) → IsState from → (moments : List Moment) × (events_of moments ≡ events) × Run from moments
+    (from : State) (events : List Event) → All CanCome events → IsState from → (moments : List Moment) × (events_of moments ≡ events) × Run from moments
 
 -- Two runs, the second from where the first ends, are one.
 abbrev pub RunsJoin : Type 0
@@ -69,6 +70,21 @@ RunsJoin =
 abbrev pub RunsKeepStatesValid : Type 0
 RunsKeepStatesValid =
     (from : State) (moments : List Moment) → IsState from → Run from moments → IsState (state_after from moments)
+
+-- In a run from a valid state no tick writes more pixels than the budget.
+abbrev pub TicksKeepTheBudget : Type 0
+TicksKeepTheBudget = (from : State) (moments : List Moment) → IsState from → Run from moments → KeepsBudget from moments
+
+-- From a valid state n undisturbed ticks leave at most the dirty pixels less n times the spare.
+abbrev pub TicksLeaveFewer : Type 0
+TicksLeaveFewer =
+    (from : State) (ticks : List Moment) → IsState from → Run from ticks → IsUndisturbed ticks → dirty_count (state_after from ticks) ≤ dirty_count from - length ticks * from.desk.shape.spare
+
+-- From a valid state the screen is the desk drawn afresh after as many undisturbed ticks as the dirty pixels divided
+-- by the spare, rounded up, or more.
+abbrev pub EnoughTicksDrawAfresh : Type 0
+EnoughTicksDrawAfresh =
+    (from : State) (ticks : List Moment) → IsState from → Run from ticks → IsUndisturbed ticks → enough_ticks from ≤ length ticks → IsDrawnAfresh (state_after from ticks)
 
 -- Every run from a valid state keeps the laws: no tick writes more than the budget, and the screen comes right
 -- while nothing but ticks happens.

@@ -1,7 +1,7 @@
 //! Laws of the machine, over the definitions alone. Each is a function without parameters whose contract is
 //! the law. docs/MACHINE.md reads them in prose.
 
-ghost use Rattle.server_core.specs.Laws.{ColoursAgreeOutsideTheReach, BeatsChangeOnlyTheirBands, OpeningIsValid, StepsKeepStatesValid, OnlyTicksDraw, TicksCleanAChosenSet, CleanStatesShowThePicture, EventsHaveAnswers, EventsHaveARun, RunsJoin, RunsKeepStatesValid, RunsKeepTheLaws};
+ghost use Rattle.server_core.specs.Laws.{ColoursAgreeOutsideTheReach, BeatsChangeOnlyTheirBands, OpeningIsValid, StepsKeepStatesValid, OnlyTicksDraw, TicksCleanAChosenSet, CleanStatesShowThePicture, EventsHaveAnswers, EventsHaveARun, RunsJoin, RunsKeepStatesValid, TicksKeepTheBudget, TicksLeaveFewer, EnoughTicksDrawAfresh, RunsKeepTheLaws};
 
 /// Between any two desks no pixel outside the reach of the change has another colour.
 pub fn colours_agree_outside_the_reach()
@@ -18,7 +18,8 @@ pub fn the_opening_state_is_valid()
     ensures { OpeningIsValid }
 {}
 
-/// Each step from a valid state leads to a valid one: between any two events each pixel is dirty or right.
+/// Each step from a valid state leads to a valid one: between any two events all that holds of a desk holds, and
+/// each pixel is dirty or right.
 pub fn each_step_keeps_the_state_valid()
     ensures { StepsKeepStatesValid }
 {}
@@ -39,12 +40,12 @@ pub fn a_clean_state_shows_the_picture()
     ensures { CleanStatesShowThePicture }
 {}
 
-/// From each valid state each event has an answer and a state after it.
+/// From each valid state each event that can come has an answer and a state after it.
 pub fn each_event_has_an_answer()
     ensures { EventsHaveAnswers }
 {}
 
-/// From each valid state each list of events has a run.
+/// From each valid state each list of events that can come has a run.
 pub fn each_list_of_events_has_a_run()
     ensures { EventsHaveARun }
 {}
@@ -59,9 +60,23 @@ pub fn every_run_keeps_the_state_valid()
     ensures { RunsKeepStatesValid }
 {}
 
-/// In every run from a valid state no tick writes more than the budget, and wherever only ticks happen for a
-/// while, n of them leave at most the dirty pixels less n times the spare; with none dirty the screen is the
-/// picture.
+/// In every run from a valid state no tick writes more pixels than the budget.
+pub fn no_tick_writes_more_than_the_budget()
+    ensures { TicksKeepTheBudget }
+{}
+
+/// From a valid state n undisturbed ticks leave at most the dirty pixels less n times the spare.
+pub fn undisturbed_ticks_leave_fewer()
+    ensures { TicksLeaveFewer }
+{}
+
+/// From a valid state the screen is the desk drawn afresh after `ceil(dirty/spare)` undisturbed ticks, or more.
+pub fn enough_ticks_draw_the_desk_afresh()
+    ensures { EnoughTicksDrawAfresh }
+{}
+
+/// In every run from a valid state all three hold, wherever only ticks happen for a while; and with none dirty the
+/// screen is the desk drawn afresh.
 pub fn every_run_keeps_the_laws()
     ensures { RunsKeepTheLaws }
 {}

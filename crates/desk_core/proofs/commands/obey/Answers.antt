@@ -5,121 +5,99 @@ use Rattle.kind_core.specs.declared.values.Value as value
 use Rattle.cmd_words.specs.declared.commands.Command.{Command}
 use Rattle.cmd_words.specs.declared.commands.ConfigOption.{ConfigOption}
 use Rattle.cmd_words.specs.declared.commands.PlaceOption.{PlaceOption}
-use Rattle.cmd_words.specs.declared.replies.Reply.TheVariants.{NoEvent}
-use Rattle.desk_model.specs.Commands.{row_step}
+use Rattle.desk_model.specs.Commands.{row_of}
 use Rattle.desk_model.specs.Making.{step_new, step_set, step_get, step_drop}
 use Rattle.desk_model.specs.Hanging.{step_place, step_lift, step_column, step_line}
 use Rattle.desk_model.specs.Linking.{step_link, step_unlink, step_bind, step_open}
 use Rattle.desk_model.specs.Refusing.{is_memory}
 use Rattle.desk_core.specs.Did.{Did}
-use Rattle.desk_core.proofs.Obeying.{row_did, obeyed, rest_step, nothing_all}
+use Rattle.desk_core.proofs.Obeying.{row_did, obeyed}
 use Rattle.desk_core.proofs.Tells.{tells_all}
 use Rattle.desk_core.proofs.commands.obey.Goals as goal
 
 pub returns-in-New-clause-did : goal.returns-in-New-clause-did
-unfolding row_step
 returns-in-New-clause-did c =
-    obeyed c.args.client c.args.command.now (λ desk. step_new desk c.args.client c.in-New.name c.in-New.kind (is_memory c.make.result.reply)) c.args.tree.now c.make.new.tree c.args.windows.now c.make.result.reply
-    (λ desk. ap (λ (command : Command). row_step desk c.args.client command (is_memory c.make.result.reply)) (sym c.in-New.is))
+    obeyed c.args.client (row_of c.args.command.now) (λ desk client short. step_new desk client c.in-New.name c.in-New.kind short) (λ desk. step_new desk c.args.client c.in-New.name c.in-New.kind (is_memory c.make.result.reply)) c.args.tree.now c.make.new.tree c.args.windows.now c.make.result.reply
+    (ap row_of c.in-New.is) (λ desk. refl)
     c.make.ensures.did c.requires.standing c.make.ensures.valid
 
 pub returns-in-Set-clause-did : goal.returns-in-Set-clause-did
-unfolding row_step
 returns-in-Set-clause-did c =
-    obeyed c.args.client c.args.command.now (λ desk. step_set desk c.args.client c.in-Set.name c.as_slice.result.now) c.args.tree.now c.set.new.tree c.args.windows.now c.set.result.reply
-    (λ desk. ap (λ (options : List (Attr × value.Value)). step_set desk c.args.client c.in-Set.name options) c.as_slice.ensures.items ∙ ap (λ (command : Command). row_step desk c.args.client command (is_memory c.set.result.reply)) (sym c.in-Set.is))
+    obeyed c.args.client (row_of c.args.command.now) (λ desk client short. step_set desk client c.in-Set.name c.in-Set.options) (λ desk. step_set desk c.args.client c.in-Set.name c.as_slice.result.now) c.args.tree.now c.set.new.tree c.args.windows.now c.set.result.reply
+    (ap row_of c.in-Set.is) (λ desk. ap (λ (options : List (Attr × value.Value)). step_set desk c.args.client c.in-Set.name options) c.as_slice.ensures.items)
     c.set.ensures.did c.requires.standing c.set.ensures.valid
 
 pub returns-in-Get-clause-did : goal.returns-in-Get-clause-did
-unfolding row_step
 returns-in-Get-clause-did c =
-    obeyed c.args.client c.args.command.now (λ desk. step_get desk c.args.client c.in-Get.name c.in-Get.attr) c.args.tree.now c.args.tree.now c.args.windows.now c.get.result.reply
-    (λ desk. ap (λ (command : Command). row_step desk c.args.client command (is_memory c.get.result.reply)) (sym c.in-Get.is))
+    obeyed c.args.client (row_of c.args.command.now) (λ desk client short. step_get desk client c.in-Get.name c.in-Get.attr) (λ desk. step_get desk c.args.client c.in-Get.name c.in-Get.attr) c.args.tree.now c.args.tree.now c.args.windows.now c.get.result.reply
+    (ap row_of c.in-Get.is) (λ desk. refl)
     c.get.ensures.did c.requires.standing c.get.ensures.valid
 
 pub returns-in-Place-clause-did : goal.returns-in-Place-clause-did
-unfolding row_step
 returns-in-Place-clause-did c =
-    obeyed c.args.client c.args.command.now (λ desk. step_place desk c.args.client c.in-Place.parent c.in-Place.child c.as_slice-in-Place.result.now) c.args.tree.now c.place.new.tree c.args.windows.now c.place.result.reply
-    (λ desk. ap (λ (options : List (PlaceOption × ℤ)). step_place desk c.args.client c.in-Place.parent c.in-Place.child options) c.as_slice-in-Place.ensures.items ∙ ap (λ (command : Command). row_step desk c.args.client command (is_memory c.place.result.reply)) (sym c.in-Place.is))
+    obeyed c.args.client (row_of c.args.command.now) (λ desk client short. step_place desk client c.in-Place.parent c.in-Place.child c.in-Place.options) (λ desk. step_place desk c.args.client c.in-Place.parent c.in-Place.child c.as_slice-in-Place.result.now) c.args.tree.now c.place.new.tree c.args.windows.now c.place.result.reply
+    (ap row_of c.in-Place.is) (λ desk. ap (λ (options : List (PlaceOption × ℤ)). step_place desk c.args.client c.in-Place.parent c.in-Place.child options) c.as_slice-in-Place.ensures.items)
     c.place.ensures.did c.requires.standing c.place.ensures.valid
 
 pub returns-in-Lift-clause-did : goal.returns-in-Lift-clause-did
-unfolding row_step
 returns-in-Lift-clause-did c =
-    obeyed c.args.client c.args.command.now (λ desk. step_lift desk c.args.client c.in-Lift.parent c.in-Lift.child) c.args.tree.now c.lift.new.tree c.args.windows.now c.lift.result.reply
-    (λ desk. ap (λ (command : Command). row_step desk c.args.client command (is_memory c.lift.result.reply)) (sym c.in-Lift.is))
+    obeyed c.args.client (row_of c.args.command.now) (λ desk client short. step_lift desk client c.in-Lift.parent c.in-Lift.child) (λ desk. step_lift desk c.args.client c.in-Lift.parent c.in-Lift.child) c.args.tree.now c.lift.new.tree c.args.windows.now c.lift.result.reply
+    (ap row_of c.in-Lift.is) (λ desk. refl)
     c.lift.ensures.did c.requires.standing c.lift.ensures.valid
 
 pub returns-in-ColumnConfig-clause-did : goal.returns-in-ColumnConfig-clause-did
-unfolding row_step
 returns-in-ColumnConfig-clause-did c =
     let fits : SFits w32 c.in-ColumnConfig.index = search rules in
     let plain : to_z w32 (of_z w32 c.in-ColumnConfig.index) ≡ c.in-ColumnConfig.index = to_z-of_z w32 c.in-ColumnConfig.index fits in
     let P : ℤ → Type 0 = λ index. Did (λ desk. step_column desk c.args.client c.in-ColumnConfig.name index c.as_slice-in-ColumnConfig.result.now) c.args.tree.now c.rule_column.new.tree c.rule_column.result.reply in
-    obeyed c.args.client c.args.command.now (λ desk. step_column desk c.args.client c.in-ColumnConfig.name c.in-ColumnConfig.index c.as_slice-in-ColumnConfig.result.now) c.args.tree.now c.rule_column.new.tree c.args.windows.now c.rule_column.result.reply
-    (λ desk. ap (λ (options : List (ConfigOption × ℤ)). step_column desk c.args.client c.in-ColumnConfig.name c.in-ColumnConfig.index options) c.as_slice-in-ColumnConfig.ensures.items ∙ ap (λ (command : Command). row_step desk c.args.client command (is_memory c.rule_column.result.reply)) (sym c.in-ColumnConfig.is))
+    obeyed c.args.client (row_of c.args.command.now) (λ desk client short. step_column desk client c.in-ColumnConfig.name c.in-ColumnConfig.index c.in-ColumnConfig.options) (λ desk. step_column desk c.args.client c.in-ColumnConfig.name c.in-ColumnConfig.index c.as_slice-in-ColumnConfig.result.now) c.args.tree.now c.rule_column.new.tree c.args.windows.now c.rule_column.result.reply
+    (ap row_of c.in-ColumnConfig.is) (λ desk. ap (λ (options : List (ConfigOption × ℤ)). step_column desk c.args.client c.in-ColumnConfig.name c.in-ColumnConfig.index options) c.as_slice-in-ColumnConfig.ensures.items)
     (subst P plain c.rule_column.ensures.did) c.requires.standing c.rule_column.ensures.valid
 
 pub returns-in-RowConfig-clause-did : goal.returns-in-RowConfig-clause-did
-unfolding row_step
 returns-in-RowConfig-clause-did c =
     let fits : SFits w32 c.in-RowConfig.index = search rules in
     let plain : to_z w32 (of_z w32 c.in-RowConfig.index) ≡ c.in-RowConfig.index = to_z-of_z w32 c.in-RowConfig.index fits in
     let P : ℤ → Type 0 = λ index. Did (λ desk. step_line desk c.args.client c.in-RowConfig.name index c.as_slice-in-RowConfig.result.now) c.args.tree.now c.rule_row.new.tree c.rule_row.result.reply in
-    obeyed c.args.client c.args.command.now (λ desk. step_line desk c.args.client c.in-RowConfig.name c.in-RowConfig.index c.as_slice-in-RowConfig.result.now) c.args.tree.now c.rule_row.new.tree c.args.windows.now c.rule_row.result.reply
-    (λ desk. ap (λ (options : List (ConfigOption × ℤ)). step_line desk c.args.client c.in-RowConfig.name c.in-RowConfig.index options) c.as_slice-in-RowConfig.ensures.items ∙ ap (λ (command : Command). row_step desk c.args.client command (is_memory c.rule_row.result.reply)) (sym c.in-RowConfig.is))
+    obeyed c.args.client (row_of c.args.command.now) (λ desk client short. step_line desk client c.in-RowConfig.name c.in-RowConfig.index c.in-RowConfig.options) (λ desk. step_line desk c.args.client c.in-RowConfig.name c.in-RowConfig.index c.as_slice-in-RowConfig.result.now) c.args.tree.now c.rule_row.new.tree c.args.windows.now c.rule_row.result.reply
+    (ap row_of c.in-RowConfig.is) (λ desk. ap (λ (options : List (ConfigOption × ℤ)). step_line desk c.args.client c.in-RowConfig.name c.in-RowConfig.index options) c.as_slice-in-RowConfig.ensures.items)
     (subst P plain c.rule_row.ensures.did) c.requires.standing c.rule_row.ensures.valid
 
 pub returns-in-Link-clause-did : goal.returns-in-Link-clause-did
-unfolding row_step
 returns-in-Link-clause-did c =
-    obeyed c.args.client c.args.command.now (λ desk. step_link desk c.args.client c.in-Link.name c.in-Link.variable) c.args.tree.now c.link.new.tree c.args.windows.now c.link.result.reply
-    (λ desk. ap (λ (command : Command). row_step desk c.args.client command (is_memory c.link.result.reply)) (sym c.in-Link.is))
+    obeyed c.args.client (row_of c.args.command.now) (λ desk client short. step_link desk client c.in-Link.name c.in-Link.variable) (λ desk. step_link desk c.args.client c.in-Link.name c.in-Link.variable) c.args.tree.now c.link.new.tree c.args.windows.now c.link.result.reply
+    (ap row_of c.in-Link.is) (λ desk. refl)
     c.link.ensures.did c.requires.standing c.link.ensures.valid
 
 pub returns-in-Unlink-clause-did : goal.returns-in-Unlink-clause-did
-unfolding row_step
 returns-in-Unlink-clause-did c =
-    obeyed c.args.client c.args.command.now (λ desk. step_unlink desk c.args.client c.in-Unlink.name) c.args.tree.now c.unlink.new.tree c.args.windows.now c.unlink.result.reply
-    (λ desk. ap (λ (command : Command). row_step desk c.args.client command (is_memory c.unlink.result.reply)) (sym c.in-Unlink.is))
+    obeyed c.args.client (row_of c.args.command.now) (λ desk client short. step_unlink desk client c.in-Unlink.name) (λ desk. step_unlink desk c.args.client c.in-Unlink.name) c.args.tree.now c.unlink.new.tree c.args.windows.now c.unlink.result.reply
+    (ap row_of c.in-Unlink.is) (λ desk. refl)
     c.unlink.ensures.did c.requires.standing c.unlink.ensures.valid
 
 pub returns-in-Bind-clause-did : goal.returns-in-Bind-clause-did
-unfolding row_step
 returns-in-Bind-clause-did c =
-    obeyed c.args.client c.args.command.now (λ desk. step_bind desk c.args.client c.in-Bind.name c.in-Bind.event (Some c.in-Bind.tag)) c.args.tree.now c.bind.new.tree c.args.windows.now c.bind.result.reply
-    (λ desk. ap (λ (command : Command). row_step desk c.args.client command (is_memory c.bind.result.reply)) (sym c.in-Bind.is))
+    obeyed c.args.client (row_of c.args.command.now) (λ desk client short. step_bind desk client c.in-Bind.name c.in-Bind.event (Some c.in-Bind.tag)) (λ desk. step_bind desk c.args.client c.in-Bind.name c.in-Bind.event (Some c.in-Bind.tag)) c.args.tree.now c.bind.new.tree c.args.windows.now c.bind.result.reply
+    (ap row_of c.in-Bind.is) (λ desk. refl)
     c.bind.ensures.did c.requires.standing c.bind.ensures.valid
 
 pub returns-in-Unbind-clause-did : goal.returns-in-Unbind-clause-did
-unfolding row_step
 returns-in-Unbind-clause-did c =
-    obeyed c.args.client c.args.command.now (λ desk. step_bind desk c.args.client c.in-Unbind.name c.in-Unbind.event None) c.args.tree.now c.bind-in-Unbind.new.tree c.args.windows.now c.bind-in-Unbind.result.reply
-    (λ desk. ap (λ (command : Command). row_step desk c.args.client command (is_memory c.bind-in-Unbind.result.reply)) (sym c.in-Unbind.is))
+    obeyed c.args.client (row_of c.args.command.now) (λ desk client short. step_bind desk client c.in-Unbind.name c.in-Unbind.event None) (λ desk. step_bind desk c.args.client c.in-Unbind.name c.in-Unbind.event None) c.args.tree.now c.bind-in-Unbind.new.tree c.args.windows.now c.bind-in-Unbind.result.reply
+    (ap row_of c.in-Unbind.is) (λ desk. refl)
     c.bind-in-Unbind.ensures.did c.requires.standing c.bind-in-Unbind.ensures.valid
 
 pub returns-in-OpenWindow-clause-did : goal.returns-in-OpenWindow-clause-did
-unfolding row_step
 returns-in-OpenWindow-clause-did c =
-    row_did c.args.client c.args.command.now (λ desk. step_open desk c.args.client c.in-OpenWindow.name) c.args.tree.now c.args.tree.now c.args.windows.now c.open_window.new.windows c.open_window.result.reply
-    (λ desk. ap (λ (command : Command). row_step desk c.args.client command (is_memory c.open_window.result.reply)) (sym c.in-OpenWindow.is))
+    row_did c.args.client (row_of c.args.command.now) (λ desk client short. step_open desk client c.in-OpenWindow.name) (λ desk. step_open desk c.args.client c.in-OpenWindow.name) c.args.tree.now c.args.tree.now c.args.windows.now c.open_window.new.windows c.open_window.result.reply
+    (ap row_of c.in-OpenWindow.is) (λ desk. refl)
     c.open_window.ensures.did
 
 pub returns-in-DropWidget-clause-did : goal.returns-in-DropWidget-clause-did
-unfolding row_step
 returns-in-DropWidget-clause-did c =
-    row_did c.args.client c.args.command.now (λ desk. step_drop desk c.args.client c.in-DropWidget.name) c.args.tree.now c.drop_widget.new.tree c.args.windows.now c.args.windows.now c.drop_widget.result.reply
-    (λ desk. ap (λ (command : Command). row_step desk c.args.client command (is_memory c.drop_widget.result.reply)) (sym c.in-DropWidget.is))
+    row_did c.args.client (row_of c.args.command.now) (λ desk client short. step_drop desk client c.in-DropWidget.name) (λ desk. step_drop desk c.args.client c.in-DropWidget.name) c.args.tree.now c.drop_widget.new.tree c.args.windows.now c.args.windows.now c.drop_widget.result.reply
+    (ap row_of c.in-DropWidget.is) (λ desk. refl)
     c.drop_widget.ensures.did
-
-pub returns-in_default-clause-did : goal.returns-in_default-clause-did
-unfolding row_step
-returns-in_default-clause-did c =
-    let rest = c.in_default in
-    row_did c.args.client c.args.command.now (λ desk. (NoEvent, desk)) c.args.tree.now c.args.tree.now c.args.windows.now c.args.windows.now NoEvent
-    (λ desk. sym (rest_step desk c.args.client c.args.command.now (is_memory NoEvent) rest.not-New rest.not-Set rest.not-Get rest.not-Place rest.not-Lift rest.not-ColumnConfig rest.not-RowConfig rest.not-Link rest.not-Unlink rest.not-Bind rest.not-Unbind rest.not-OpenWindow rest.not-DropWidget))
-    (nothing_all c.args.tree.now c.args.windows.now c.requires.standing)
 
 pub returns-in-New-clause-tells : goal.returns-in-New-clause-tells
 returns-in-New-clause-tells c =

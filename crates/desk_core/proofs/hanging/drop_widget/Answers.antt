@@ -15,7 +15,7 @@ use Rattle.desk_core.proofs.hanging.drop_widget.Goals as goal
 pub returns-in-None-clause-did : goal.returns-in-None-clause-did
 returns-in-None-clause-did c =
     refused_all (λ desk. step_drop desk c.args.client c.args.name.now) c.args.tree.now c.args.windows.now _ told.NoSuchName c.requires c.refused.ensures.reply
-    (λ shape. step_drop-by (desk_of shape c.args.tree.now c.args.windows.now) c.args.client c.args.name.now None (is_open (desk_of shape c.args.tree.now c.args.windows.now) c.args.client c.args.name.now) c.in-None.ensures.found refl)
+    (λ setting. step_drop-by (desk_of setting c.args.tree.now c.args.windows.now) c.args.client c.args.name.now None (is_open (desk_of setting c.args.tree.now c.args.windows.now) c.args.client c.args.name.now) c.in-None.ensures.found refl)
 
 pub returns-then-is_open-clause-did : goal.returns-then-is_open-clause-did
 returns-then-is_open-clause-did c =
@@ -23,7 +23,7 @@ returns-then-is_open-clause-did c =
     let opened = is_open-holds_key c.args.tree.now c.args.client c.args.name.now c.in-Some.found.id.key c.in-Some.found.kind c.args.windows.now c.requires.tree.forest.own_names found c.requires.windows ∙ sym c.if-is_open.ensures in
     let both : (is_used (rows_of c.args.tree.now) found.row || true) ≡ true = or_right _ _ refl in
     refused_all (λ desk. step_drop desk c.args.client c.args.name.now) c.args.tree.now c.args.windows.now _ told.InUse c.requires c.refused-then-is_open.ensures.reply
-    (λ shape. step_drop-by (desk_of shape c.args.tree.now c.args.windows.now) c.args.client c.args.name.now (Some found.row) true found.named opened ∙ rw both refl)
+    (λ setting. step_drop-by (desk_of setting c.args.tree.now c.args.windows.now) c.args.client c.args.name.now (Some found.row) true found.named opened ∙ rw both refl)
 
 pub returns-in-Ok-clause-did : goal.returns-in-Ok-clause-did
 returns-in-Ok-clause-did c =
@@ -45,4 +45,4 @@ returns-in-Err-clause-did c =
     let P : Widgets → Type 0 = λ w. DidAll (λ desk. step_drop desk c.args.client c.args.name.now) c.args.tree.now w c.args.windows.now c.args.windows.now c.refused-in-Err.result.reply in
     subst P (sym c.in-Err.ensures.err)
     (refused_all (λ desk. step_drop desk c.args.client c.args.name.now) c.args.tree.now c.args.windows.now _ told.InUse c.requires c.refused-in-Err.ensures.reply
-    (λ shape. step_drop-by (desk_of shape c.args.tree.now c.args.windows.now) c.args.client c.args.name.now (Some found.row) false found.named shut ∙ rw used refl))
+    (λ setting. step_drop-by (desk_of setting c.args.tree.now c.args.windows.now) c.args.client c.args.name.now (Some found.row) false found.named shut ∙ rw used refl))

@@ -9,14 +9,14 @@ use Rattle.desk_core.proofs.opening.open_window.Goals as goal
 pub returns-in-None-clause-did : goal.returns-in-None-clause-did
 returns-in-None-clause-did c =
     refused_all (λ desk. step_open desk c.args.client c.args.name.now) c.args.tree.now c.args.windows.now c.refused.result.reply NoSuchName c.requires c.refused.ensures.reply
-    (λ shape. step_open-by (desk_of shape c.args.tree.now c.args.windows.now) c.args.client c.args.name.now None (is_open (desk_of shape c.args.tree.now c.args.windows.now) c.args.client c.args.name.now) c.in-None.ensures.found refl)
+    (λ setting. step_open-by (desk_of setting c.args.tree.now c.args.windows.now) c.args.client c.args.name.now None (is_open (desk_of setting c.args.tree.now c.args.windows.now) c.args.client c.args.name.now) c.in-None.ensures.found refl)
 
 pub returns-then-not-is_window-clause-did : goal.returns-then-not-is_window-clause-did
 returns-then-not-is_window-clause-did c =
     let found = c.in-Some.ensures.found in
     let wrong : is_window_kind found.row.kind ≡ false = ap is_window_kind found.has ∙ sym c.if-not-is_window.ensures in
     refused_all (λ desk. step_open desk c.args.client c.args.name.now) c.args.tree.now c.args.windows.now c.refused-then-not-is_window.result.reply WrongKind c.requires c.refused-then-not-is_window.ensures.reply
-    (λ shape. step_open-by (desk_of shape c.args.tree.now c.args.windows.now) c.args.client c.args.name.now (Some found.row) (is_open (desk_of shape c.args.tree.now c.args.windows.now) c.args.client c.args.name.now) found.named refl ∙ rw wrong refl)
+    (λ setting. step_open-by (desk_of setting c.args.tree.now c.args.windows.now) c.args.client c.args.name.now (Some found.row) (is_open (desk_of setting c.args.tree.now c.args.windows.now) c.args.client c.args.name.now) found.named refl ∙ rw wrong refl)
 
 pub returns-then-is_open-clause-did : goal.returns-then-is_open-clause-did
 returns-then-is_open-clause-did c =
@@ -24,7 +24,7 @@ returns-then-is_open-clause-did c =
     let right : is_window_kind found.row.kind ≡ true = ap is_window_kind found.has ∙ sym c.if-not-is_window.ensures in
     let opened = is_open-holds_key c.args.tree.now c.args.client c.args.name.now c.in-Some.found.id.key c.in-Some.found.kind c.args.windows.now c.requires.tree.forest.own_names found c.requires.windows ∙ sym c.if-is_open.ensures in
     refused_all (λ desk. step_open desk c.args.client c.args.name.now) c.args.tree.now c.args.windows.now c.refused-then-is_open.result.reply AlreadyOpen c.requires c.refused-then-is_open.ensures.reply
-    (λ shape. step_open-by (desk_of shape c.args.tree.now c.args.windows.now) c.args.client c.args.name.now (Some found.row) true found.named opened ∙ rw right refl)
+    (λ setting. step_open-by (desk_of setting c.args.tree.now c.args.windows.now) c.args.client c.args.name.now (Some found.row) true found.named opened ∙ rw right refl)
 
 pub unreachable-requires : goal.unreachable-requires
 unreachable-requires c =

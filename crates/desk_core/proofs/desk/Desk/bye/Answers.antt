@@ -42,9 +42,9 @@ returns-clause-step c =
     let w = c.self.inside.tree in
     let client = c.args.client in
     let there : is_joined w.clients client ≡ true = ap (λ (cs : List ℕ). is_joined cs client) (sym c.self.invariant.clients) ∙ sym c.if-not-has.ensures in
-    ap₂ (λ (v : Widgets) (ks : List ℕ). (Done, desk_of c.self.inside.shape v ks)) c.drop_client.ensures.left c.close_windows.ensures.closed
-    ∙ ap (λ (d : Desk). (Done, d)) (desk_of-departed c.self.inside.shape w client c.self.inside.windows c.self.invariant.windows)
-    ∙ sym (let steps : step_bye (desk_of c.self.inside.shape w c.self.inside.windows) client ≡ (Done, without_client client (desk_of c.self.inside.shape w c.self.inside.windows)) = rw there refl in steps)
+    ap₂ (λ (v : Widgets) (ks : List ℕ). (Done, desk_of c.self.inside.setting v ks)) c.drop_client.ensures.left c.close_windows.ensures.closed
+    ∙ ap (λ (d : Desk). (Done, d)) (desk_of-departed c.self.inside.setting w client c.self.inside.windows c.self.invariant.windows)
+    ∙ sym (let steps : step_bye (desk_of c.self.inside.setting w c.self.inside.windows) client ≡ (Done, without_client client (desk_of c.self.inside.setting w c.self.inside.windows)) = rw there refl in steps)
     ∙ ap (λ (s : Standing). step_bye s.desk client) c.self.view_is
 
 pub returns-clause-changed : goal.returns-clause-changed
@@ -53,10 +53,10 @@ returns-clause-changed c =
     let client = c.args.client in
     let old = c.args.self.now.desk in
     let D : Standing → Type 0 = λ s. IsDesk s.desk in
-    let fine = subst D c.self.view_is (IsDesk-parts c.self.inside.shape c.self.inside.clients w c.self.inside.windows c.self.invariant) in
-    let left : desk_of c.self.inside.shape c.drop_client.new.self c.close_windows.new.windows ≡ without_client client old =
-    ap₂ (λ (v : Widgets) (ks : List ℕ). desk_of c.self.inside.shape v ks) c.drop_client.ensures.left c.close_windows.ensures.closed
-    ∙ desk_of-departed c.self.inside.shape w client c.self.inside.windows c.self.invariant.windows
+    let fine = subst D c.self.view_is (IsDesk-parts c.self.inside.setting c.self.inside.clients w c.self.inside.windows c.self.invariant) in
+    let left : desk_of c.self.inside.setting c.drop_client.new.self c.close_windows.new.windows ≡ without_client client old =
+    ap₂ (λ (v : Widgets) (ks : List ℕ). desk_of c.self.inside.setting v ks) c.drop_client.ensures.left c.close_windows.ensures.closed
+    ∙ desk_of-departed c.self.inside.setting w client c.self.inside.windows c.self.invariant.windows
     ∙ ap (λ (s : Standing). without_client client s.desk) c.self.view_is in
     let many : c.count-count.result ≡ rows_counted client any_kind old.rows =
     c.count-count.ensures.count ∙ count_of-nodes w.entries client any_kind ∙ ap (λ (s : Standing). rows_counted client any_kind s.desk.rows) c.self.view_is in
@@ -80,25 +80,25 @@ returns-clause-valid c =
     let R : List ℕ → Type 0 = λ ks. IsStanding joined (departed client w) ks in
     let kept : IsStanding joined c.drop_client.new.self c.close_windows.new.windows =
     subst Q (sym c.drop_client.ensures.left) (subst R (sym c.close_windows.ensures.closed) (IsStanding-departed c.self.inside.clients w client c.self.inside.windows c.self.invariant once valid stack)) in
-    IsDesk-parts c.self.inside.shape joined c.drop_client.new.self c.close_windows.new.windows kept
+    IsDesk-parts c.self.inside.setting joined c.drop_client.new.self c.close_windows.new.windows kept
 
 pub returns-then-not-has-clause-valid : goal.returns-then-not-has-clause-valid
 returns-then-not-has-clause-valid c = IsDesk-parts _ _ _ _ c.self.invariant
 
 pub returns-clause-others : goal.returns-clause-others
 returns-clause-others c =
-    let shape = c.self.inside.shape in
+    let setting = c.self.inside.setting in
     let client = c.args.client in
     let old = c.args.self.now.desk in
-    let left : desk_of shape c.drop_client.new.self c.close_windows.new.windows ≡ without_client client old =
-    ap₂ (λ (v : Widgets) (ks : List ℕ). desk_of shape v ks) c.drop_client.ensures.left c.close_windows.ensures.closed
-    ∙ desk_of-departed shape c.self.inside.tree client c.self.inside.windows c.self.invariant.windows
+    let left : desk_of setting c.drop_client.new.self c.close_windows.new.windows ≡ without_client client old =
+    ap₂ (λ (v : Widgets) (ks : List ℕ). desk_of setting v ks) c.drop_client.ensures.left c.close_windows.ensures.closed
+    ∙ desk_of-departed setting c.self.inside.tree client c.self.inside.windows c.self.invariant.windows
     ∙ ap (λ (s : Standing). without_client client s.desk) c.self.view_is in
     let P : Desk → Type 0 = λ d. LeavesOthers client old d in
     subst P (sym left) (LeavesOthers-without_client client old)
 
 pub returns-then-not-has-clause-others : goal.returns-then-not-has-clause-others
 returns-then-not-has-clause-others c =
-    let now = desk_of c.self.inside.shape c.self.inside.tree c.self.inside.windows in
+    let now = desk_of c.self.inside.setting c.self.inside.tree c.self.inside.windows in
     let P : Standing → Type 0 = λ s. LeavesOthers c.args.client s.desk now in
     subst P c.self.view_is (LeavesOthers-same c.args.client now)

@@ -19,22 +19,22 @@ returns-then-has-clause-valid c = IsDesk-parts _ _ _ _ c.self.invariant
 
 pub returns-in-Err-clause-others : goal.returns-in-Err-clause-others
 returns-in-Err-clause-others c =
-    let shape = c.self.inside.shape in
-    let old = desk_of shape c.self.inside.tree c.self.inside.windows in
-    let P : Widgets → Type 0 = λ w. LeavesOthers c.args.client old (desk_of shape w c.self.inside.windows) in
-    let Q : Standing → Type 0 = λ s. LeavesOthers c.args.client s.desk (desk_of shape c.join_client.new.self c.self.inside.windows) in
+    let setting = c.self.inside.setting in
+    let old = desk_of setting c.self.inside.tree c.self.inside.windows in
+    let P : Widgets → Type 0 = λ w. LeavesOthers c.args.client old (desk_of setting w c.self.inside.windows) in
+    let Q : Standing → Type 0 = λ s. LeavesOthers c.args.client s.desk (desk_of setting c.join_client.new.self c.self.inside.windows) in
     subst Q c.self.view_is (subst P (sym c.in-Err.ensures.err) (LeavesOthers-same c.args.client old))
 
 pub returns-clause-others : goal.returns-clause-others
 returns-clause-others c =
-    let shape = c.self.inside.shape in
-    let old = desk_of shape c.self.inside.tree c.self.inside.windows in
-    let P : Widgets → Type 0 = λ w. LeavesOthers c.args.client old (desk_of shape w c.self.inside.windows) in
-    let Q : Standing → Type 0 = λ s. LeavesOthers c.args.client s.desk (desk_of shape c.join_client.new.self c.self.inside.windows) in
+    let setting = c.self.inside.setting in
+    let old = desk_of setting c.self.inside.tree c.self.inside.windows in
+    let P : Widgets → Type 0 = λ w. LeavesOthers c.args.client old (desk_of setting w c.self.inside.windows) in
+    let Q : Standing → Type 0 = λ s. LeavesOthers c.args.client s.desk (desk_of setting c.join_client.new.self c.self.inside.windows) in
     subst Q c.self.view_is (subst P (sym c.in-Ok.ensures.ok) (LeavesOthers-with_client c.args.client old))
 
 pub returns-then-has-clause-others : goal.returns-then-has-clause-others
 returns-then-has-clause-others c =
-    let now = desk_of c.self.inside.shape c.self.inside.tree c.self.inside.windows in
+    let now = desk_of c.self.inside.setting c.self.inside.tree c.self.inside.windows in
     let P : Standing → Type 0 = λ s. LeavesOthers c.args.client s.desk now in
     subst P c.self.view_is (LeavesOthers-same c.args.client now)

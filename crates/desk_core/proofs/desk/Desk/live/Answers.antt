@@ -7,4 +7,4 @@ use Rattle.desk_core.proofs.desk.Desk.live.Goals as goal
 pub returns-clause-valid : goal.returns-clause-valid
 returns-clause-valid c =
     let D : Standing → Type 0 = λ s. IsDesk s.desk in
-    subst D c.self.view_is (IsDesk-parts c.self.inside.shape c.self.inside.clients c.self.inside.tree c.self.inside.windows c.self.invariant)
+    subst D c.self.view_is (IsDesk-parts c.self.inside.setting c.self.inside.clients c.self.inside.tree c.self.inside.windows c.self.invariant)

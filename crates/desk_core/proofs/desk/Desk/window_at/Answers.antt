@@ -14,7 +14,7 @@ place_of-requires c = window_live c.self.inside.tree c.self.inside.windows c.arg
 pub returns-in-Some-clause-place : goal.returns-in-Some-clause-place
 returns-in-Some-clause-place c =
     ap Some c.place_of.ensures
-    ∙ sym (ap (option_map sides) (open_windows-key c.self.inside.shape c.self.inside.tree c.self.inside.clients c.self.inside.windows c.args.index c.in-Some.key c.self.invariant (sym c.in-Some.ensures.key)))
+    ∙ sym (ap (option_map sides) (open_windows-key c.self.inside.setting c.self.inside.tree c.self.inside.clients c.self.inside.windows c.args.index c.in-Some.key c.self.invariant (sym c.in-Some.ensures.key)))
     ∙ ap (λ (s : Standing). option_map sides (slice_get (open_windows s.desk) c.args.index)) c.self.view_is
 
 pub returns-in-Some-clause-some : goal.returns-in-Some-clause-some
@@ -30,11 +30,11 @@ returns-in-Some-clause-few c =
 pub returns-in-Some-clause-valid : goal.returns-in-Some-clause-valid
 returns-in-Some-clause-valid c =
     let D : Standing → Type 0 = λ s. IsDesk s.desk in
-    subst D c.self.view_is (IsDesk-parts c.self.inside.shape c.self.inside.clients c.self.inside.tree c.self.inside.windows c.self.invariant)
+    subst D c.self.view_is (IsDesk-parts c.self.inside.setting c.self.inside.clients c.self.inside.tree c.self.inside.windows c.self.invariant)
 
 pub returns-in-None-clause-place : goal.returns-in-None-clause-place
 returns-in-None-clause-place c =
-    sym (ap (option_map sides) (open_windows-past c.self.inside.shape c.self.inside.tree c.self.inside.windows c.args.index (sym c.in-None.ensures.key)))
+    sym (ap (option_map sides) (open_windows-past c.self.inside.setting c.self.inside.tree c.self.inside.windows c.args.index (sym c.in-None.ensures.key)))
     ∙ ap (λ (s : Standing). option_map sides (slice_get (open_windows s.desk) c.args.index)) c.self.view_is
 
 pub returns-in-None-clause-some : goal.returns-in-None-clause-some
@@ -51,4 +51,4 @@ returns-in-None-clause-few c =
 pub returns-in-None-clause-valid : goal.returns-in-None-clause-valid
 returns-in-None-clause-valid c =
     let D : Standing → Type 0 = λ s. IsDesk s.desk in
-    subst D c.self.view_is (IsDesk-parts c.self.inside.shape c.self.inside.clients c.self.inside.tree c.self.inside.windows c.self.invariant)
+    subst D c.self.view_is (IsDesk-parts c.self.inside.setting c.self.inside.clients c.self.inside.tree c.self.inside.windows c.self.invariant)

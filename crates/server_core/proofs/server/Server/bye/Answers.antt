@@ -6,13 +6,13 @@ use Rattle.server_core.proofs.server.Server.bye.Goals as goal
 pub invariant_of-self : goal.invariant_of-self
 invariant_of-self c =
     (step_of_parts c.self.inside.desk c.bye-reply.new.self (λ short. step_bye c.self.inside.desk.desk c.args.client) c.bye-reply.result (λ short. shape-step_bye c.self.inside.desk.desk c.args.client)
-    c.self.invariant c.bye-reply.ensures.step c.bye-reply.ensures.changed c.follow-self-inside.ensures).1
+    c.bye-reply.ensures.valid c.self.invariant c.bye-reply.ensures.step c.bye-reply.ensures.changed c.follow-self-inside.ensures).1
 
 pub returns-clause-step : goal.returns-clause-step
 returns-clause-step c =
     rw (← c.self.view_is)
     (step_of_parts c.self.inside.desk c.bye-reply.new.self (λ short. step_bye c.self.inside.desk.desk c.args.client) c.bye-reply.result (λ short. shape-step_bye c.self.inside.desk.desk c.args.client)
-    c.self.invariant c.bye-reply.ensures.step c.bye-reply.ensures.changed c.follow-self-inside.ensures).0
+    c.bye-reply.ensures.valid c.self.invariant c.bye-reply.ensures.step c.bye-reply.ensures.changed c.follow-self-inside.ensures).0
 
 pub returns-clause-valid : goal.returns-clause-valid
 returns-clause-valid c = (invariant_of-self c).state

@@ -1,3 +1,4 @@
+use Rattle.std.proofs.lemmas.Bool.{and_from, le-leb}
 use Rattle.desk_model.specs.Clients.{step_connect}
 use Rattle.desk_model.proofs.Steps.{shape-step_connect}
 use Rattle.server_core.proofs.Parts.{step_of_parts}
@@ -6,13 +7,13 @@ use Rattle.server_core.proofs.server.Server.connect.Goals as goal
 pub invariant_of-self : goal.invariant_of-self
 invariant_of-self c =
     (step_of_parts c.self.inside.desk c.connect-reply.new.self (λ short. step_connect c.self.inside.desk.desk c.args.client short) c.connect-reply.result (shape-step_connect c.self.inside.desk.desk c.args.client)
-    c.self.invariant c.connect-reply.ensures.step c.connect-reply.ensures.changed c.follow-self-inside.ensures).1
+    c.connect-reply.ensures.valid c.self.invariant c.connect-reply.ensures.step c.connect-reply.ensures.changed c.follow-self-inside.ensures).1
 
 pub returns-clause-step : goal.returns-clause-step
 returns-clause-step c =
     rw (← c.self.view_is)
-    (step_of_parts c.self.inside.desk c.connect-reply.new.self (λ short. step_connect c.self.inside.desk.desk c.args.client short) c.connect-reply.result (shape-step_connect c.self.inside.desk.desk c.args.client)
-    c.self.invariant c.connect-reply.ensures.step c.connect-reply.ensures.changed c.follow-self-inside.ensures).0
+    (and_from _ _ (le-leb 1 c.args.client c.requires.low) (le-leb c.args.client 16 c.requires.high), (step_of_parts c.self.inside.desk c.connect-reply.new.self (λ short. step_connect c.self.inside.desk.desk c.args.client short) c.connect-reply.result (shape-step_connect c.self.inside.desk.desk c.args.client)
+    c.connect-reply.ensures.valid c.self.invariant c.connect-reply.ensures.step c.connect-reply.ensures.changed c.follow-self-inside.ensures).0)
 
 pub returns-clause-valid : goal.returns-clause-valid
 returns-clause-valid c = (invariant_of-self c).state

@@ -1,0 +1,5 @@
+use Rattle.desk_model.proofs.Runs.{fewer-ticks}
+use Rattle.server_core.proofs.laws.undisturbed_ticks_leave_fewer.Goals as goal
+
+pub returns : goal.returns
+returns c = fewer-ticks
