@@ -19,3 +19,5 @@ pub mod Hanging
 pub mod Cells
 pub mod Levels
 pub mod Planting
+pub mod Sound
+pub mod KeptRows
