@@ -21,3 +21,10 @@ pub mod Levels
 pub mod Planting
 pub mod Sound
 pub mod KeptRows
+pub mod KeptNew
+pub mod KeptOut
+pub mod Refusals
+pub mod ValuesFit
+pub mod RulesFit
+pub mod GivenCells
+pub mod Connecting
