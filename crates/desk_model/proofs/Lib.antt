@@ -28,3 +28,7 @@ pub mod ValuesFit
 pub mod RulesFit
 pub mod GivenCells
 pub mod Connecting
+pub mod KeptMaking
+pub mod KeptHanging
+pub mod KeptLinking
+pub mod Desks

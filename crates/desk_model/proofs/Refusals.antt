@@ -1,6 +1,6 @@
 -- What it says that no refusal holds.
-use Rattle.std.proofs.Common.{◌≡◌, ◌≤◌, ℕ, ℤ, pos, negsuc, unsigned_abs, Bool, true, false, not, ◌&&◌, nat_le, is_none, List, [], ◌∷◌, Option, Some, None, refl}
-use Rattle.std.proofs.lemmas.Bool.{leb-true, and_parts, not-false}
+use Rattle.std.proofs.Common.{◌≡◌, ◌≤◌, ℕ, ℤ, pos, negsuc, unsigned_abs, Bool, true, false, not, ◌&&◌, nat_le, is_none, is_some, List, [], ◌∷◌, Option, Some, None, refl}
+use Rattle.std.proofs.lemmas.Bool.{true≢false, leb-true, and_parts, not-false}
 use Rattle.kind_core.specs.declared.kinds.Kind.{Kind}
 use Rattle.cmd_words.specs.declared.replies.Refusal.{Refusal}
 use Rattle.cmd_words.specs.declared.replies.Refusal.TheVariants.{BadValue}
@@ -31,3 +31,7 @@ unless_within-none least greatest (pos k) h =
     let parts = and_parts (nat_le least k) (nat_le k greatest) (not-false (nat_le least k && nat_le k greatest) (when-none (not (nat_le least k && nat_le k greatest)) (BadValue (pos least) (pos greatest)) h)) in
     (leb-true least k parts.0, leb-true k greatest parts.1)
 unless_within-none least greatest (negsuc k) h = absurd (cc)
+
+pub is_some-none : {X : Type 0} (o : Option X) → is_some o ≡ false → o ≡ None
+is_some-none None h = refl
+is_some-none (Some x) h = absurd (true≢false h)
