@@ -1,10 +1,9 @@
 -- What holds of the connected clients when one more connects, and that the least free number is one of 1 to 16
 -- that isn't connected.
-use Rattle.std.proofs.Common.{◌≡◌, ◌<◌, ◌≤◌, ℕ, zero, suc, ◌+◌, Bool, true, false, cond, ◌||◌, nat_eq, List, [], ◌∷◌, ◌++◌, Option, Some, None, refl, sym, ap, ◌∙◌, arith}
+use Rattle.std.proofs.Common.{◌≡◌, ◌<◌, ◌≤◌, ℕ, zero, suc, ◌+◌, Bool, true, false, cond, nat_eq, List, [], ◌∷◌, ◌++◌, Some, refl, ◌∙◌, arith}
 use Rattle.std.proofs.lemmas.Bool.{and_from, or_parts, or_from, or_left, le-leb}
 use Rattle.std.proofs.lemmas.List.Folds.{list_all-append, list_any-append}
 use Rattle.std.specs.Cmp.{nat_eq_equiv}
-use Rattle.std.specs.List.{list_all, list_any}
 use Rattle.desk_model.specs.Rows.{Row}
 use Rattle.desk_model.specs.Widgets.{is_joined}
 use Rattle.desk_model.specs.Forest.{is_client}

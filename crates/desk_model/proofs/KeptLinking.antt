@@ -1,7 +1,6 @@
 -- Linking a widget to a Variable, binding its events and opening a window leave a sound desk.
-use Rattle.std.proofs.Common.{◌≡◌, ℕ, Bool, true, false, not, ◌&&◌, List, [], ◌∷◌, Option, Some, None, refl, sym, ap, ◌∙◌}
+use Rattle.std.proofs.Common.{◌≡◌, ℕ, Bool, true, not, ◌&&◌, List, [], ◌∷◌, Option, Some, None, refl, sym, ap, ◌∙◌}
 use Rattle.std.proofs.lemmas.Bool.{and_parts, and_from, not-false}
-use Rattle.std.specs.Option.{option_map_or}
 use Rattle.kind_core.specs.declared.kinds.EventKind.{EventKind}
 use Rattle.cmd_words.specs.declared.replies.Refusal.{Refusal}
 use Rattle.cmd_words.specs.declared.replies.Refusal.TheVariants.{WrongKind, AlreadyOpen}

@@ -1,11 +1,10 @@
 -- Making, setting, reading and removing a widget leave a sound desk.
-use Rattle.std.proofs.Common.{◌≡◌, ℕ, Bool, true, false, ◌||◌, nat_le, List, [], ◌∷◌, Option, Some, None, is_some, is_none, refl, sym, ap, ◌∙◌}
+use Rattle.std.proofs.Common.{◌≡◌, ℕ, Bool, true, false, nat_le, List, Option, None, is_some, refl, sym, ap, ◌∙◌}
 use Rattle.std.proofs.lemmas.Bool.{or_parts, leb-false}
 use Rattle.std.specs.Option.{option_map_or, option_and_then}
 use Rattle.kind_core.specs.declared.kinds.Kind.{Kind}
 use Rattle.kind_core.specs.declared.kinds.Attr.{Attr}
 use Rattle.kind_core.specs.declared.values.Value as value
-use Rattle.cmd_words.specs.declared.replies.Refusal.{Refusal}
 use Rattle.desk_model.specs.Rows.{Row, new_row}
 use Rattle.desk_model.specs.Nodes.{any_kind, counts_with}
 use Rattle.desk_model.specs.Named.{row_named, rows_counted}

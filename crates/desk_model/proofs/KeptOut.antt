@@ -1,8 +1,8 @@
 -- What rows and windows keep when some are left out by their names.
-use Rattle.std.proofs.Common.{◌≡◌, ℕ, ◌+◌, ◌≤◌, Bool, true, false, cond, ◌&&◌, not, nat_eq, List, [], ◌∷◌, Option, Some, None, refl, sym, ap, ◌∙◌, slice_get, arith}
+use Rattle.std.proofs.Common.{◌≡◌, ℕ, ◌≤◌, Bool, true, false, cond, ◌&&◌, not, nat_eq, List, [], ◌∷◌, Option, Some, None, refl, sym, ap, ◌∙◌, slice_get, arith}
 use Rattle.std.proofs.lemmas.Bool.{true≢false, not-true, or_parts, or_from}
 use Rattle.std.proofs.lemmas.List.Sums.{sum_by-cons}
-use Rattle.std.specs.List.{filter, list_all, list_any, count_by}
+use Rattle.std.specs.List.{filter, list_all, list_any}
 use Rattle.std.specs.Option.{option_map_or}
 use Rattle.std.specs.Str.{bytes_eq}
 use Rattle.kind_core.specs.declared.kinds.Kind.{Kind}
@@ -20,7 +20,7 @@ use Rattle.desk_model.specs.DeskFacts.{AreConnectedOnce, AreNamedApart, AreOpenO
 use Rattle.desk_model.proofs.Hanging.{all_at, all_from, none_at, all-filter, IsNamed-row_named, row_named-filter}
 use Rattle.desk_model.proofs.OthersRows.{list_any-without_other}
 use Rattle.desk_model.proofs.Planting.{IsPlanted-remove, IsPlanted-others}
-use Rattle.desk_model.proofs.Sound.{AreRows, names_window, AreWindows, IsSound}
+use Rattle.desk_model.proofs.Sound.{AreRows, names_window, IsSound}
 
 -- what holds of all or of none holds so of those that are kept
 all-kept : {X : Type 0} (p q : X → Bool) (xs : List X) → list_all p xs ≡ true → list_all p (filter q xs) ≡ true

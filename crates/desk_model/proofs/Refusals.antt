@@ -1,5 +1,5 @@
 -- What it says that no refusal holds.
-use Rattle.std.proofs.Common.{◌≡◌, ◌≤◌, ℕ, ℤ, pos, negsuc, unsigned_abs, Bool, true, false, not, ◌&&◌, nat_le, is_none, is_some, List, [], ◌∷◌, Option, Some, None, refl}
+use Rattle.std.proofs.Common.{◌≡◌, ◌≤◌, ℕ, ℤ, pos, negsuc, unsigned_abs, Bool, true, false, not, ◌&&◌, nat_le, is_some, List, ◌∷◌, Option, Some, None, refl}
 use Rattle.std.proofs.lemmas.Bool.{true≢false, leb-true, and_parts, not-false}
 use Rattle.kind_core.specs.declared.kinds.Kind.{Kind}
 use Rattle.cmd_words.specs.declared.replies.Refusal.{Refusal}

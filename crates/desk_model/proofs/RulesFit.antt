@@ -1,5 +1,5 @@
 -- The rules of columns and rows stay within their ranges and keep their places, and so do the tags of bindings.
-use Rattle.std.proofs.Common.{◌≡◌, ℕ, zero, suc, ◌-◌, ℤ, pos, unsigned_abs, Bool, true, ◌&&◌, nat_eq, nat_le, length, List, [], ◌∷◌, map, slice_index_or, slice_set, Option, None, refl, ap, ◌∙◌}
+use Rattle.std.proofs.Common.{◌≡◌, ℕ, zero, suc, ◌-◌, ℤ, unsigned_abs, true, ◌&&◌, nat_eq, nat_le, length, List, [], ◌∷◌, map, slice_index_or, slice_set, Option, None, refl, ap}
 use Rattle.std.proofs.Math.ListN.{length-set}
 use Rattle.std.proofs.lemmas.Bool.{le-leb, and_parts, and_from}
 use Rattle.std.specs.List.{list_all}

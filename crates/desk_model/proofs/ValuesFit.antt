@@ -1,5 +1,5 @@
 -- Values fit their kind's table: those of a new row, and those after attributes were set to what the table takes.
-use Rattle.std.proofs.Common.{◌≡◌, ◌<◌, ◌⊎◌, inl, inr, ℕ, Bool, true, false, cond, ◌&&◌, nat_eq, length, get_or, List, [], ◌∷◌, map, Option, Some, None, Result, Ok, Err, is_ok, refl, sym, ap, ◌∙◌, arith}
+use Rattle.std.proofs.Common.{◌≡◌, ◌<◌, ◌⊎◌, inl, inr, ℕ, Bool, true, cond, nat_eq, length, get_or, List, [], ◌∷◌, map, Some, None, Result, Ok, Err, is_ok, refl, sym, ap, ◌∙◌, arith}
 use Rattle.std.proofs.Math.ListN.{set, length-set}
 use Rattle.std.proofs.lemmas.Bool.{eqb-true, eq-eqb, and_parts, and_from, cases_eq}
 use Rattle.std.proofs.lemmas.List.{get_or-set_same, get_or-set_other}
@@ -12,7 +12,6 @@ use Rattle.kind_core.specs.declared.values.Value as value
 use Rattle.kind_core.specs.declared.values.AttrRefusal.{AttrRefusal}
 use Rattle.kind_core.specs.declared.values.AttrRefusal.TheVariants.{NotOfKind, OutOfRange}
 use Rattle.kind_core.specs.Attributes.{domain_of, judged}
-use Rattle.cmd_words.specs.declared.replies.Refusal.{Refusal}
 use Rattle.desk_model.specs.Rows.{Row, all_attrs, attr_of, attr_place, with_attr, new_row, first_values, default_at}
 use Rattle.desk_model.specs.Fitting.{fits_attr, fits_table}
 use Rattle.desk_model.specs.AttrOptions.{told, attr_refusal, attrs_refusal, with_attrs}
