@@ -19,3 +19,16 @@ pub mod Hanging
 pub mod Cells
 pub mod Levels
 pub mod Planting
+pub mod Sound
+pub mod KeptRows
+pub mod KeptNew
+pub mod KeptOut
+pub mod Refusals
+pub mod ValuesFit
+pub mod RulesFit
+pub mod GivenCells
+pub mod Connecting
+pub mod KeptMaking
+pub mod KeptHanging
+pub mod KeptLinking
+pub mod Desks

@@ -1,0 +1,134 @@
+-- What holds of a desk but for its pointer, and that a desk of which it holds is a whole one once the pointer has
+-- let go.
+use Rattle.std.proofs.Common.{◌≡◌, ◌≤◌, ℕ, Bool, true, false, cond, List, Option, Some, None, refl, ap₂}
+use Rattle.std.specs.List.{list_all}
+use Rattle.kind_core.specs.declared.kinds.Kind.{Kind}
+use Rattle.cmd_words.specs.declared.replies.Reply.{Reply}
+use Rattle.cmd_words.specs.declared.replies.Refusal.{Refusal}
+use Rattle.desk_model.specs.declared.pointer.Grab.{Grab}
+use Rattle.desk_model.specs.declared.pointer.Grab.TheVariants.{Nothing, Widget, Drag}
+use Rattle.desk_model.specs.Shapes.{IsShape}
+use Rattle.desk_model.specs.Rows.{Row}
+use Rattle.desk_model.specs.Nodes.{any_kind, counts_with}
+use Rattle.desk_model.specs.Named.{row_named, rows_counted, is_kind_of}
+use Rattle.desk_model.specs.Widgets.{is_joined}
+use Rattle.desk_model.specs.Forest.{is_client}
+use Rattle.desk_model.specs.Planted.{IsPlanted}
+use Rattle.desk_model.specs.Fitting.{fits_table, fits_rules}
+use Rattle.desk_model.specs.Desk.{Desk}
+use Rattle.desk_model.specs.Linking.{is_window_kind}
+use Rattle.desk_model.specs.Ending.{is_in_window, grab_left, focus_left, let_go}
+use Rattle.desk_model.specs.Refusing.{outcome}
+use Rattle.desk_model.specs.DeskFacts.{AreConnectedOnce, AreNamedApart, AreOpenOnce, links_right, links_by_kind, has_places, IsDesk}
+
+-- what holds of the rows, where these clients are connected
+pub record AreRows (clients : List ℕ) (rows : List Row) : Type 0 where
+  pub owners : list_all (λ (row : Row). is_joined clients row.client) rows ≡ true
+  pub names : AreNamedApart rows
+  pub most : (client : ℕ) → rows_counted client any_kind rows ≤ 128
+  pub most_alike : (client : ℕ) (kind : Kind) → rows_counted client (counts_with kind) rows ≤ 8
+  pub planted : IsPlanted rows
+  pub linked : list_all (links_right rows) rows ≡ true
+  pub linked_by_kind : list_all links_by_kind rows ≡ true
+  pub fitting : list_all fits_table rows ≡ true
+  pub rules : list_all fits_rules rows ≡ true
+  pub places : list_all has_places rows ≡ true
+
+-- whether the window is one of the rows, and a Window
+abbrev pub names_window : List Row → ℕ × List ℕ → Bool
+names_window rows window = is_kind_of is_window_kind (row_named rows window.0 window.1)
+
+-- what holds of the open windows
+pub record AreWindows (rows : List Row) (windows : List (ℕ × List ℕ)) : Type 0 where
+  pub there : list_all (names_window rows) windows ≡ true
+  pub once : AreOpenOnce windows
+
+pub record IsSound (desk : Desk) : Type 0 where
+  pub shape : IsShape desk.shape
+  pub clients : list_all is_client desk.clients ≡ true
+  pub connected_once : AreConnectedOnce desk.clients
+  pub rows : AreRows desk.clients desk.rows
+  pub windows : AreWindows desk.rows desk.windows
+
+pub IsSound-desk : (desk : Desk) → IsDesk desk → IsSound desk
+IsSound-desk desk kept =
+    record {
+      shape = kept.shape;
+      clients = kept.clients;
+      connected_once = kept.connected_once;
+      rows = record {
+        owners = kept.owners;
+        names = kept.names;
+        most = kept.most;
+        most_alike = kept.most_alike;
+        planted = kept.planted;
+        linked = kept.linked;
+        linked_by_kind = kept.linked_by_kind;
+        fitting = kept.fitting;
+        rules = kept.rules;
+        places = kept.places;
+      };
+      windows = record { there = kept.windows; once = kept.once };
+    }
+
+pub IsDesk-sound : (desk : Desk) → IsSound desk → let_go desk ≡ desk → IsDesk desk
+IsDesk-sound desk sound held =
+    record {
+      shape = sound.shape;
+      clients = sound.clients;
+      connected_once = sound.connected_once;
+      owners = sound.rows.owners;
+      names = sound.rows.names;
+      most = sound.rows.most;
+      most_alike = sound.rows.most_alike;
+      planted = sound.rows.planted;
+      linked = sound.rows.linked;
+      linked_by_kind = sound.rows.linked_by_kind;
+      fitting = sound.rows.fitting;
+      rules = sound.rows.rules;
+      places = sound.rows.places;
+      windows = sound.windows.there;
+      once = sound.windows.once;
+      held = held;
+    }
+
+-- What stays of a grab or a focus stays of it again.
+grab_left-again : (stays : ℕ → List ℕ → Bool) (grab : Grab) → grab_left stays (grab_left stays grab) ≡ grab_left stays grab
+grab_left-again stays Nothing = refl
+grab_left-again stays (Widget client name) = by (stays client name) refl
+  where
+    by : (b : Bool) → stays client name ≡ b → grab_left stays (cond b (Widget client name) Nothing) ≡ cond b (Widget client name) Nothing
+    by true here = rw here refl
+    by false here = refl
+grab_left-again stays (Drag client name dx dy) = by (stays client name) refl
+  where
+    by : (b : Bool) → stays client name ≡ b → grab_left stays (cond b (Drag client name dx dy) Nothing) ≡ cond b (Drag client name dx dy) Nothing
+    by true here = rw here refl
+    by false here = refl
+
+focus_left-again : (stays : ℕ → List ℕ → Bool) (focus : Option (ℕ × List ℕ)) → focus_left stays (focus_left stays focus) ≡ focus_left stays focus
+focus_left-again stays None = refl
+focus_left-again stays (Some widget) = by (stays widget.0 widget.1) refl
+  where
+    by : (b : Bool) → stays widget.0 widget.1 ≡ b → focus_left stays (cond b (Some widget) None) ≡ cond b (Some widget) None
+    by true here = rw here refl
+    by false here = refl
+
+pub let_go-again : (desk : Desk) → let_go (let_go desk) ≡ let_go desk
+unfolding let_go
+let_go-again desk =
+    ap₂ (λ (grab : Grab) (focus : Option (ℕ × List ℕ)). record desk { pointer = record desk.pointer { grab = grab; focus = focus } })
+    (grab_left-again (is_in_window desk) desk.pointer.grab) (focus_left-again (is_in_window desk) desk.pointer.focus)
+
+pub IsSound-let_go : (desk : Desk) → IsSound desk → IsSound (let_go desk)
+unfolding let_go
+IsSound-let_go desk sound = record { shape = sound.shape; clients = sound.clients; connected_once = sound.connected_once; rows = sound.rows; windows = sound.windows }
+
+-- so each event ends with a whole desk
+pub IsDesk-let_go : (desk : Desk) → IsSound desk → IsDesk (let_go desk)
+IsDesk-let_go desk sound = IsDesk-sound (let_go desk) (IsSound-let_go desk sound) (let_go-again desk)
+
+-- a refusal leaves the desk
+pub IsSound-outcome : (desk : Desk) (refusal : Option Refusal) (effect : Reply × Desk) → IsSound desk → (refusal ≡ None → IsSound effect.1) → IsSound (outcome desk refusal effect).1
+IsSound-outcome desk None effect sound done = done refl
+IsSound-outcome desk (Some refusal) effect sound done = sound
