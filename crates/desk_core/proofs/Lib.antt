@@ -20,5 +20,6 @@ pub mod Departing
 pub mod Linked
 pub mod Valid
 pub mod ByeTells
-mod Holding
+mod InWindows
 mod Endings
+mod Calls

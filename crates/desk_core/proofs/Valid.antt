@@ -1,4 +1,4 @@
--- What the parts of a desk keep by number, the desk keeps by name.
+-- The open windows, kept by number, are rows of the kind Window by name.
 use Rattle.std.proofs.Common.{◌≡◌, ℕ, true, false, List, [], ◌∷◌, Option, Some, None, ◌++◌, refl, sym, ap, ◌∙◌, subst}
 use Rattle.std.proofs.lemmas.Bool.{true≢false, and_parts, and_from}
 use Rattle.std.specs.List.{list_all, list_any}
@@ -20,13 +20,6 @@ use Rattle.desk_core.specs.Standing.{title_at, windows_at, desk_of, names_window
 use Rattle.desk_core.specs.Did.{IsFound}
 use Rattle.desk_core.proofs.OpenSteps.{is_open-holds_key}
 use Rattle.desk_core.proofs.Linked.{all_lead-rows}
-
--- each row's client is joined where each node's is
-owners-rows : (clients : List ℕ) (es : List (ℕ × Row)) → list_all (λ (e : ℕ × Node). is_joined clients e.1.client) (nodes es) ≡ true → list_all (λ (row : Row). is_joined clients row.client) (rows es) ≡ true
-owners-rows clients [] owners = refl
-owners-rows clients (e ∷ es) owners =
-    let parts = and_parts (is_joined clients e.1.client) (list_all (λ (e : ℕ × Node). is_joined clients e.1.client) (nodes es)) owners in
-    and_from _ _ parts.0 (owners-rows clients es parts.1)
 
 -- The number names a row of the kind Window, which is found under its client and name.
 record IsTitled (widgets : Widgets) (key : ℕ) : Type 0 where
@@ -67,55 +60,3 @@ windows-named widgets (key ∷ keys) forest windows =
     let here : is_kind_of is_window_kind (row_named (rows_of widgets) (title_at (nodes widgets.entries) key).0 (title_at (nodes widgets.entries) key).1) ≡ true =
     rw titled.title (rw found.named (ap is_window_kind found.has ∙ titled.window)) in
     and_from _ _ here (windows-named widgets keys forest parts.1)
-
--- keys that are apart name windows that are apart
-AreOpenOnce-windows_at : (widgets : Widgets) (keys : List ℕ) → IsForest widgets.clients (nodes widgets.entries) → list_all (names_window (nodes widgets.entries)) keys ≡ true → AreDistinct keys → AreOpenOnce (windows_at (nodes widgets.entries) keys)
-AreOpenOnce-windows_at widgets [] forest windows distinct = tt
-AreOpenOnce-windows_at widgets (key ∷ keys) forest windows distinct =
-    let parts = and_parts (names_window (nodes widgets.entries) key) (list_all (names_window (nodes widgets.entries)) keys) windows in
-    let titled = IsTitled-names_window widgets key forest parts.0 in
-    let row = titled.row in
-    let apart : list_any (is_window row.client row.name) (windows_at (nodes widgets.entries) keys) ≡ false =
-    is_open-holds_key widgets row.client row.name key row.kind keys forest.own_names titled.found parts.1 ∙ distinct.0 in
-    (rw titled.title apart, AreOpenOnce-windows_at widgets keys forest parts.1 distinct.1)
-
-pub IsDesk-parts : (setting : Setting) (clients : List ℕ) (widgets : Widgets) (keys : List ℕ) → IsStanding clients widgets keys → IsDesk (desk_of setting widgets keys)
-IsDesk-parts setting clients widgets keys kept =
-    let forest = kept.tree.forest in
-    let O : List ℕ → Type 0 = λ clients. AreConnectedOnce clients in
-    record {
-      clients = forest.clients_in_range;
-      connected_once = subst O kept.clients kept.once;
-      owners = owners-rows widgets.clients widgets.entries forest.owners;
-      names = AreNamedApart-rows widgets.entries forest.own_names;
-      most = λ client. rw (← count_of-nodes widgets.entries client any_kind) (forest.most client);
-      most_alike = λ client kind. rw (← count_of-nodes widgets.entries client (counts_with kind)) (forest.most_alike client kind);
-      planted = kept.tree.planted;
-      linked = sym (all_lead-rows widgets.entries widgets.entries) ∙ kept.tree.linked;
-      fitting = kept.tree.fitting;
-      rules = kept.rules;
-      windows = windows-named widgets keys forest kept.windows;
-      once = AreOpenOnce-windows_at widgets keys forest kept.windows kept.stack.distinct;
-    }
-
--- where a client connects, the rows and the open windows are as they were
-pub IsDesk-joined : (setting : Setting) (clients now : List ℕ) (old new : Widgets) (client : ℕ) (keys : List ℕ) → IsStanding clients old keys → IsWidgets new → new ≡ joined client old → now ≡ clients ++ client ∷ [] → AreConnectedOnce now → IsDesk (desk_of setting new keys)
-IsDesk-joined setting clients now old new client keys kept tree left added once =
-    let O : List ℕ → Type 0 = λ cs. AreConnectedOnce cs in
-    let same : new.entries ≡ old.entries = ap (λ (w : Widgets). w.entries) left in
-    let more : now ≡ new.clients = added ∙ ap (λ (cs : List ℕ). cs ++ client ∷ []) kept.clients ∙ sym (ap (λ (w : Widgets). w.clients) left) in
-    IsDesk-parts setting new.clients new keys
-    (record {
-      clients = refl;
-      once = subst O more once;
-      tree = tree;
-      stack = kept.stack;
-      windows = rw same kept.windows;
-      rules = rw same kept.rules;
-    })
-
--- where none could, all is as it was
-pub IsDesk-same : (setting : Setting) (clients : List ℕ) (old new : Widgets) (keys : List ℕ) → IsStanding clients old keys → new ≡ old → IsDesk (desk_of setting new keys)
-IsDesk-same setting clients old new keys kept same =
-    let D : Widgets → Type 0 = λ w. IsDesk (desk_of setting w keys) in
-    subst D (sym same) (IsDesk-parts setting clients old keys kept)

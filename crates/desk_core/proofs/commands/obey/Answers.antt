@@ -1,4 +1,4 @@
-use Rattle.std.proofs.Common.{◌≡◌, ℤ, List, Some, None, sym, ap, ◌∙◌, subst, rules, to_z, of_z, SFits, w32}
+use Rattle.std.proofs.Common.{◌≡◌, ℤ, List, Some, None, refl, sym, ap, ◌∙◌, subst, rules, to_z, of_z, SFits, w32}
 use Rattle.std.proofs.lemmas.Int.{to_z-of_z}
 use Rattle.kind_core.specs.declared.kinds.Attr.{Attr}
 use Rattle.kind_core.specs.declared.values.Value as value

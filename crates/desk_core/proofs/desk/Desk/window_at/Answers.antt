@@ -4,17 +4,16 @@ use Rattle.desk_model.specs.Widgets.{nodes}
 use Rattle.desk_model.specs.OpenWindows.{open_windows}
 use Rattle.desk_model.specs.DeskFacts.{IsDesk}
 use Rattle.desk_core.specs.Standing.{Standing}
-use Rattle.desk_core.proofs.Valid.{IsDesk-parts}
 use Rattle.desk_core.proofs.WindowPlaces.{sides, window_live, open_windows-key, open_windows-past, index_within, index_past, length-windows_at}
 use Rattle.desk_core.proofs.desk.Desk.window_at.Goals as goal
 
 pub place_of-requires : goal.place_of-requires
-place_of-requires c = window_live c.self.inside.tree c.self.inside.windows c.args.index c.in-Some.key c.self.invariant.windows (sym c.in-Some.ensures.key)
+place_of-requires c = window_live c.self.inside.tree c.self.inside.windows c.args.index c.in-Some.key c.self.invariant.standing.windows (sym c.in-Some.ensures.key)
 
 pub returns-in-Some-clause-place : goal.returns-in-Some-clause-place
 returns-in-Some-clause-place c =
     ap Some c.place_of.ensures
-    ∙ sym (ap (option_map sides) (open_windows-key c.self.inside.setting c.self.inside.tree c.self.inside.clients c.self.inside.windows c.args.index c.in-Some.key c.self.invariant (sym c.in-Some.ensures.key)))
+    ∙ sym (ap (option_map sides) (open_windows-key c.self.inside.setting c.self.inside.tree c.self.inside.clients c.self.inside.windows c.args.index c.in-Some.key c.self.invariant.standing (sym c.in-Some.ensures.key)))
     ∙ ap (λ (s : Standing). option_map sides (slice_get (open_windows s.desk) c.args.index)) c.self.view_is
 
 pub returns-in-Some-clause-some : goal.returns-in-Some-clause-some
@@ -25,12 +24,12 @@ returns-in-Some-clause-some c =
 pub returns-in-Some-clause-few : goal.returns-in-Some-clause-few
 returns-in-Some-clause-few c =
     let F : Standing → Type 0 = λ s. length s.desk.windows ≤ 128 in
-    subst F c.self.view_is (omega (arith, length-windows_at (nodes c.self.inside.tree.entries) c.self.inside.windows, c.self.invariant.stack.few))
+    subst F c.self.view_is (omega (arith, length-windows_at (nodes c.self.inside.tree.entries) c.self.inside.windows, c.self.invariant.standing.stack.few))
 
 pub returns-in-Some-clause-valid : goal.returns-in-Some-clause-valid
 returns-in-Some-clause-valid c =
     let D : Standing → Type 0 = λ s. IsDesk s.desk in
-    subst D c.self.view_is (IsDesk-parts c.self.inside.setting c.self.inside.clients c.self.inside.tree c.self.inside.windows c.self.invariant)
+    subst D c.self.view_is c.self.invariant.desk
 
 pub returns-in-None-clause-place : goal.returns-in-None-clause-place
 returns-in-None-clause-place c =
@@ -46,9 +45,9 @@ returns-in-None-clause-some c =
 pub returns-in-None-clause-few : goal.returns-in-None-clause-few
 returns-in-None-clause-few c =
     let F : Standing → Type 0 = λ s. length s.desk.windows ≤ 128 in
-    subst F c.self.view_is (omega (arith, length-windows_at (nodes c.self.inside.tree.entries) c.self.inside.windows, c.self.invariant.stack.few))
+    subst F c.self.view_is (omega (arith, length-windows_at (nodes c.self.inside.tree.entries) c.self.inside.windows, c.self.invariant.standing.stack.few))
 
 pub returns-in-None-clause-valid : goal.returns-in-None-clause-valid
 returns-in-None-clause-valid c =
     let D : Standing → Type 0 = λ s. IsDesk s.desk in
-    subst D c.self.view_is (IsDesk-parts c.self.inside.setting c.self.inside.clients c.self.inside.tree c.self.inside.windows c.self.invariant)
+    subst D c.self.view_is c.self.invariant.desk
