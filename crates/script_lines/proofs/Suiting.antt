@@ -1,5 +1,5 @@
 -- What a line asks for suits: its client is 1 to 16, its ticks are 1 to 1,000, and its command is built.
-use Rattle.std.proofs.Common.{◌≡◌, ℕ, ◌≤◌, Bool, true, false, cond, ◌&&◌, IsTrue, List, [], ◌∷◌, codes, Option, Some, None, Result, Ok, Err, refl}
+use Rattle.std.proofs.Common.{◌≡◌, ℕ, ◌≤◌, Bool, true, false, cond, ◌&&◌, IsTrue, List, [], ◌∷◌, codes, Option, Some, None, Result, Ok, Err, refl, arith}
 use Rattle.std.specs.Prelude.{IfSome, nat_le}
 use Rattle.std.specs.Str.{bytes_eq}
 use Rattle.std.proofs.lemmas.Bool.{and_parts, leb-true}
@@ -29,9 +29,9 @@ IfSome-first : {A : Type 0} (P : A → Type 0) (first : Option A) (others : List
 IfSome-first P None others here rest = rest
 IfSome-first P (Some x) others here rest = here
 
-IfSome-cond : {A : Type 0} (P : A → Type 0) (test : Bool) (yes no : Option A) → (test ≡ true → IfSome yes P) → IfSome no P → IfSome (cond test yes no) P
-IfSome-cond P true yes no here rest = here refl
-IfSome-cond P false yes no here rest = rest
+IfSome-cond : {A : Type 0} (P : A → Type 0) (test : Bool) (first second : Option A) → (test ≡ true → IfSome first P) → IfSome second P → IfSome (cond test first second) P
+IfSome-cond P true first second here rest = here refl
+IfSome-cond P false first second here rest = rest
 
 -- a number is in its range
 number_in-range : (least most : ℕ) (digits : List ℕ) → IfSome (number_in least most digits) (λ n. (least ≤ n) × (n ≤ most))
