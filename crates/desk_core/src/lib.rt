@@ -15,6 +15,3 @@ mod places;
 mod rules;
 
 pub use desk::Desk;
-
-#[cfg(test)]
-mod tests;
