@@ -3,8 +3,6 @@
 
 mod over_budget;
 mod roster;
-#[cfg(test)]
-mod tests;
 
 pub use over_budget::OverBudget;
 pub use roster::Roster;

@@ -7,6 +7,3 @@ mod replying;
 
 pub use printing::print;
 pub use replying::print_reply;
-
-#[cfg(test)]
-mod tests;

@@ -13,6 +13,3 @@ pub use cmd_print::{print, print_reply};
 pub use cmd_words::{Command, ConfigOption, Drew, Input, Options, PlaceOption, Refusal, Reply};
 pub use frames::is_frame_line;
 pub use parsing::{BadLine, parse};
-
-#[cfg(test)]
-mod tests;

@@ -25,7 +25,6 @@ use tree_core::{Id, Tree};
 /// The desk: the connected clients, their widgets, the order of the open windows and the pointer. It answers each
 /// client's command. Contracts see the record `Standing`: the desk of desk_model, and whether the last call changed it.
 /// See docs/MACHINE.md, "The desk".
-#[derive(Drop)]
 pub struct Desk {
     setting: Setting,
     clients: Clients,
@@ -42,6 +41,18 @@ impl Model for Desk {
     ghost view = { λ d. record { desk = desk_of d.setting d.tree d.windows; changed = d.changed } };
 
     ghost invariant = { λ d. IsKept d.setting d.clients d.tree d.windows };
+}
+
+impl Drop for Desk {
+    fn drop(self) {
+        let Desk {
+            shape: _,
+            clients: _,
+            tree: _,
+            windows: _,
+            changed: _,
+        } = self;
+    }
 }
 
 impl Desk {

@@ -17,6 +17,3 @@ mod rules;
 mod setting;
 
 pub use desk::Desk;
-
-#[cfg(test)]
-mod tests;

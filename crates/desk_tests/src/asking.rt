@@ -1,4 +1,6 @@
-//! A desk that is asked by lines of text.
+//! A desk that is asked by lines of text. A row of a table is `CLIENT LINE | TEXT`, where the line is a command, or
+//! `connect`, `bye` or `hello`; or it tells of the desk: `desk live | NUMBER`, `desk changed | BOOL`,
+//! `desk window PLACE | X Y W H` or `| none`.
 ghost use Rattle.std.specs.Prelude.{◌≤◌};
 
 use arrayvec::ArrayString;
@@ -8,6 +10,7 @@ use kind_core::Shape;
 use script_lines::is_built;
 use std::alloc::Global;
 use std::process::Abort;
+use std::str::SplitWhitespace;
 use std::test::Fail;
 
 /// A desk on a screen of 32 by 32 pixels, with no clients.
@@ -42,9 +45,8 @@ fn command(desk: &mut Desk, client: u32, line: &str) -> Result<Reply, Fail>
     }
 }
 
-/// The text of the reply to a client's line, which is a command, or `connect`, `bye` or `hello`. Whose line a
-/// `hello` is says nothing.
-pub fn ask(desk: &mut Desk, client: u32, line: &str) -> Result<ArrayString<256>, Fail> {
+/// The text of the reply to a client's line. Whose line a `hello` is says nothing.
+fn ask(desk: &mut Desk, client: u32, line: &str) -> Result<ArrayString<256>, Fail> {
     if client < 1 || client > 16 {
         return Err("a client is 1 to 16".into());
     }
@@ -57,38 +59,81 @@ pub fn ask(desk: &mut Desk, client: u32, line: &str) -> Result<ArrayString<256>,
     Ok(print_reply(&reply))
 }
 
-/// A row of a table: the client, its line, and the text that it is answered.
-#[derive(Clone, Copy)]
-struct Row<'a> {
+/// A number of a window's place.
+fn number(words: &mut SplitWhitespace<'_>) -> Result<i32, Fail> {
+    match words.next() {
+        Some(word) => Ok(word.parse()?),
+        None => Err("a window has four numbers".into()),
+    }
+}
+
+/// A window's place, which is written `X Y W H`, or none, which is written `none`.
+fn place(text: &str) -> Result<Option<(i32, i32, u32, u32)>, Fail> {
+    if text == "none" {
+        return Ok(None);
+    }
+    let mut words = text.split_whitespace();
+    let x = number(&mut words)?;
+    let y = number(&mut words)?;
+    let w = number(&mut words)?;
+    let h = number(&mut words)?;
+    Ok(Some((x, y, w.max(0) as u32, h.max(0) as u32)))
+}
+
+/// Whether the desk is as the row says.
+fn is_so(desk: &Desk, said: &str, wanted: &str) -> Result<bool, Fail> {
+    match said {
+        "live" => Ok(desk.live() == wanted.parse::<u32>()?),
+        "changed" => Ok(desk.changed() == (wanted == "true")),
+        "window 0" => Ok(desk.window_at(0) == place(wanted)?),
+        "window 1" => Ok(desk.window_at(1) == place(wanted)?),
+        _ => Err("a row tells of nothing".into()),
+    }
+}
+
+/// The client's line is answered by that text, and where it is refused nothing changes.
+fn is_answered(
+    rt: &impl Abort,
+    desk: &mut Desk,
     client: u32,
-    line: &'a str,
-    answer: &'a str,
+    line: &str,
+    wanted: &str,
+) -> Result<(), Fail> {
+    let reply = ask(desk, client, line)?;
+    assert_eq!(rt; reply.as_str(), wanted, "at {client} {line}");
+    assert!(rt;
+        !wanted.starts_with("error") || !desk.changed(),
+        "at {client} {line}"
+    );
+    Ok(())
 }
 
-/// The row that a text stands for, as `1 w.open() | ok`.
-fn row_of(text: &str) -> Result<Row<'_>, Fail> {
-    let (said, answer) = text.split_once(" | ").ok_or("a row has no answer")?;
-    let (client, line) = said.split_once(' ').ok_or("a row has no client")?;
-    Ok(Row {
-        client: client.parse()?,
-        line,
-        answer,
-    })
+/// The row holds.
+fn holds(rt: &impl Abort, desk: &mut Desk, row: &str) -> Result<(), Fail> {
+    let (said, wanted) = row.split_once(" | ").ok_or("a row has no answer")?;
+    let (first, line) = said.split_once(' ').ok_or("a row has one word")?;
+    if first == "desk" {
+        assert!(rt; is_so(desk, line, wanted)?, "at {row}");
+        return Ok(());
+    }
+    is_answered(rt, desk, first.parse()?, line, wanted)
 }
 
-/// Each row of the table is answered by its text, and where it is refused nothing changes. Empty rows, and those
-/// that begin with `#`, say nothing.
+/// Each row of the table holds. The table has a row at least; what begins with `#` is none.
 pub fn ask_all(rt: &impl Abort, desk: &mut Desk, table: &str) -> Result<(), Fail> {
-    for text in table.lines() {
-        if text.is_empty() || text.starts_with('#') {
-            continue;
-        }
-        let row = row_of(text)?;
-        let reply = ask(desk, row.client, row.line)?;
-        assert_eq!(rt; reply.as_str(), row.answer, "at {text}");
-        if reply.as_str().starts_with("error") {
-            assert_eq!(rt; desk.changed(), false, "at {text}");
+    let table = table.trim();
+    if table.is_empty() {
+        return Err("a table has no rows".into());
+    }
+    for row in table.lines() {
+        if !row.starts_with('#') {
+            holds(rt, desk, row)?;
         }
     }
     Ok(())
+}
+
+/// Asks a new desk.
+pub fn asked_anew(rt: &impl Abort, alloc: Global, table: &str) -> Result<(), Fail> {
+    ask_all(rt, &mut new_desk(alloc), table)
 }

@@ -1,6 +1,35 @@
 //! Clients come and go.
-use crate::asking::{ask_all, new_desk};
+use crate::asking::asked_anew;
 use std::test::Fail;
+
+const COMING: &str = "
+desk live | 0
+1 connect | ok
+1 hello | ok 2
+desk live | 2
+1 bye | ok
+desk live | 1
+";
+
+#[test]
+fn clients_come_and_go(rt: HostRuntime) -> Result<(), Fail> {
+    asked_anew(&rt, rt.alloc(), COMING)
+}
+
+const OPENING: &str = "
+1 connect | ok
+1 w = new Window() | ok
+desk window 0 | none
+1 w.open() | ok
+desk changed | true
+desk window 0 | 0 0 160 120
+desk window 1 | none
+";
+
+#[test]
+fn a_window_opens_where_its_attributes_say(rt: HostRuntime) -> Result<(), Fail> {
+    asked_anew(&rt, rt.alloc(), OPENING)
+}
 
 const HELLOS: &str = "
 1 hello | ok 1
@@ -31,7 +60,7 @@ const HELLOS: &str = "
 
 #[test]
 fn hello_gives_the_least_free_client(rt: HostRuntime) -> Result<(), Fail> {
-    ask_all(&rt, &mut new_desk(rt.alloc()), HELLOS)
+    asked_anew(&rt, rt.alloc(), HELLOS)
 }
 
 const LEAVING: &str = "
@@ -48,15 +77,13 @@ const LEAVING: &str = "
 1 w.get(x) | error 4
 2 w.get(x) | ok 7
 2 w.open() | error 12
+desk window 0 | 7 0 160 120
+desk window 1 | none
 ";
 
 #[test]
 fn a_client_that_leaves_takes_its_widgets_with_it(rt: HostRuntime) -> Result<(), Fail> {
-    let mut desk = new_desk(rt.alloc());
-    ask_all(&rt, &mut desk, LEAVING)?;
-    assert_eq!(rt; desk.window_at(0), Some((7, 0, 160, 120)));
-    assert_eq!(rt; desk.window_at(1), None);
-    Ok(())
+    asked_anew(&rt, rt.alloc(), LEAVING)
 }
 
 const LINKS: &str = "
@@ -74,5 +101,5 @@ const LINKS: &str = "
 
 #[test]
 fn a_link_leads_to_a_variable_of_its_client(rt: HostRuntime) -> Result<(), Fail> {
-    ask_all(&rt, &mut new_desk(rt.alloc()), LINKS)
+    asked_anew(&rt, rt.alloc(), LINKS)
 }

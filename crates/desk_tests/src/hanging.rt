@@ -1,5 +1,5 @@
 //! Widgets hang in one another, up to twelve levels, one in a cell.
-use crate::asking::{ask, ask_all, new_desk};
+use crate::asking::asked_anew;
 use std::test::Fail;
 
 const GRIDS: &str = "
@@ -22,7 +22,7 @@ const GRIDS: &str = "
 
 #[test]
 fn grids_hang_in_one_another(rt: HostRuntime) -> Result<(), Fail> {
-    ask_all(&rt, &mut new_desk(rt.alloc()), GRIDS)
+    asked_anew(&rt, rt.alloc(), GRIDS)
 }
 
 const CELLS: &str = "
@@ -45,11 +45,35 @@ const CELLS: &str = "
 
 #[test]
 fn one_widget_stands_in_a_cell(rt: HostRuntime) -> Result<(), Fail> {
-    ask_all(&rt, &mut new_desk(rt.alloc()), CELLS)
+    asked_anew(&rt, rt.alloc(), CELLS)
 }
 
 /// The Grids g1 to g12 hang each in the one before.
 const LEVELS: &str = "
+1 connect | ok
+1 g1 = new Grid() | ok
+1 g2 = new Grid() | ok
+1 g3 = new Grid() | ok
+1 g4 = new Grid() | ok
+1 g5 = new Grid() | ok
+1 g6 = new Grid() | ok
+1 g7 = new Grid() | ok
+1 g8 = new Grid() | ok
+1 g9 = new Grid() | ok
+1 g10 = new Grid() | ok
+1 g11 = new Grid() | ok
+1 g12 = new Grid() | ok
+1 g1.place(g2) | ok
+1 g2.place(g3) | ok
+1 g3.place(g4) | ok
+1 g4.place(g5) | ok
+1 g5.place(g6) | ok
+1 g6.place(g7) | ok
+1 g7.place(g8) | ok
+1 g8.place(g9) | ok
+1 g9.place(g10) | ok
+1 g10.place(g11) | ok
+1 g11.place(g12) | ok
 1 g13 = new Grid() | ok
 1 x = new Grid() | ok
 1 y = new Grid() | ok
@@ -68,22 +92,5 @@ const LEVELS: &str = "
 
 #[test]
 fn a_tree_has_12_levels(rt: HostRuntime) -> Result<(), Fail> {
-    let mut desk = new_desk(rt.alloc());
-    ask_all(&rt, &mut desk, "1 connect | ok\n1 g1 = new Grid() | ok")?;
-    for number in 1..12 {
-        let next = number + 1;
-        let made = format!(in rt.alloc(); "g{next} = new Grid()")?;
-        assert_eq!(rt;
-            ask(&mut desk, 1, made.as_str())?.as_str(),
-            "ok",
-            "at {made}"
-        );
-        let hung = format!(in rt.alloc(); "g{number}.place(g{next})")?;
-        assert_eq!(rt;
-            ask(&mut desk, 1, hung.as_str())?.as_str(),
-            "ok",
-            "at {hung}"
-        );
-    }
-    ask_all(&rt, &mut desk, LEVELS)
+    asked_anew(&rt, rt.alloc(), LEVELS)
 }

@@ -1,7 +1,8 @@
 //! Widgets are made, counted, set and read.
-use crate::asking::{ask, ask_all, new_desk};
+use crate::asking::{ask_all, asked_anew, new_desk};
+use cmd_text::{Command, Reply};
 use desk_core::Desk;
-use std::alloc::Global;
+use kind_core::{Kind, name_from};
 use std::process::Abort;
 use std::test::Fail;
 
@@ -24,69 +25,75 @@ const KINDS: &str = "
 
 #[test]
 fn there_is_a_widget_of_each_kind(rt: HostRuntime) -> Result<(), Fail> {
-    ask_all(&rt, &mut new_desk(rt.alloc()), KINDS)
+    asked_anew(&rt, rt.alloc(), KINDS)
 }
 
-/// Client 1 makes so many widgets of a kind, each of which is answered `ok`. Their names are the prefix and a
-/// number from 0.
-fn make_many(
-    rt: &impl Abort,
-    alloc: Global,
-    desk: &mut Desk,
-    prefix: &str,
-    count: u32,
-    kind: &str,
-) -> Result<(), Fail> {
+/// Client 1 makes so many widgets of a kind, each of which is answered that it is done. Their names are a letter and
+/// two others, from `aa` on.
+fn make_many(desk: &mut Desk, letter: u8, count: u8, kind: Kind) -> Result<(), Fail> {
     for number in 0..count {
-        let line = format!(in alloc; "{prefix}{number} = new {kind}()")?;
-        let reply = ask(desk, 1, line.as_str())?;
-        assert_eq!(rt; reply.as_str(), "ok", "at {line}");
+        let bytes = [letter, b'a' + number / 16, b'a' + number % 16];
+        let name = name_from(&bytes).ok_or("a name")?;
+        if desk.step(1, &Command::New { name, kind }, &[]) != Reply::Done {
+            return Err("a widget isn't made".into());
+        }
     }
     Ok(())
 }
 
-#[test]
-fn a_client_has_128_widgets(rt: HostRuntime) -> Result<(), Fail> {
-    let mut desk = new_desk(rt.alloc());
-    ask_all(&rt, &mut desk, "1 connect | ok")?;
-    make_many(&rt, rt.alloc(), &mut desk, "a", 128, "Label")?;
-    ask_all(&rt, &mut desk, "1 a128 = new Label() | error 7 128")
+fn fills(rt: &impl Abort, desk: &mut Desk) -> Result<(), Fail> {
+    ask_all(rt, desk, "1 connect | ok")?;
+    make_many(desk, b'a', 128, Kind::Label)?;
+    ask_all(rt, desk, "1 more = new Label() | error 7 128")
 }
 
 #[test]
-fn a_client_has_8_windows_and_8_screens(rt: HostRuntime) -> Result<(), Fail> {
-    let mut desk = new_desk(rt.alloc());
-    ask_all(&rt, &mut desk, "1 connect | ok")?;
-    make_many(&rt, rt.alloc(), &mut desk, "w", 8, "Window")?;
-    make_many(&rt, rt.alloc(), &mut desk, "v", 8, "VScreen")?;
-    let rows = "
+fn a_client_has_128_widgets(rt: HostRuntime) -> Result<(), Fail> {
+    fills(&rt, &mut new_desk(rt.alloc()))
+}
+
+/// Client 1 has 8 Windows and 8 VScreens.
+const EIGHT: &str = "
 1 w8 = new Window() | error 7 8
 1 v8 = new VScreen() | error 7 8
 1 g8 = new Grid() | ok
 ";
-    ask_all(&rt, &mut desk, rows)
+
+fn fills_twice(rt: &impl Abort, desk: &mut Desk) -> Result<(), Fail> {
+    ask_all(rt, desk, "1 connect | ok")?;
+    make_many(desk, b'w', 8, Kind::Window)?;
+    make_many(desk, b'v', 8, Kind::VScreen)?;
+    ask_all(rt, desk, EIGHT)
 }
 
-/// Client 1 has 8 Windows from w0 on, and 128 widgets with the Labels from l0 on.
+#[test]
+fn a_client_has_8_windows_and_8_screens(rt: HostRuntime) -> Result<(), Fail> {
+    fills_twice(&rt, &mut new_desk(rt.alloc()))
+}
+
+/// Client 1 has 8 Windows from waa on, and 128 widgets with the Labels from laa on.
 const FULL: &str = "
 1 more = new Label() | error 7 128
 # a taken name comes before the count of widgets, and that before the count of Windows
-1 l0 = new Label() | error 3
+1 laa = new Label() | error 3
 1 more = new Window() | error 7 128
 2 more = new Label() | ok
-1 l0.drop() | ok
+1 laa.drop() | ok
 1 more = new Window() | error 7 8
-1 w0 = new Window() | error 3
+1 waa = new Window() | error 3
 1 more = new Label() | ok
 ";
 
+fn is_full(rt: &impl Abort, desk: &mut Desk) -> Result<(), Fail> {
+    ask_all(rt, desk, "1 connect | ok\n2 connect | ok")?;
+    make_many(desk, b'w', 8, Kind::Window)?;
+    make_many(desk, b'l', 120, Kind::Label)?;
+    ask_all(rt, desk, FULL)
+}
+
 #[test]
 fn new_is_refused_in_its_order(rt: HostRuntime) -> Result<(), Fail> {
-    let mut desk = new_desk(rt.alloc());
-    ask_all(&rt, &mut desk, "1 connect | ok\n2 connect | ok")?;
-    make_many(&rt, rt.alloc(), &mut desk, "w", 8, "Window")?;
-    make_many(&rt, rt.alloc(), &mut desk, "l", 120, "Label")?;
-    ask_all(&rt, &mut desk, FULL)
+    is_full(&rt, &mut new_desk(rt.alloc()))
 }
 
 const VALUES: &str = r#"
@@ -108,5 +115,5 @@ const VALUES: &str = r#"
 
 #[test]
 fn values_are_checked_before_any_is_set(rt: HostRuntime) -> Result<(), Fail> {
-    ask_all(&rt, &mut new_desk(rt.alloc()), VALUES)
+    asked_anew(&rt, rt.alloc(), VALUES)
 }

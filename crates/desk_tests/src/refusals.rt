@@ -24,11 +24,15 @@ const WIDGETS: &str = "
 1 w.open() | ok
 ";
 
-/// A desk with these widgets.
-fn desk_with_widgets(rt: &impl Abort, alloc: Global) -> Result<Desk, Fail> {
-    let mut desk = new_desk(alloc);
-    ask_all(rt, &mut desk, WIDGETS)?;
-    Ok(desk)
+/// Asks a desk with these widgets.
+fn asked_then(rt: &impl Abort, alloc: Global, table: &str) -> Result<(), Fail> {
+    ask_two(rt, &mut new_desk(alloc), WIDGETS, table)
+}
+
+/// Asks the desk the rows of two tables.
+fn ask_two(rt: &impl Abort, desk: &mut Desk, first: &str, then: &str) -> Result<(), Fail> {
+    ask_all(rt, desk, first)?;
+    ask_all(rt, desk, then)
 }
 
 const STRANGERS: &str = "
@@ -50,8 +54,7 @@ const STRANGERS: &str = "
 
 #[test]
 fn who_is_not_connected_is_refused_first(rt: HostRuntime) -> Result<(), Fail> {
-    let mut desk = desk_with_widgets(&rt, rt.alloc())?;
-    ask_all(&rt, &mut desk, STRANGERS)
+    asked_then(&rt, rt.alloc(), STRANGERS)
 }
 
 const VALUES: &str = r#"
@@ -69,8 +72,7 @@ const VALUES: &str = r#"
 
 #[test]
 fn values_are_refused_in_their_order(rt: HostRuntime) -> Result<(), Fail> {
-    let mut desk = desk_with_widgets(&rt, rt.alloc())?;
-    ask_all(&rt, &mut desk, VALUES)
+    asked_then(&rt, rt.alloc(), VALUES)
 }
 
 const RULES: &str = "
@@ -92,8 +94,7 @@ const RULES: &str = "
 
 #[test]
 fn rules_are_refused_in_their_order(rt: HostRuntime) -> Result<(), Fail> {
-    let mut desk = desk_with_widgets(&rt, rt.alloc())?;
-    ask_all(&rt, &mut desk, RULES)
+    asked_then(&rt, rt.alloc(), RULES)
 }
 
 const PLACES: &str = "
@@ -117,8 +118,7 @@ const PLACES: &str = "
 
 #[test]
 fn hanging_is_refused_in_its_order(rt: HostRuntime) -> Result<(), Fail> {
-    let mut desk = desk_with_widgets(&rt, rt.alloc())?;
-    ask_all(&rt, &mut desk, PLACES)
+    asked_then(&rt, rt.alloc(), PLACES)
 }
 
 const LIFTS: &str = "
@@ -143,8 +143,7 @@ const LIFTS: &str = "
 
 #[test]
 fn lifts_and_drops_are_refused_in_their_order(rt: HostRuntime) -> Result<(), Fail> {
-    let mut desk = desk_with_widgets(&rt, rt.alloc())?;
-    ask_all(&rt, &mut desk, LIFTS)
+    asked_then(&rt, rt.alloc(), LIFTS)
 }
 
 const LINKS: &str = "
@@ -168,6 +167,5 @@ const LINKS: &str = "
 
 #[test]
 fn links_and_windows_are_refused_in_their_order(rt: HostRuntime) -> Result<(), Fail> {
-    let mut desk = desk_with_widgets(&rt, rt.alloc())?;
-    ask_all(&rt, &mut desk, LINKS)
+    asked_then(&rt, rt.alloc(), LINKS)
 }

@@ -8,8 +8,6 @@ pub mod laws;
 mod rectangle;
 mod spans;
 mod splits;
-#[cfg(test)]
-mod tests;
 
 pub use cuts::cut;
 pub use fronts::{Front, take_front};

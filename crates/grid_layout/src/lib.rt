@@ -3,7 +3,5 @@
 
 pub mod laws;
 mod spreading;
-#[cfg(test)]
-mod tests;
 
 pub use spreading::spread;

@@ -17,6 +17,3 @@ pub use shapes::{Cell, Shape};
 pub use table::{check, default_of, gives};
 pub use texts::{Text, text_from};
 pub use values::{AttrRefusal, Value};
-
-#[cfg(test)]
-mod tests;

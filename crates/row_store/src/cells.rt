@@ -13,7 +13,6 @@ const CLIENT_PLACES: usize = 32768;
 
 /// The number of the child in each cell of each widget: 256 places for each of a client's 128 numbers. See
 /// docs/ARCHITECTURE.md, "Cost".
-#[derive(Drop)]
 pub struct Cells {
     children: Vec<Option<u32>>,
 }
@@ -24,6 +23,12 @@ impl Model for Cells {
     ghost Value = { List (Option ℕ) };
 
     ghost view = { λ c. c.children.items };
+}
+
+impl Drop for Cells {
+    fn drop(self) {
+        let Cells { children: _ } = self;
+    }
 }
 
 /// The place of the cell in that column and row, 1 to 16, of the widget with that number.

@@ -8,7 +8,6 @@ use std::marker::Model;
 
 /// How many widgets each client, 1 to 16, has, and where the search for its next number begins. Contracts see
 /// the list of the counts alone, with places 0 to 16. See docs/MACHINE.md, "Widgets".
-#[derive(Drop)]
 pub struct Counts {
     counts: [Count; 17],
     starts: [u32; 17],
@@ -21,6 +20,15 @@ impl Model for Counts {
     ghost Value = { List Count };
 
     ghost view = { λ c. c.counts };
+}
+
+impl Drop for Counts {
+    fn drop(self) {
+        let Counts {
+            counts: _,
+            starts: _,
+        } = self;
+    }
 }
 
 /// The count of a client without widgets.

@@ -15,7 +15,6 @@ use std::marker::Model;
 
 /// The numbers of the rows, under client and name, which contracts see as a list of entries. See
 /// docs/MACHINE.md, "Widgets".
-#[derive(Drop)]
 pub struct Names {
     numbers: IndexMap<(u32, Name), u32>,
 }
@@ -26,6 +25,12 @@ impl Model for Names {
     ghost Value = { List ((ℕ × List ℕ) × ℕ) };
 
     ghost view = { λ n. n.numbers.entries };
+}
+
+impl Drop for Names {
+    fn drop(self) {
+        let Names { numbers: _ } = self;
+    }
 }
 
 impl Names {

@@ -16,7 +16,6 @@ use std::marker::Model;
 
 /// The numbered rows in the order of making, which contracts see as a list of numbers with rows. The rows lie
 /// in a slab, whose keys a table keeps beside the numbers. See docs/MACHINE.md, "Widgets".
-#[derive(Drop)]
 pub struct Store {
     keys: IndexMap<u32, usize>,
     rows: Slab<Row>,
@@ -33,6 +32,12 @@ impl Model for Store {
     ghost view = { λ s. shown (slab_get s.rows) s.keys.entries };
 
     ghost invariant = { λ s. IsShown (slab_get s.rows) s.keys.entries };
+}
+
+impl Drop for Store {
+    fn drop(self) {
+        let Store { keys: _, rows: _ } = self;
+    }
 }
 
 impl Store {

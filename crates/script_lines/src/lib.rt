@@ -14,6 +14,3 @@ pub use built::is_built;
 pub use cmd_text::Command;
 pub use line::line_order;
 pub use order::Order;
-
-#[cfg(test)]
-mod tests;

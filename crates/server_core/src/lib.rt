@@ -14,6 +14,3 @@ pub use cmd_words::{Command, Reply};
 pub use desk_model::{Drew, Shape};
 pub use no_memory::NoMemory;
 pub use server::Server;
-
-#[cfg(test)]
-mod tests;

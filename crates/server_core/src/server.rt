@@ -24,7 +24,6 @@ use std::marker::Model;
 /// Contracts see the record `Serving`: the machine's state, and `writes`, the pixels written since the last
 /// tick began. Between any two calls each pixel is dirty or has the picture's colour. docs/MACHINE.md has the
 /// rules.
-#[derive(Drop)]
 pub struct Server {
     shape: Shape,
     desk: Desk,
@@ -45,6 +44,19 @@ impl Model for Server {
     } };
 
     ghost invariant = { λ s. IsServing s.shape s.desk.desk s.windows s.canvas s.dirt.items s.dirty };
+}
+
+impl Drop for Server {
+    fn drop(self) {
+        let Server {
+            shape: _,
+            desk: _,
+            windows: _,
+            canvas: _,
+            dirt: _,
+            dirty: _,
+        } = self;
+    }
 }
 
 impl Server {

@@ -15,6 +15,3 @@ mod tree;
 pub use id::Id;
 pub use refusal::{AddRefusal, AttachRefusal, InUse, NoMemory};
 pub use tree::Tree;
-
-#[cfg(test)]
-mod tests;

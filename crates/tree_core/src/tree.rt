@@ -28,7 +28,6 @@ use std::marker::Model;
 /// The widgets of all clients: rows in the order of making, under the names that the clients gave them.
 /// Contracts see the record `Widgets` of desk_model. See docs/MACHINE.md, "Widgets"; docs/ARCHITECTURE.md,
 /// "Cost", has the reasons for what the calls cost.
-#[derive(Drop)]
 pub struct Tree {
     clients: Vec<u32>,
     names: Names,
@@ -46,6 +45,18 @@ impl Model for Tree {
     ghost view = { λ t. record { clients = t.clients.items; entries = t.store } };
 
     ghost invariant = { λ t. IsCounted t.clients.items t.names t.store t.cells t.counts };
+}
+
+impl Drop for Tree {
+    fn drop(self) {
+        let Tree {
+            clients: _,
+            names: _,
+            store: _,
+            cells: _,
+            counts: _,
+        } = self;
+    }
 }
 
 impl Tree {

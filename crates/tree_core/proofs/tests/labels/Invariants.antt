@@ -1,7 +1,0 @@
--- the client is joined
-use Rattle.std.proofs.Common.{◌≡◌, true}
-use Rattle.desk_model.specs.Widgets.{is_joined}
-use Rattle.tree_core.proofs.tests.labels.Given as goal
-
-abbrev pub invariant-loop-i : goal.invariant-loop-i
-invariant-loop-i l = is_joined l.tree.clients 1 ≡ true
