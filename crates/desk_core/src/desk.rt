@@ -46,7 +46,7 @@ impl Model for Desk {
 impl Drop for Desk {
     fn drop(self) {
         let Desk {
-            shape: _,
+            setting: _,
             clients: _,
             tree: _,
             windows: _,
@@ -165,7 +165,8 @@ impl Desk {
         close_windows(&self.tree, &mut self.windows, client);
         self.tree.drop_client(client);
         self.clients.leave(client);
-        let_go(&self.tree, &self.windows, &mut self.setting);
+        let setting = &mut self.setting;
+        let_go(&self.tree, &self.windows, setting);
         self.changed = count > 0;
         Reply::Done
     }

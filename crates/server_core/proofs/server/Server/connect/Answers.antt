@@ -11,9 +11,11 @@ invariant_of-self c =
 
 pub returns-clause-step : goal.returns-clause-step
 returns-clause-step c =
-    rw (← c.self.view_is)
-    (and_from _ _ (le-leb 1 c.args.client c.requires.low) (le-leb c.args.client 16 c.requires.high), (step_of_parts c.self.inside.desk c.connect-reply.new.self (λ short. step_connect c.self.inside.desk.desk c.args.client short) c.connect-reply.result (shape-step_connect c.self.inside.desk.desk c.args.client)
-    c.connect-reply.ensures.valid c.self.invariant c.connect-reply.ensures.step c.connect-reply.ensures.changed c.follow-self-inside.ensures).0)
+    rw (← c.self.view_is) (
+      and_from _ _ (le-leb 1 c.args.client c.requires.low) (le-leb c.args.client 16 c.requires.high),
+      (step_of_parts c.self.inside.desk c.connect-reply.new.self (λ short. step_connect c.self.inside.desk.desk c.args.client short) c.connect-reply.result (shape-step_connect c.self.inside.desk.desk c.args.client)
+          c.connect-reply.ensures.valid c.self.invariant c.connect-reply.ensures.step c.connect-reply.ensures.changed c.follow-self-inside.ensures).0,
+    )
 
 pub returns-clause-valid : goal.returns-clause-valid
 returns-clause-valid c = (invariant_of-self c).state
