@@ -216,6 +216,10 @@ fed_after status a b c first second before middle after p q =
       counts = omega (arith, length-append p.items q.items, p.counts, q.counts);
     }
 
+pub moments-fed_after : (status : Status) (a b c : Player) (first second : List ℕ) (before middle after : Output) → (p : Fed Done a first b before middle) → (q : Fed status b second c middle after) → (fed_after status a b c first second before middle after p q).moments ≡ p.moments ++ q.moments
+unfolding fed_after
+moments-fed_after status a b c first second before middle after p q = refl
+
 -- what is off the grammar stays off, whatever comes behind it
 pub off_more : (bytes more : List ℕ) → BeginsOff bytes → BeginsOff (bytes ++ more)
 off_more bytes more (inl unread) = inl (record {
