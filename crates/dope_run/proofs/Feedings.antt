@@ -21,8 +21,8 @@ use Rattle.dope_run.specs.declared.status.Status.TheVariants.{Done, WriteFault, 
 use Rattle.dope_run.specs.declared.player.Player.{Player}
 use Rattle.dope_run.specs.Framing.{Item, IsItem, IsLine, wants_of, bytes_of, bytes_of_item, has_feed, line_limit}
 use Rattle.dope_run.specs.Script.{events_of_order, BeginsOff, BeginsUnread, BeginsTooLong}
-use Rattle.dope_run.specs.Transcript.{Plays, Leaves}
-use Rattle.dope_run.specs.Obeying.{Obeyed, Says}
+use Rattle.dope_run.specs.Transcript.{Plays}
+use Rattle.dope_run.specs.Obeying.{Obeyed, Says, Leaves}
 use Rattle.dope_run.specs.Playing.{FirstFeed, LineDone, LineUnread, LineCut, Fed, EndsSo, bare_item}
 use Rattle.dope_run.specs.Cutting.{status_of}
 use Rattle.dope_run.proofs.Gaining.{text_of-append, Says-none, Says-after, Leaves-after}
@@ -215,6 +215,10 @@ fed_after status a b c first second before middle after p q =
       leaves = Leaves-after status c.server.state b.server.state a.server.state p.moments q.moments p.leaves q.leaves;
       counts = omega (arith, length-append p.items q.items, p.counts, q.counts);
     }
+
+pub moments-fed_after : (status : Status) (a b c : Player) (first second : List ℕ) (before middle after : Output) → (p : Fed Done a first b before middle) → (q : Fed status b second c middle after) → (fed_after status a b c first second before middle after p q).moments ≡ p.moments ++ q.moments
+unfolding fed_after
+moments-fed_after status a b c first second before middle after p q = refl
 
 -- what is off the grammar stays off, whatever comes behind it
 pub off_more : (bytes more : List ℕ) → BeginsOff bytes → BeginsOff (bytes ++ more)

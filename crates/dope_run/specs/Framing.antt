@@ -17,6 +17,10 @@ line_limit = 520
 abbrev pub script_limit : ℕ
 script_limit = 67108864
 
+-- a read gives at most 4,096 bytes
+abbrev pub read_limit : ℕ
+read_limit = 4096
+
 abbrev pub has_feed : List ℕ → Bool
 has_feed bytes = list_any (λ byte. byte == 10) bytes
 

@@ -11,6 +11,7 @@ mod outcome;
 mod player;
 mod playing;
 mod running;
+mod stage;
 mod status;
 mod text;
 mod words;

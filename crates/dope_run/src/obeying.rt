@@ -27,6 +27,7 @@ fn say<K: Sink, const CAP: usize>(
     ensures err { OnErr result (PutsFront (output (K.held sink.old) out.old) (output (K.held sink.new) out.new) line.now.bytes) }
     ensures later { K.faults sink.old ≤ K.faults sink.new }
     ensures cause { OnErr result (Rose (K.faults sink.old) (K.faults sink.new)) }
+    ensures steady { OnOk result (K.faults sink.new ≡ K.faults sink.old) }
 {
     out.put(line.as_str().as_bytes(), sink)
 }
@@ -46,6 +47,7 @@ fn connect<K: Sink>(
     ensures valid { IsState server.new.state }
     ensures later { K.faults sink.old ≤ K.faults sink.new }
     ensures cause { OnErr result (Rose (K.faults sink.old) (K.faults sink.new)) }
+    ensures steady { OnOk result (K.faults sink.new ≡ K.faults sink.old) }
 {
     let reply = server.connect(client);
     say(&reply_line(client, &reply), out, sink)
@@ -66,6 +68,7 @@ fn bye<K: Sink>(
     ensures valid { IsState server.new.state }
     ensures later { K.faults sink.old ≤ K.faults sink.new }
     ensures cause { OnErr result (Rose (K.faults sink.old) (K.faults sink.new)) }
+    ensures steady { OnOk result (K.faults sink.new ≡ K.faults sink.old) }
 {
     let reply = server.bye(client);
     say(&reply_line(client, &reply), out, sink)
@@ -88,6 +91,7 @@ fn ask<K: Sink>(
     ensures valid { IsState server.new.state }
     ensures later { K.faults sink.old ≤ K.faults sink.new }
     ensures cause { OnErr result (Rose (K.faults sink.old) (K.faults sink.new)) }
+    ensures steady { OnOk result (K.faults sink.new ≡ K.faults sink.old) }
 {
     let reply = server.command(client, command, &[]);
     say(&reply_line(client, &reply), out, sink)
@@ -106,6 +110,7 @@ fn misread<K: Sink>(
         (λ _. Obeyed WriteFault (Misread client place ∷ []) server.now.state server.now.state (output (K.held sink.old) out.old) (output (K.held sink.new) out.new)) }
     ensures later { K.faults sink.old ≤ K.faults sink.new }
     ensures cause { OnErr result (Rose (K.faults sink.old) (K.faults sink.new)) }
+    ensures steady { OnOk result (K.faults sink.new ≡ K.faults sink.old) }
 {
     let reply = Reply::Refused(Refusal::Syntax { place });
     say(&reply_line(client, &reply), out, sink)
@@ -119,6 +124,7 @@ fn tick<K: Sink>(server: &mut Server, out: &mut Outbox, sink: &mut K) -> Result<
     ensures valid { IsState server.new.state }
     ensures later { K.faults sink.old ≤ K.faults sink.new }
     ensures cause { OnErr result (Rose (K.faults sink.old) (K.faults sink.new)) }
+    ensures steady { OnOk result (K.faults sink.new ≡ K.faults sink.old) }
 {
     let drew = server.tick();
     say(&drew_line(drew), out, sink)
@@ -138,6 +144,7 @@ fn ticks<K: Sink>(
     ensures still_valid { IsState server.new.state }
     ensures later { K.faults sink.old ≤ K.faults sink.new }
     ensures cause { OnErr result (Rose (K.faults sink.old) (K.faults sink.new)) }
+    ensures steady { OnOk result (K.faults sink.new ≡ K.faults sink.old) }
 {
     for i in 0..count {
         match tick(server, out, sink) {
@@ -155,6 +162,7 @@ fn dirty<K: Sink>(server: &Server, out: &mut Outbox, sink: &mut K) -> Result<(),
         (λ _. Obeyed WriteFault (CountDirty ∷ []) server.now.state server.now.state (output (K.held sink.old) out.old) (output (K.held sink.new) out.new)) }
     ensures later { K.faults sink.old ≤ K.faults sink.new }
     ensures cause { OnErr result (Rose (K.faults sink.old) (K.faults sink.new)) }
+    ensures steady { OnOk result (K.faults sink.new ≡ K.faults sink.old) }
 {
     say(&dirty_line(server.dirty()), out, sink)
 }
@@ -184,6 +192,7 @@ fn pixel<K: Sink>(
         (λ _. Obeyed WriteFault (LookAt x y ∷ []) server.now.state server.now.state (output (K.held sink.old) out.old) (output (K.held sink.new) out.new)) }
     ensures later { K.faults sink.old ≤ K.faults sink.new }
     ensures cause { OnErr result (Rose (K.faults sink.old) (K.faults sink.new)) }
+    ensures steady { OnOk result (K.faults sink.new ≡ K.faults sink.old) }
 {
     say(&pixel_line(seen_at(server, x, y)), out, sink)
 }
@@ -195,6 +204,7 @@ fn dump<K: Sink>(server: &Server, out: &mut Outbox, sink: &mut K) -> Result<(), 
         (λ _. Obeyed WriteFault (Dump ∷ []) server.now.state server.now.state (output (K.held sink.old) out.old) (output (K.held sink.new) out.new)) }
     ensures later { K.faults sink.old ≤ K.faults sink.new }
     ensures cause { OnErr result (Rose (K.faults sink.old) (K.faults sink.new)) }
+    ensures steady { OnOk result (K.faults sink.new ≡ K.faults sink.old) }
 {
     match say(&dump_line(server.shape()), out, sink) {
         Ok(()) => {}
@@ -222,6 +232,7 @@ pub fn obey<K: Sink>(
     ensures still_valid { IsState server.new.state }
     ensures later { K.faults sink.old ≤ K.faults sink.new }
     ensures cause { OnErr result (Rose (K.faults sink.old) (K.faults sink.new)) }
+    ensures steady { OnOk result (K.faults sink.new ≡ K.faults sink.old) }
 {
     match order {
         Order::Nothing => Ok(()),

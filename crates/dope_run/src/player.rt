@@ -25,11 +25,20 @@ const LINE_LIMIT: usize = 520;
 
 /// A player of a script: its server, the bytes of the line that is not yet whole, and how many lines were carried
 /// out.
-#[derive(Drop)]
 pub struct Player {
     pub server: Server,
     pub line: ArrayVec<u8, LINE_LIMIT>,
     pub lines: u64,
+}
+
+impl Drop for Player {
+    fn drop(self) {
+        let Player {
+            server: _,
+            line: _,
+            lines: _,
+        } = self;
+    }
 }
 
 /// The index, from 0, of the first line feed among the bytes. None: they have none.
@@ -53,6 +62,18 @@ fn is_silent(line: &[u8]) -> bool
 }
 
 impl Player {
+    /// The player's server, where the script is done.
+    pub fn into_server(self) -> Server
+        ensures { result ≡ self.server }
+    {
+        let Player {
+            server,
+            line: _,
+            lines: _,
+        } = self;
+        server
+    }
+
     /// Reads a whole line, which is given without its line feed, and carries it out. No bytes of a line are kept.
     fn obey_line<K: Sink>(&mut self, line: &[u8], out: &mut Outbox, sink: &mut K) -> Result<(), Cut>
         requires state { IsState self.old.server.state }
@@ -65,6 +86,8 @@ impl Player {
         ensures still_player { OnOk result (IsPlayer self.new) }
         ensures later { K.faults sink.old ≤ K.faults sink.new }
         ensures cause { IfErr result (λ cut. cut ≡ Cut.Unwritten → Rose (K.faults sink.old) (K.faults sink.new)) }
+        ensures steady { OnOk result (K.faults sink.new ≡ K.faults sink.old) }
+        ensures steady_there { IfErr result (λ cut. cut ≢ Cut.Unwritten → K.faults sink.new ≡ K.faults sink.old) }
     {
         match line_order(line) {
             None => Err(Cut::Unread {
@@ -93,6 +116,8 @@ impl Player {
         ensures still_player { OnOk result (IsPlayer self.new) }
         ensures later { K.faults sink.old ≤ K.faults sink.new }
         ensures cause { IfErr result (λ cut. cut ≡ Cut.Unwritten → Rose (K.faults sink.old) (K.faults sink.new)) }
+        ensures steady { OnOk result (K.faults sink.new ≡ K.faults sink.old) }
+        ensures steady_there { IfErr result (λ cut. cut ≢ Cut.Unwritten → K.faults sink.new ≡ K.faults sink.old) }
     {
         if is_silent(line) {
             self.lines += 1;
@@ -111,6 +136,8 @@ impl Player {
         ensures still_player { OnOk result (IsPlayer self.new) }
         ensures later { K.faults sink.old ≤ K.faults sink.new }
         ensures cause { IfErr result (λ cut. cut ≡ Cut.Unwritten → Rose (K.faults sink.old) (K.faults sink.new)) }
+        ensures steady { OnOk result (K.faults sink.new ≡ K.faults sink.old) }
+        ensures steady_there { IfErr result (λ cut. cut ≢ Cut.Unwritten → K.faults sink.new ≡ K.faults sink.old) }
     {
         let line = mem::replace(&mut self.line, ArrayVec::new());
         match self.carry_out(line.as_slice(), out, sink) {
@@ -158,6 +185,8 @@ impl Player {
         ensures lines { OnOk result (self.new.lines ≡ self.old.lines + 1) }
         ensures later { K.faults sink.old ≤ K.faults sink.new }
         ensures cause { IfErr result (λ cut. cut ≡ Cut.Unwritten → Rose (K.faults sink.old) (K.faults sink.new)) }
+        ensures steady { OnOk result (K.faults sink.new ≡ K.faults sink.old) }
+        ensures steady_there { IfErr result (λ cut. cut ≢ Cut.Unwritten → K.faults sink.new ≡ K.faults sink.old) }
     {
         if self.line.is_empty() && bytes.len() <= LINE_LIMIT {
             return self.carry_out(bytes, out, sink);
@@ -185,6 +214,8 @@ impl Player {
         ensures lines { IfOk result (λ count. self.new.lines ≤ self.old.lines + count) }
         ensures later { K.faults sink.old ≤ K.faults sink.new }
         ensures cause { IfErr result (λ cut. cut ≡ Cut.Unwritten → Rose (K.faults sink.old) (K.faults sink.new)) }
+        ensures steady { OnOk result (K.faults sink.new ≡ K.faults sink.old) }
+        ensures steady_there { IfErr result (λ cut. cut ≢ Cut.Unwritten → K.faults sink.new ≡ K.faults sink.old) }
     {
         match feed_in(bytes) {
             Some(feed) => match self.end_of_line(&bytes[..feed], out, sink) {
@@ -209,6 +240,8 @@ impl Player {
         ensures lines { OnOk result (self.new.lines ≤ self.old.lines + length bytes.now) }
         ensures later { K.faults sink.old ≤ K.faults sink.new }
         ensures cause { IfErr result (λ cut. cut ≡ Cut.Unwritten → Rose (K.faults sink.old) (K.faults sink.new)) }
+        ensures steady { OnOk result (K.faults sink.new ≡ K.faults sink.old) }
+        ensures steady_there { IfErr result (λ cut. cut ≢ Cut.Unwritten → K.faults sink.new ≡ K.faults sink.old) }
     {
         let mut taken = 0;
         while taken < bytes.len() {
@@ -234,6 +267,8 @@ impl Player {
         ensures still_written { OnOk result (out.new ≡ []) }
         ensures later { K.faults sink.old ≤ K.faults sink.new }
         ensures cause { IfErr result (λ cut. cut ≡ Cut.Unwritten → Rose (K.faults sink.old) (K.faults sink.new)) }
+        ensures steady { OnOk result (K.faults sink.new ≡ K.faults sink.old) }
+        ensures steady_there { IfErr result (λ cut. cut ≢ Cut.Unwritten → K.faults sink.new ≡ K.faults sink.old) }
     {
         match self.piece(bytes, out, sink) {
             Ok(()) => match out.flush(sink) {

@@ -1,5 +1,5 @@
 //! Playing a script from its source to its end.
-ghost use Rattle.std.specs.Prelude.{◌≡◌, ◌+◌, ◌^◌, ◌<◌, ◌≤◌, [], length, take, IfOk, OnErr};
+ghost use Rattle.std.specs.Prelude.{◌≡◌, ◌≢◌, ◌+◌, ◌^◌, ◌<◌, ◌≤◌, [], length, take, IfOk, OnOk, OnErr};
 ghost use Rattle.std.specs.Io.KnownBytes.{Consumes, IsAtEnd, Keeps};
 ghost use Rattle.outside_io.specs.Count.{Rose};
 ghost use Rattle.outside_io.specs.Outbox.{flushed};
@@ -26,6 +26,7 @@ fn read_front<S: Source>(source: &mut S, buffer: &mut [u8], room: usize) -> Resu
     ensures keeps { OnErr result (Keeps (S.left source.old) (S.left source.new)) }
     ensures later { S.faults source.old ≤ S.faults source.new }
     ensures cause { OnErr result (Rose (S.faults source.old) (S.faults source.new)) }
+    ensures steady { OnOk result (S.faults source.new ≡ S.faults source.old) }
 {
     source.read(&mut buffer[..room])
 }
@@ -38,6 +39,7 @@ fn finish<K: Sink>(player: &mut Player, out: &mut Outbox, sink: &mut K) -> Statu
     ensures told { Finished result player.old player.new (flushed (K.held sink.old)) (flushed (K.held sink.new)) }
     ensures later { K.faults sink.old ≤ K.faults sink.new }
     ensures cause { result ≡ Status.WriteFault → Rose (K.faults sink.old) (K.faults sink.new) }
+    ensures steady { result ≢ Status.WriteFault → K.faults sink.new ≡ K.faults sink.old }
 {
     if player.line.is_empty() {
         return Status::Done;
@@ -69,8 +71,10 @@ pub fn play<S: Source, K: Sink>(
         (K.held sink.old) (K.held sink.new) player.new.server.state }
     ensures read_later { S.faults source.old ≤ S.faults source.new }
     ensures read_cause { result ≡ Status.ReadFault → Rose (S.faults source.old) (S.faults source.new) }
+    ensures read_steady { result ≢ Status.ReadFault → S.faults source.new ≡ S.faults source.old }
     ensures write_later { K.faults sink.old ≤ K.faults sink.new }
     ensures write_cause { result ≡ Status.WriteFault → Rose (K.faults sink.old) (K.faults sink.new) }
+    ensures write_steady { result ≢ Status.WriteFault → K.faults sink.new ≡ K.faults sink.old }
 {
     let mut taken: usize = 0;
     loop {

@@ -1,36 +1,16 @@
 //! The run of the program: from its words to its status.
-ghost use Rattle.std.specs.Prelude.{◌≡◌, ◌≤◌, ◌↔◌, map, string_bytes, None, IsNone, IfOk, IfSome, IsSomeAnd};
+ghost use Rattle.std.specs.Prelude.{◌≡◌, ◌≢◌, ◌≤◌, ◌↔◌, map, string_bytes, None, IsNone, IfSome, IsSomeAnd};
 ghost use Rattle.outside_io.specs.Count.{Rose};
-ghost use Rattle.desk_model.specs.Shapes.{IsShape};
 ghost use Rattle.dope_run.specs.Words.{play_shape};
-ghost use Rattle.dope_run.specs.Playing.{IsPlayer, IsFresh};
 ghost use Rattle.dope_run.specs.Transcript.{Ended, IsRefused, IsPlayed};
 
-use crate::player::Player;
-use crate::playing::{PIECE, play};
+use crate::playing::play;
+use crate::stage::Stage;
 use crate::status::Status;
 use crate::words::play_shape;
-use arrayvec::ArrayVec;
-use outside_io::{Outbox, Sink, Source};
-use server_core::{NoMemory, Server, Shape};
+use outside_io::{Sink, Source};
+use server_core::{NoMemory, Server};
 use std::alloc::Global;
-
-/// A player at the beginning of a script, on a server of this shape. `NoMemory` comes only for want of memory.
-fn open_player(alloc: Global, shape: Shape) -> Result<Player, NoMemory>
-    requires { IsShape shape }
-    ensures player { IfOk result IsPlayer }
-    ensures fresh { IfOk result (IsFresh shape) }
-    ensures shape { IfOk result (λ player. player.server.state.desk.shape ≡ shape) }
-{
-    match Server::new(alloc, shape) {
-        Ok(server) => Ok(Player {
-            server,
-            line: ArrayVec::new(),
-            lines: 0,
-        }),
-        Err(NoMemory) => Err(NoMemory),
-    }
-}
 
 /// Runs the command that the words, without the program's name, stand for: plays the script of the source from
 /// its opening to its end, and writes the transcript to the sink. `kept` holds the server that it opened.
@@ -39,7 +19,9 @@ fn open_player(alloc: Global, shape: Shape) -> Result<Player, NoMemory>
 ///   is anything read or written, and `kept` stays None.
 /// - After every other status the source has given, the sink has gained and the server is left as a run of
 ///   the machine over the script's lines says, which keeps the laws; docs/MACHINE.md, "The run of a script".
-/// - `ReadFault` and `WriteFault` come only where that object's count of faults rose in this call.
+/// - A read begins only where all output is written that the lines whole in earlier reads ask for.
+/// - `ReadFault` and `WriteFault` come only where that object's count of faults rose in this call, and every other
+///   status leaves the count as it was: what failed is not tried again.
 pub fn run<S: Source, K: Sink>(
     alloc: Global,
     words: &[String],
@@ -55,26 +37,26 @@ pub fn run<S: Source, K: Sink>(
         (K.held sink.old) (K.held sink.new) server.state)) }
     ensures read_later { S.faults source.old ≤ S.faults source.new }
     ensures read_cause { result ≡ Status.ReadFault → Rose (S.faults source.old) (S.faults source.new) }
+    ensures read_steady { result ≢ Status.ReadFault → S.faults source.new ≡ S.faults source.old }
     ensures write_later { K.faults sink.old ≤ K.faults sink.new }
     ensures write_cause { result ≡ Status.WriteFault → Rose (K.faults sink.old) (K.faults sink.new) }
+    ensures write_steady { result ≢ Status.WriteFault → K.faults sink.new ≡ K.faults sink.old }
 {
     let shape = match play_shape(words) {
         Some(shape) => shape,
         None => return Status::Usage,
     };
-    let mut player = match open_player(alloc, shape) {
-        Ok(player) => player,
+    let mut stage = match Stage::open(alloc, shape) {
+        Ok(stage) => stage,
         Err(NoMemory) => return Status::NoMemory,
     };
-    let mut buffer = match Vec::from_elem(alloc, 0u8, PIECE) {
-        Ok(buffer) => buffer,
-        Err(_) => return Status::NoMemory,
-    };
-    let mut out = match Outbox::new(alloc) {
-        Ok(out) => out,
-        Err(_) => return Status::NoMemory,
-    };
-    let status = play(&mut player, buffer.as_mut_slice(), source, &mut out, sink);
-    *kept = Some(player.server);
+    let status = play(
+        &mut stage.player,
+        stage.buffer.as_mut_slice(),
+        source,
+        &mut stage.out,
+        sink,
+    );
+    *kept = Some(stage.into_server());
     status
 }

@@ -21,6 +21,3 @@ pub use sink::{Sink, write_all};
 pub use source::Source;
 pub use std_in::StdIn;
 pub use std_out::StdOut;
-
-#[cfg(test)]
-mod tests;

@@ -1,4 +1,4 @@
-ghost use Rattle.std.specs.Prelude.{◌≡◌, ℕ, ◌+◌, ◌-◌, ◌^◌, ◌<◌, ◌≤◌, ◌↔◌, [], ◌++◌, length, min, vec_capacity, Some, is_ok, IsErr, IfOk, OnErr, if◌then◌else◌};
+ghost use Rattle.std.specs.Prelude.{◌≡◌, ℕ, ◌+◌, ◌-◌, ◌^◌, ◌<◌, ◌≤◌, ◌↔◌, [], ◌++◌, length, min, vec_capacity, Some, is_ok, IsErr, IfOk, OnOk, OnErr, if◌then◌else◌};
 ghost use Rattle.std.specs.Io.{WritesAtMost};
 ghost use Rattle.std.specs.Io.KnownBytes.{WriteAppends};
 ghost use Rattle.outside_io.specs.Telling.{TellsAsBefore};
@@ -17,7 +17,7 @@ use std::marker::Model;
 ///
 /// Contracts see the record `SinkInMemory`: the bytes held, the capacity, the list, and how many
 /// calls and faults there were. The rules are in `docs/MACHINE.md`.
-#[derive(Debug, Drop)]
+#[derive(Debug)]
 pub struct MemSink {
     bytes: Vec<u8>,
     capacity: usize,
@@ -41,6 +41,18 @@ impl Model for MemSink {
     } };
 
     ghost invariant = { λ s. record { held : length s.bytes.items ≤ s.capacity; reserved : s.capacity ≤ vec_capacity s.bytes } };
+}
+
+impl Drop for MemSink {
+    fn drop(self) {
+        let MemSink {
+            bytes: _,
+            capacity: _,
+            fail_at: _,
+            calls: _,
+            faults: _,
+        } = self;
+    }
 }
 
 impl MemSink {
@@ -87,6 +99,7 @@ impl Sink for MemSink {
         ensures tells { TellsAsBefore (Some self.old.held) (Some self.new.held) }
         ensures later { self.old.faults ≤ self.new.faults }
         ensures cause { OnErr result (Rose self.old.faults self.new.faults) }
+        ensures steady { OnOk result (self.new.faults ≡ self.old.faults) }
 
         ensures fails { IsErr result ↔ WriteFails self.old (length bytes.now) }
         ensures count { IfOk result (λ n. n ≡ length bytes.now) }

@@ -1,4 +1,4 @@
-ghost use Rattle.std.specs.Prelude.{◌≡◌, ℕ, ◌+◌, ◌-◌, ◌^◌, ◌<◌, ◌≤◌, ◌↔◌, [], ◌++◌, length, take, drop, min, Some, is_ok, IsErr, IfOk, OnErr, if◌then◌else◌};
+ghost use Rattle.std.specs.Prelude.{◌≡◌, ℕ, ◌+◌, ◌-◌, ◌^◌, ◌<◌, ◌≤◌, ◌↔◌, [], ◌++◌, length, take, drop, min, Some, is_ok, IsErr, IfOk, OnOk, OnErr, if◌then◌else◌};
 ghost use Rattle.std.specs.Io.{ReadsAtMost};
 ghost use Rattle.std.specs.Io.KnownBytes.{ReadConsumes};
 ghost use Rattle.outside_io.specs.Telling.{TellsAsBefore};
@@ -14,7 +14,7 @@ use std::marker::Model;
 ///
 /// Contracts see the record `SourceInMemory`: the bytes left, the step, the list, and how many
 /// calls and faults there were. The rules are in `docs/MACHINE.md`.
-#[derive(Debug, Drop)]
+#[derive(Debug)]
 pub struct MemSource {
     bytes: Vec<u8>,
     taken: usize,
@@ -39,6 +39,19 @@ impl Model for MemSource {
     } };
 
     ghost invariant = { λ s. record { step : 1 ≤ s.step; taken : s.taken ≤ length s.bytes.items } };
+}
+
+impl Drop for MemSource {
+    fn drop(self) {
+        let MemSource {
+            bytes: _,
+            taken: _,
+            step: _,
+            fail_at: _,
+            calls: _,
+            faults: _,
+        } = self;
+    }
 }
 
 impl MemSource {
@@ -83,6 +96,7 @@ impl Source for MemSource {
         ensures tells { TellsAsBefore (Some self.old.left) (Some self.new.left) }
         ensures later { self.old.faults ≤ self.new.faults }
         ensures cause { OnErr result (Rose self.old.faults self.new.faults) }
+        ensures steady { OnOk result (self.new.faults ≡ self.old.faults) }
 
         ensures fails { IsErr result ↔ ReadFails self.old }
         ensures count { IfOk result (λ n. n ≡ given self.old (length buf.old)) }

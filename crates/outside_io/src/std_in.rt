@@ -1,4 +1,4 @@
-ghost use Rattle.std.specs.Prelude.{◌≡◌, ℕ, ◌≤◌, None, is_ok, OnErr, IfOk, length, if◌then◌else◌};
+ghost use Rattle.std.specs.Prelude.{◌≡◌, ℕ, ◌≤◌, None, is_ok, OnOk, OnErr, IfOk, length, if◌then◌else◌};
 ghost use Rattle.std.specs.Io.{ReadsAtMost};
 ghost use Rattle.std.specs.Io.KnownBytes.{ReadConsumes};
 ghost use Rattle.outside_io.specs.Telling.{TellsAsBefore};
@@ -44,6 +44,7 @@ impl<R: Read + Drop> Source for StdIn<R> {
         ensures tells { TellsAsBefore None None }
         ensures later { faults_of_reader self.old ≤ faults_of_reader self.new }
         ensures cause { OnErr result (Rose (faults_of_reader self.old) (faults_of_reader self.new)) }
+        ensures steady { OnOk result (faults_of_reader self.new ≡ faults_of_reader self.old) }
         ensures faults { faults_of_reader self.new ≡ (if is_ok result then faults_of_reader self.old else one_more (faults_of_reader self.old)) }
         ensures handed_on { ReadConsumes (R.remaining (reader_of self.old)) (R.remaining (reader_of self.new)) result buf.new }
     {

@@ -1,4 +1,4 @@
-ghost use Rattle.std.specs.Prelude.{◌≡◌, ℕ, ◌<◌, ◌≤◌, None, is_ok, OnErr, IfOk, length, take, if◌then◌else◌};
+ghost use Rattle.std.specs.Prelude.{◌≡◌, ℕ, ◌<◌, ◌≤◌, None, is_ok, OnOk, OnErr, IfOk, length, take, if◌then◌else◌};
 ghost use Rattle.std.specs.Io.{WritesAtMost};
 ghost use Rattle.std.specs.Io.KnownBytes.{Appends, WriteAppends};
 ghost use Rattle.outside_io.specs.Telling.{TellsAsBefore};
@@ -46,6 +46,7 @@ impl<W: Write + Drop> Sink for StdOut<W> {
         ensures tells { TellsAsBefore None None }
         ensures later { faults_of_writer self.old ≤ faults_of_writer self.new }
         ensures cause { OnErr result (Rose (faults_of_writer self.old) (faults_of_writer self.new)) }
+        ensures steady { OnOk result (faults_of_writer self.new ≡ faults_of_writer self.old) }
         ensures faults { faults_of_writer self.new ≡ (if is_ok result then faults_of_writer self.old else one_more (faults_of_writer self.old)) }
         ensures handed_on { IfOk result (λ n. Appends (W.contents (writer_of self.old)) (W.contents (writer_of self.new)) (take n bytes.now)) }
     {

@@ -24,5 +24,5 @@ loop-i-preserved g c = record {
   told = obeyed_same Done _ _ _ _ _ _ (replicate_more c.loop-i.i Tick)
       (obeyed_after Done _ _ _ _ _ _ _ _ c.loop-i.invariant.told c.in-Ok.ensures.told);
   valid = search rules;
-  later = search rules;
+  steady = search rules;
 }

@@ -1,4 +1,4 @@
-use Rattle.std.proofs.Common.{◌≤◌, replicate}
+use Rattle.std.proofs.Common.{◌≡◌, replicate}
 use Rattle.outside_io.specs.Outbox.{output}
 use Rattle.desk_model.specs.State.{IsState}
 use Rattle.desk_model.specs.Events.Event.{Tick}
@@ -10,5 +10,5 @@ abbrev pub invariant-loop-i : goal.invariant-loop-i
 invariant-loop-i g l = record {
   told : Obeyed Done (replicate l.i Tick) l.initial.server.state l.server.state (output (g.K.Sink.held l.initial.sink) l.initial.out) (output (g.K.Sink.held l.sink) l.out);
   valid : IsState l.server.state;
-  later : g.K.Sink.faults l.initial.sink ≤ g.K.Sink.faults l.sink;
+  steady : g.K.Sink.faults l.sink ≡ g.K.Sink.faults l.initial.sink;
 }

@@ -24,6 +24,9 @@ room_before taken least room count is isn few before given = omega arith
 room_behind : (taken least room count : ℕ) → least ≡ min 4096 (67108864 - taken) → room ≡ max least 1 → taken ≡ 67108864 → count ≢ 0 → count ≤ room → count ≡ 1
 room_behind taken least room count is isn at some given = omega arith
 
+one_read : (count taken least room : ℕ) (buffer : List ℕ) → length (take count buffer) ≡ count → least ≡ min 4096 (67108864 - taken) → room ≡ max least 1 → count ≤ room → length (take count buffer) ≤ 4096
+one_read count taken least room buffer size is isn given = omega (arith, size, room_left taken least room is isn)
+
 pub loop-count-init : goal.loop-count-init
 loop-count-init g c = record {
   going = going_nowhere _ _ _;
@@ -32,8 +35,8 @@ loop-count-init g c = record {
   few = lit≤ tt;
   buffer = c.requires.piece;
   written = c.requires.written;
-  read_later = search rules;
-  write_later = search rules;
+  read_steady = search rules;
+  write_steady = search rules;
 }
 
 pub returns-in-Err-clause-ended : goal.returns-in-Err-clause-ended
@@ -57,7 +60,8 @@ returns-in-Err-take-clause-ended g c =
     let size = read_size c.in-Ok.count c.max-room.result c.read_front.new.buffer c.in-Ok.ensures.bound (room_left c.loop-count.taken _ _ c.min.ensures c.max-room.ensures) (buffer_size _ _ c.read_front.auto.buffer c.loop-count.invariant.buffer) in
     let few : c.loop-count.taken + length (take c.in-Ok.count c.read_front.new.buffer) ≤ 67108864 =
     subst (λ n. c.loop-count.taken + n ≤ 67108864) (sym size) (room_before c.loop-count.taken _ _ c.in-Ok.count c.min.ensures c.max-room.ensures c.loop-count.invariant.few c.if-taken-eq-SCRIPT_LIMIT.false c.in-Ok.ensures.bound) in
-    rw c.status.ensures (ended_cut _ c.in-Err-take.cut c.args.player.now c.loop-count.player c.take.new.self c.loop-count.taken (take c.in-Ok.count c.read_front.new.buffer) _ _ _ _ _ _ c.requires.fresh c.loop-count.invariant.going c.in-Ok.ensures.consumes c.in-Err-take.ensures.told few)
+    let one : length (take c.in-Ok.count c.read_front.new.buffer) ≤ 4096 = one_read c.in-Ok.count c.loop-count.taken _ _ c.read_front.new.buffer size c.min.ensures c.max-room.ensures c.in-Ok.ensures.bound in
+    rw c.status.ensures (ended_cut _ c.in-Err-take.cut c.args.player.now c.loop-count.player c.take.new.self c.loop-count.taken (take c.in-Ok.count c.read_front.new.buffer) _ _ _ _ _ _ c.requires.fresh c.loop-count.invariant.player c.loop-count.invariant.going c.in-Ok.ensures.consumes c.in-Err-take.ensures.told one few)
 
 pub loop-count-preserved : goal.loop-count-preserved
 loop-count-preserved g c =
@@ -69,6 +73,6 @@ loop-count-preserved g c =
       few = room_before c.loop-count.taken _ _ c.in-Ok.count c.min.ensures c.max-room.ensures c.loop-count.invariant.few c.if-taken-eq-SCRIPT_LIMIT.false c.in-Ok.ensures.bound;
       buffer = buffer_size _ _ c.read_front.auto.buffer c.loop-count.invariant.buffer;
       written = c.in-Ok-take.ensures.still_written;
-      read_later = search rules;
-      write_later = search rules;
+      read_steady = search rules;
+      write_steady = search rules;
     }

@@ -10,8 +10,8 @@ invariant-loop-count g l = record {
   few : l.taken ≤ 67108864;
   buffer : length l.buffer ≡ 4096;
   written : l.out ≡ [];
-  read_later : g.S.Source.faults l.initial.source ≤ g.S.Source.faults l.source;
-  write_later : g.K.Sink.faults l.initial.sink ≤ g.K.Sink.faults l.sink;
+  read_steady : g.S.Source.faults l.source ≡ g.S.Source.faults l.initial.source;
+  write_steady : g.K.Sink.faults l.sink ≡ g.K.Sink.faults l.initial.sink;
 }
 
 abbrev pub decreases-loop-count : goal.decreases-loop-count

@@ -15,5 +15,6 @@ loop-written-preserved g c =
       within = search rules;
       appended = subst (Appends _ _) one (Appends-append _ _ _ _ _ c.loop-written.invariant.appended c.in-Ok.ensures.bytes);
       tells = search rules;
-      later = search rules;
+      steady = search rules;
+      unasked = search rules;
     }

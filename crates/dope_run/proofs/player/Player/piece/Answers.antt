@@ -6,7 +6,7 @@ use Rattle.dope_run.proofs.Feedings.{fed_none, fed_next, fed_cut_in}
 use Rattle.dope_run.proofs.player.Player.piece.Goals as goal
 
 pub loop-taken-init : goal.loop-taken-init
-loop-taken-init g c = record { told = fed_none _ _; within = omega arith; player = c.requires.player; lines = omega arith; later = search rules }
+loop-taken-init g c = record { told = fed_none _ _; within = omega arith; player = c.requires.player; lines = omega arith; steady = search rules }
 
 pub returns-in-Err-clause-told : goal.returns-in-Err-clause-told
 returns-in-Err-clause-told g c =
@@ -20,5 +20,5 @@ loop-taken-preserved g c =
       within = omega (arith, length-drop c.loop-taken.taken c.args.bytes.now);
       player = search rules;
       lines = (let more : c.front.new.self.lines ≤ c.loop-taken.self.lines + c.in-Ok.count = c.in-Ok.ensures.lines in omega (arith, c.loop-taken.invariant.lines));
-      later = search rules;
+      steady = search rules;
     }

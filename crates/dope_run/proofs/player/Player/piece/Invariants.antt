@@ -1,4 +1,4 @@
-use Rattle.std.proofs.Common.{◌≤◌, ◌+◌, ◌-◌, length, take}
+use Rattle.std.proofs.Common.{◌≡◌, ◌≤◌, ◌+◌, ◌-◌, length, take}
 use Rattle.outside_io.specs.Outbox.{output}
 use Rattle.dope_run.specs.declared.status.Status.TheVariants.{Done}
 use Rattle.dope_run.specs.Playing.{IsPlayer, Fed}
@@ -10,7 +10,7 @@ invariant-loop-taken g l = record {
   within : l.taken ≤ length l.bytes;
   player : IsPlayer l.self;
   lines : l.self.lines ≤ l.initial.self.lines + l.taken;
-  later : g.K.Sink.faults l.initial.sink ≤ g.K.Sink.faults l.sink;
+  steady : g.K.Sink.faults l.sink ≡ g.K.Sink.faults l.initial.sink;
 }
 
 abbrev pub decreases-loop-taken : goal.decreases-loop-taken

@@ -1,6 +1,6 @@
 use Rattle.std.proofs.Common.{refl}
 use Rattle.dope_run.proofs.Endings.{player_opened, player_fresh, shape_opened}
-use Rattle.dope_run.proofs.running.open_player.Goals as goal
+use Rattle.dope_run.proofs.stage.open_player.Goals as goal
 
 pub returns-in-Ok : goal.returns-in-Ok
 returns-in-Ok c = record {
