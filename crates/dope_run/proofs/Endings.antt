@@ -10,6 +10,7 @@ use Rattle.desk_model.specs.State.{State, IsState, opening}
 use Rattle.desk_model.specs.Run.{Moment, state_after}
 use Rattle.desk_model.proofs.Runs.{IsState-run, KeepsLaws-run}
 use Rattle.desk_model.proofs.Progress.{some_run}
+use Rattle.dope_run.proofs.Coming.{events-come}
 use Rattle.dope_run.specs.declared.cut.Cut.{Cut}
 use Rattle.dope_run.specs.declared.cut.Cut.TheVariants.{Unread, Unwritten}
 use Rattle.dope_run.specs.Cutting.{status_of}
@@ -158,7 +159,7 @@ ended_unwritten shape start between player count bytes s0 s1 s2 k0 k1 k2 fresh v
     let all = going.taken ++ bytes in
     let played = plays_from shape WriteFault start player all (flushed k0) (flushed k2) fresh fed in
     let behind = lines_of fed.rest in
-    let more = some_run (state_after (opening shape) fed.moments) behind.events (IsState-run (opening shape) fed.moments fresh.valid played.run) in
+    let more = some_run (state_after (opening shape) fed.moments) behind.events (events-come behind.items behind.events behind.script) (IsState-run (opening shape) fed.moments fresh.valid played.run) in
     let further : Plays (state_after (opening shape) fed.moments) behind.items more.0 = record { whole = behind.whole; script = behind.script ∙ ap Some (sym more.1); run = more.2 } in
     let parts = ap (λ ms. ms ++ more.0) first ∙ append_assoc going.fed.moments cut.moments more.0 in
     let broken : PutsFront (flushed k1) (flushed k2) (text_of (cut.moments ++ more.0)) =

@@ -8,3 +8,4 @@ pub mod Framings
 pub mod Endings
 pub mod Readings
 pub mod Refusals
+pub mod Coming

@@ -1,11 +1,12 @@
 -- Events carried out one after another.
 use Rattle.std.proofs.Common.{◌≡◌, ℕ, Result, Ok, Err, OnOk, OnErr, MatchResult, List, [], ◌∷◌, ◌++◌, refl, sym, ap, subst, ◌∙◌, lit≤, append-nil}
+use Rattle.std.specs.List.{All}
 use Rattle.std.proofs.lemmas.List.{map-append}
 use Rattle.outside_io.specs.Outbox.{Output, Puts, PutsFront}
 use Rattle.outside_io.proofs.Gathered.{PutsFront-longer}
 use Rattle.desk_model.specs.State.{State, IsState}
 use Rattle.desk_model.specs.Events.{Event, Answer}
-use Rattle.desk_model.specs.Step.{Step}
+use Rattle.desk_model.specs.Step.{Step, CanCome}
 use Rattle.desk_model.specs.Run.{Run, events_of, state_after}
 use Rattle.desk_model.proofs.Runs.{Run-append, Run-one, IsState-run}
 use Rattle.desk_model.proofs.Progress.{some_run}
@@ -50,9 +51,9 @@ obeyed_after status first second old between new before middle after a b = recor
 }
 
 -- events that the machine would have answered if the writing had not broken off
-pub obeyed_more : (events more : List Event) (old new : State) (before after : Output) → IsState old → Obeyed WriteFault events old new before after → Obeyed WriteFault (events ++ more) old new before after
-obeyed_more events more old new before after valid a =
-    let rest = some_run (state_after old a.moments) more (IsState-run old a.moments valid a.run) in
+pub obeyed_more : (events more : List Event) (old new : State) (before after : Output) → All CanCome more → IsState old → Obeyed WriteFault events old new before after → Obeyed WriteFault (events ++ more) old new before after
+obeyed_more events more old new before after can valid a =
+    let rest = some_run (state_after old a.moments) more can (IsState-run old a.moments valid a.run) in
     record {
       moments = a.moments ++ rest.0;
       answers = map-append _ a.moments rest.0 ∙ ap (λ es. es ++ events_of rest.0) a.answers ∙ ap (λ es. events ++ es) rest.1;

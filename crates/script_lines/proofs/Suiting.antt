@@ -17,7 +17,7 @@ use Rattle.script_lines.specs.Lines.{is_silent, word_order, tick_order, pixel_or
 use Rattle.script_lines.specs.Suits.{IsClient, Suits}
 
 -- what is known of an answer holds of what it is made into
-IfSome-then : {A B : Type 0} (P : A → Type 0) (Q : B → Type 0) (first : Option A) (next : A → Option B) → IfSome first P → ((x : A) → P x → IfSome (next x) Q) → IfSome (first >>= next) Q
+pub IfSome-then : {A B : Type 0} (P : A → Type 0) (Q : B → Type 0) (first : Option A) (next : A → Option B) → IfSome first P → ((x : A) → P x → IfSome (next x) Q) → IfSome (first >>= next) Q
 IfSome-then P Q None next known more = tt
 IfSome-then P Q (Some x) next known more = more x known
 

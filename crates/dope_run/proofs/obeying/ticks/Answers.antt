@@ -1,6 +1,8 @@
 -- One tick more; and where the writing broke off, the ticks that would have come.
 use Rattle.std.proofs.Common.{◌≡◌, ℕ, ◌+◌, ◌-◌, ◌<◌, [], ◌∷◌, ◌++◌, replicate, ap, ◌∙◌, arith, rules}
 use Rattle.std.proofs.lemmas.List.{replicate_more, replicate-append-replicate}
+use Rattle.std.proofs.lemmas.List.Elements.{All-replicate}
+use Rattle.desk_model.specs.Step.{CanCome}
 use Rattle.desk_model.specs.Events.Event.{Tick}
 use Rattle.dope_run.specs.declared.status.Status.TheVariants.{Done, WriteFault}
 use Rattle.dope_run.proofs.Obeyings.{obeyed_after, obeyed_more, obeyed_same}
@@ -16,7 +18,7 @@ pub returns-in-Err-clause-told : goal.returns-in-Err-clause-told
 returns-in-Err-clause-told g c =
     let below : c.loop-i.i < c.args.count = omega arith in
     obeyed_same WriteFault _ _ _ _ _ _ (all_ticks c.loop-i.i c.args.count below)
-    (obeyed_more _ _ _ _ _ _ c.requires.valid
+    (obeyed_more _ _ _ _ _ _ (All-replicate CanCome (c.args.count - (c.loop-i.i + 1)) Tick tt) c.requires.valid
     (obeyed_after WriteFault _ _ _ _ _ _ _ _ c.loop-i.invariant.told c.in-Err.ensures.told))
 
 pub loop-i-preserved : goal.loop-i-preserved
