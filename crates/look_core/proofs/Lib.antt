@@ -1,0 +1,4 @@
+pub mod FontLemmas
+pub mod StrokeLemmas
+pub mod LetterLemmas
+pub mod KnobLemmas
