@@ -1,4 +1,4 @@
--- Spans: pixels side by side in one row of a widget.
+-- Inner words of the proofs: spans, pixels side by side in one row of a widget.
 use Rattle.std.specs.Prelude.{◌≡◌, ℕ, ◌+◌, ◌<◌, ◌≤◌, Bool, List, length, slice_index, if◌then◌else◌}
 use Rattle.look_core.specs.declared.scanline.Scanline.{Scanline}
 
