@@ -1,4 +1,4 @@
-ghost use Rattle.std.specs.Prelude.{◌≡◌, if◌then◌else◌, ◌+◌, ◌<◌, ◌≤◌, ◌&&◌, ◌||◌, ◌==◌, nat_le, nat_lt, ◌^◌, length, slice_index, EachIndex};
+ghost use Rattle.std.specs.Prelude.{◌≡◌, if◌then◌else◌, ◌+◌, ◌<◌, ◌≤◌, ◌&&◌, ◌||◌, ◌==◌, nat_le, nat_lt, length, slice_index, EachIndex};
 ghost use Rattle.look_core.specs.Span.{Lays};
 ghost use Rattle.look_core.specs.Cases.{is_side};
 
@@ -34,10 +34,11 @@ fn lay_part(out: &mut [u8], start: usize, end: usize, colour: u8)
 
 /// Gives the one column, where it is in the span, the colour.
 pub fn lay_column(out: &mut [u8], from: u32, column: u32, colour: u8)
-    requires { column < 2 ^ 31 }
     ensures { Lays (λ u. u == column) colour from out.old out.new }
 {
-    lay_columns(out, from, column, column + 1, colour);
+    if from <= column && ((column - from) as usize) < out.len() {
+        out[(column - from) as usize] = colour;
+    }
 }
 
 /// Gives the first and the last column of a widget of width `w` the colour.
