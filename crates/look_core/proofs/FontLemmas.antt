@@ -5,7 +5,7 @@ use Rattle.look_core.specs.declared.font.TheConstants.{FONT, BLANK}
 use Rattle.look_core.specs.Font.{columns_of}
 
 -- both parts of a test that holds
-parts : (a b : Bool) → (a && b) ≡ true → (a ≡ true) × (b ≡ true)
+pub parts : (a b : Bool) → (a && b) ≡ true → (a ≡ true) × (b ≡ true)
 parts true b both = (refl, both)
 parts false b both = absurd (cc)
 

@@ -6,3 +6,5 @@ pub mod Seen
 pub mod Drawable
 pub mod Colour
 pub mod Span
+pub mod Same
+pub mod Laws

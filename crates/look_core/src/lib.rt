@@ -7,6 +7,7 @@ mod boxes;
 mod films;
 mod font;
 mod knob;
+pub mod laws;
 mod lettering;
 mod look;
 mod palette;
