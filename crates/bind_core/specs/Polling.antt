@@ -1,6 +1,5 @@
 -- A client that polls is told first of events that were lost, then of the oldest kept one.
-use Rattle.std.specs.Prelude.{ℕ, Bool, nat_lt, List, [], ◌∷◌, drop, if◌then◌else◌}
-use Rattle.bind_core.specs.declared.posted.Posted.{Posted}
+use Rattle.std.specs.Prelude.{Bool, nat_lt, List, [], ◌∷◌, drop, if◌then◌else◌}
 use Rattle.bind_core.specs.declared.polled.Polled.{Polled}
 use Rattle.bind_core.specs.declared.polled.Polled.TheVariants.{Lost, One, Empty}
 use Rattle.bind_core.specs.Ring.{Event, RingState}
@@ -9,10 +8,14 @@ use Rattle.bind_core.specs.Ring.{Event, RingState}
 abbrev pub has_lost : RingState → Bool
 has_lost ring = nat_lt 0 ring.lost
 
--- the answer with the oldest of the kept events
+-- the answer with this event
+abbrev pub one_of : Event → Polled
+one_of (tag, event, a, b) = One (record { tag = tag; event = event; a = a; b = b })
+
+-- the answer with the oldest of the kept events, where there is one
 abbrev pub oldest : List Event → Polled
 oldest [] = Empty
-oldest ((tag, event, a, b) ∷ _) = One (record { tag = tag; event = event; a = a; b = b })
+oldest (event ∷ _) = one_of event
 
 -- the number lost where it is above 0, else the oldest kept event, where there is one
 unfoldable pub poll_answer : RingState → Polled

@@ -1,6 +1,6 @@
 -- An event that is posted is kept as the latest. Where the ring is full the oldest is dropped for it, and the number
 -- lost rises by one, unless it is at its most.
-use Rattle.std.specs.Prelude.{ℕ, ◌+◌, Bool, nat_lt, min, List, [], ◌∷◌, ◌++◌, length, drop, if◌then◌else◌}
+use Rattle.std.specs.Prelude.{◌+◌, Bool, nat_lt, min, List, [], ◌∷◌, ◌++◌, length, drop, if◌then◌else◌}
 use Rattle.bind_core.specs.Ring.{Event, RingState, most_kept, most_lost}
 
 -- whether one more event has room beside those that are kept

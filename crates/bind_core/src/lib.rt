@@ -1,6 +1,7 @@
 //! The events that a client has not polled yet: the latest ones are kept, and those that found no room are counted.
 #![tactic(auto)]
 
+pub mod laws;
 mod no_memory;
 mod polled;
 mod posted;
