@@ -12,7 +12,7 @@ pub const DESK_COLOUR: u8 = 2;
 ///
 /// Contracts see the record `Screen`: the width, the height, the list of bytes, and `writes`, the
 /// number of bytes written since the last `start_count`. The rules are in `docs/MACHINE.md`.
-#[derive(Debug, Drop)]
+#[derive(Debug)]
 pub struct Canvas {
     width: u32,
     height: u32,
@@ -38,6 +38,12 @@ impl Model for Canvas {
       bytes = c.bytes.items;
       writes = c.writes;
     }) };
+}
+
+impl Drop for Canvas {
+    fn drop(self) {
+        let Canvas { width: _, height: _, bytes: _, writes: _ } = self;
+    }
 }
 
 impl Canvas {

@@ -6,6 +6,3 @@ mod no_memory;
 
 pub use canvas::{Canvas, DESK_COLOUR};
 pub use no_memory::NoMemory;
-
-#[cfg(test)]
-mod tests;
