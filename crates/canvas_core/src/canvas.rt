@@ -1,5 +1,7 @@
-ghost use Rattle.std.specs.Prelude.{◌≡◌, ℕ, ◌+◌, ◌-◌, ◌*◌, ◌^◌, ◌<◌, ◌≤◌, length, replicate, slice_index, if◌then◌else◌, vec_len, IfOk};
-ghost use Rattle.canvas_core.specs.Screen.{IsScreen, desk_colour, in_span, pixel_of, place, with_span};
+ghost use Rattle.std.specs.Prelude.{◌≡◌, ℕ, ◌+◌, ◌-◌, ◌*◌, ◌^◌, ◌<◌, ◌≤◌, length, take, drop, replicate, slice_index, if◌then◌else◌, IfOk};
+ghost use Rattle.std.specs.Borrow.{sem};
+ghost use Rattle.canvas_core.specs.Screen.{IsScreen, counted, desk_colour, in_span, pixel_of, place, spans_of, with_span};
+ghost use Rattle.canvas_core.specs.Lending.{LendsRow};
 
 use crate::no_memory::NoMemory;
 use std::alloc::Global;
@@ -10,14 +12,16 @@ pub const DESK_COLOUR: u8 = 2;
 
 /// A screen of `width * height` pixels, one byte each, row after row from the top.
 ///
-/// Contracts see the record `Screen`: the width, the height, the list of bytes, and `writes`, the
-/// number of bytes written since the last `start_count`. The rules are in `docs/MACHINE.md`.
+/// Contracts see the record `Screen`: the width, the height, the list of bytes, and of the time since the
+/// last `start_count` the number of bytes written and the number of spans. The rules are in
+/// `docs/MACHINE.md`.
 #[derive(Debug)]
 pub struct Canvas {
     width: u32,
     height: u32,
     bytes: Vec<u8>,
     writes: u32,
+    spans: u32,
 }
 
 impl Model for Canvas {
@@ -30,6 +34,7 @@ impl Model for Canvas {
       height = c.height;
       bytes = c.bytes.items;
       writes = c.writes;
+      spans = c.spans;
     } };
 
     ghost invariant = { λ c. IsScreen (record {
@@ -37,17 +42,24 @@ impl Model for Canvas {
       height = c.height;
       bytes = c.bytes.items;
       writes = c.writes;
+      spans = c.spans;
     }) };
 }
 
 impl Drop for Canvas {
     fn drop(self) {
-        let Canvas { width: _, height: _, bytes: _, writes: _ } = self;
+        let Canvas {
+            width: _,
+            height: _,
+            bytes: _,
+            writes: _,
+            spans: _,
+        } = self;
     }
 }
 
 impl Canvas {
-    /// A canvas of `width` by `height` pixels, each in the desk's colour, with the count at 0.
+    /// A canvas of `width` by `height` pixels, each in the desk's colour, with both counts at 0.
     /// `NoMemory` comes only for want of memory. `docs/MACHINE.md` has the limits of a screen.
     pub fn new(alloc: Global, width: u32, height: u32) -> Result<Canvas, NoMemory>
         requires least_width { 16 ≤ width }
@@ -58,6 +70,7 @@ impl Canvas {
         ensures height { IfOk result (λ c. c.height ≡ height) }
         ensures bytes { IfOk result (λ c. c.bytes ≡ replicate (width * height) desk_colour) }
         ensures writes { IfOk result (λ c. c.writes ≡ 0) }
+        ensures spans { IfOk result (λ c. c.spans ≡ 0) }
         ensures valid { IfOk result (λ c. IsScreen c) }
     {
         match Vec::from_elem(alloc, DESK_COLOUR, width as usize * height as usize) {
@@ -66,6 +79,7 @@ impl Canvas {
                 height,
                 bytes,
                 writes: 0,
+                spans: 0,
             }),
             Err(_) => Err(NoMemory),
         }
@@ -87,19 +101,49 @@ impl Canvas {
         self.height
     }
 
-    /// Begins to count writes anew, from 0. No pixel changes.
+    /// Begins to count writes and spans anew, from 0. No pixel changes.
     pub fn start_count(&mut self)
         ensures writes { self.new.writes ≡ 0 }
+        ensures spans { self.new.spans ≡ 0 }
         ensures bytes { self.new.bytes ≡ self.old.bytes }
         ensures width { self.new.width ≡ self.old.width }
         ensures height { self.new.height ≡ self.old.height }
         ensures valid { IsScreen self.new }
     {
         self.writes = 0;
+        self.spans = 0;
+    }
+
+    // Counts a span of so many bytes, which are to be written.
+    fn count(&mut self, len: u32)
+        requires count_fits { self.old.writes + len < 2 ^ 32 }
+        ensures screen { self.new ≡ counted self.old len }
+    {
+        self.writes += len;
+        self.spans += len.min(1);
+    }
+
+    /// Lends the `len` pixels of row `y` from column `x` on (both from 0) for writing, without a copy, and
+    /// adds their number to the count of writes, and one to that of spans where there is at least one. They are
+    /// as they were, until they are written. The span has to be on the screen, and the count has to fit.
+    pub fn row_for(&mut self, x: u32, y: u32, len: u32) -> &mut [u8]
+        requires on_row { x + len ≤ self.old.width }
+        requires on_screen { y < self.old.height }
+        requires count_fits { self.old.writes + len < 2 ^ 32 }
+        ensures* lends { sem 𝓛 (LendsRow self.entry (place self.old x y) len result) }
+        ensures len { length result.now ≡ len }
+        ensures bytes { result.now ≡ take len (drop (place self.old x y) self.old.bytes) }
+        ensures valid { IsScreen self.old }
+    {
+        let at = y as usize * self.width as usize + x as usize;
+        let end = at + len as usize;
+        self.count(len);
+        self.bytes.slice_mut(at..end)
     }
 
     /// Writes `bytes` over the pixels of row `y` from column `x` on (both from 0), and adds their
-    /// number to the count of writes. The span has to be on the screen, and the count has to fit.
+    /// number to the count of writes, and one to that of spans where there is at least one. The span
+    /// has to be on the screen, and the count has to fit.
     pub fn put_row(&mut self, x: u32, y: u32, bytes: &[u8])
         requires on_row { x + length bytes.now ≤ self.old.width }
         requires on_screen { y < self.old.height }
@@ -110,13 +154,13 @@ impl Canvas {
             then slice_index bytes.now (k - place self.old x y)
             else slice_index self.old.bytes k) }
         ensures writes { self.new.writes ≡ self.old.writes + length bytes.now }
+        ensures spans { self.new.spans ≡ self.old.spans + spans_of (length bytes.now) }
         ensures width { self.new.width ≡ self.old.width }
         ensures height { self.new.height ≡ self.old.height }
         ensures valid { IsScreen self.new }
     {
-        let at = y as usize * self.width as usize + x as usize;
-        put_span(&mut self.bytes, at, bytes);
-        self.writes += bytes.len() as u32;
+        self.row_for(x, y, bytes.len() as u32)
+            .copy_from_slice(bytes);
     }
 
     /// The byte of the pixel in column `x` of row `y`, both from 0.
@@ -144,14 +188,14 @@ impl Canvas {
     {
         self.writes
     }
-}
 
-// Copies `row` over the bytes from the place `at` on.
-fn put_span(bytes: &mut Vec<u8>, at: usize, row: &[u8])
-    requires { at + length row.now ≤ vec_len bytes.old }
-    ensures bytes { bytes.new.items ≡ with_span bytes.old.items at row.now }
-    ensures within { at + length row.now ≤ length bytes.old.items }
-{
-    let end = at + row.len();
-    bytes.slice_mut(at..end).copy_from_slice(row);
+    /// The number of spans since the last `start_count`, or since the canvas was made: of calls of `row_for` and
+    /// `put_row` on at least one pixel. It is at most the number of bytes written.
+    pub fn spans(&self) -> u32
+        ensures spans { result ≡ self.now.spans }
+        ensures within { result ≤ self.now.writes }
+        ensures valid { IsScreen self.now }
+    {
+        self.spans
+    }
 }

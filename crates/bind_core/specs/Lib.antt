@@ -1,0 +1,5 @@
+pub mod Ring
+pub mod Posting
+pub mod Polling
+pub mod Runs
+pub mod Laws
