@@ -1,6 +1,6 @@
 -- Each call of the desk gives the step of its event, with that step's ending.
-use Rattle.std.proofs.Common.{◌≡◌, ℕ, Bool, true, false, not, nat_eq, is_some, is_none, List, [], ◌∷◌, Option, Some, None, refl, sym, ap, ◌∙◌, subst}
-use Rattle.std.proofs.lemmas.Bool.{true≢false, false≢true}
+use Rattle.std.proofs.Common.{◌≡◌, ℕ, Bool, true, false, is_some, Option, Some, None, refl, sym, ap, ◌∙◌}
+use Rattle.std.proofs.lemmas.Bool.{false≢true}
 use Rattle.std.specs.Prelude.{IfSome, pos}
 use Rattle.std.specs.Option.{option_map}
 use Rattle.cmd_words.specs.declared.commands.Command.{Command}
@@ -9,9 +9,8 @@ use Rattle.cmd_words.specs.declared.replies.Reply.TheVariants.{Done, Number, Ref
 use Rattle.cmd_words.specs.declared.replies.Refusal.{Refusal}
 use Rattle.cmd_words.specs.declared.replies.Refusal.TheVariants.{Memory, Full, NotConnected, Connected}
 use Rattle.desk_model.specs.Desk.{Desk, is_connected}
-use Rattle.desk_model.specs.Refusing.{when, first_refusal, outcome}
 use Rattle.desk_model.specs.Ending.{let_go, event_end}
-use Rattle.desk_model.specs.Clients.{step_connect, step_hello, step_bye, with_client, without_client, free_client, hello_effect}
+use Rattle.desk_model.specs.Clients.{step_connect, step_hello, step_bye, with_client, without_client, free_client}
 use Rattle.desk_model.specs.Commands.{row_of, is_built, asked, step}
 
 -- a client comes: nothing is let go that wasn't

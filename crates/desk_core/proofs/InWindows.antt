@@ -1,13 +1,12 @@
 -- Whether a widget is in an open window: by number as by name.
-use Rattle.std.proofs.Common.{◌≡◌, ℕ, zero, suc, Bool, true, false, ◌&&◌, ◌||◌, nat_eq, List, [], ◌∷◌, Option, Some, None, IsSome, refl, sym, ap, ◌∙◌, subst}
+use Rattle.std.proofs.Common.{◌≡◌, ℕ, zero, suc, Bool, true, false, ◌||◌, nat_eq, List, [], ◌∷◌, Option, Some, None, IsSome, refl, sym, ap, ◌∙◌}
 use Rattle.std.proofs.lemmas.Bool.{true≢false, false≢true, eqb-true, and_parts}
 use Rattle.std.proofs.lemmas.Slice.Eq.{bytes_eq-Decides}
 use Rattle.std.specs.List.{list_all, list_any}
-use Rattle.std.specs.Option.{option_map, option_map_or, option_and_then}
+use Rattle.std.specs.Option.{option_map, option_and_then}
 use Rattle.std.specs.Str.{bytes_eq}
 use Rattle.kind_core.specs.declared.kinds.Kind.{Kind}
 use Rattle.stack_core.specs.Stack.{holds_key}
-use Rattle.desk_model.specs.declared.pointer.Grab.{Grab}
 use Rattle.desk_model.specs.Rows.{Row}
 use Rattle.desk_model.specs.Nodes.{id_named}
 use Rattle.desk_model.specs.Named.{row_named, is_kind_of}
@@ -15,10 +14,10 @@ use Rattle.desk_model.specs.Trees.{parent_of, root_in, root_of, most_levels}
 use Rattle.desk_model.specs.Places.{root_id}
 use Rattle.desk_model.specs.Widgets.{Widgets, nodes, rows_of, row_at}
 use Rattle.desk_model.specs.Linking.{is_window_kind}
-use Rattle.desk_model.specs.Desk.{Desk, is_window}
+use Rattle.desk_model.specs.Desk.{is_window}
 use Rattle.desk_model.specs.Ending.{is_in_window}
 use Rattle.desk_core.specs.declared.setting.Setting.{Setting}
-use Rattle.desk_core.specs.Standing.{windows_at, desk_of, names_window, IsStanding}
+use Rattle.desk_core.specs.Standing.{windows_at, desk_of, IsStanding}
 use Rattle.desk_core.specs.Did.{IsFound}
 use Rattle.desk_core.proofs.Dids.{is_found, found-parts}
 use Rattle.desk_core.proofs.OpenSteps.{is_open-holds_key}

@@ -1,25 +1,19 @@
 -- The open windows, kept by number, are rows of the kind Window by name.
-use Rattle.std.proofs.Common.{◌≡◌, ℕ, true, false, List, [], ◌∷◌, Option, Some, None, ◌++◌, refl, sym, ap, ◌∙◌, subst}
+use Rattle.std.proofs.Common.{◌≡◌, ℕ, true, List, [], ◌∷◌, Option, Some, None, refl, sym, ap, ◌∙◌}
 use Rattle.std.proofs.lemmas.Bool.{true≢false, and_parts, and_from}
-use Rattle.std.specs.List.{list_all, list_any}
+use Rattle.std.specs.List.{list_all}
 use Rattle.std.specs.Option.{option_map}
-use Rattle.desk_core.specs.declared.setting.Setting.{Setting}
-use Rattle.stack_core.specs.Stack.{AreDistinct}
 use Rattle.desk_model.specs.Rows.{Row}
-use Rattle.desk_model.specs.Nodes.{Node, node_of, node_at, any_kind, counts_with}
+use Rattle.desk_model.specs.Nodes.{node_of, node_at}
 use Rattle.desk_model.specs.Named.{row_named, is_kind_of}
-use Rattle.desk_model.specs.Widgets.{Widgets, nodes, row_at, rows_of, is_joined, joined}
-use Rattle.desk_model.specs.Forest.{IsForest, IsWidgets}
-use Rattle.desk_model.specs.Desk.{is_window}
-use Rattle.desk_model.specs.DeskFacts.{AreConnectedOnce, AreOpenOnce, IsDesk}
+use Rattle.desk_model.specs.Widgets.{Widgets, nodes, row_at, rows_of}
+use Rattle.desk_model.specs.Forest.{IsForest}
 use Rattle.desk_model.specs.Linking.{is_window_kind}
-use Rattle.desk_model.proofs.Naming.{rows, id_named-row, count_of-nodes}
+use Rattle.desk_model.proofs.Naming.{id_named-row}
 use Rattle.tree_core.proofs.ForestLemmas.{node_at-nodes}
-use Rattle.tree_core.proofs.Listed.{AreNamedApart-rows, row_named-row}
-use Rattle.desk_core.specs.Standing.{title_at, windows_at, desk_of, names_window, IsStanding}
+use Rattle.tree_core.proofs.Listed.{row_named-row}
+use Rattle.desk_core.specs.Standing.{title_at, windows_at, names_window}
 use Rattle.desk_core.specs.Did.{IsFound}
-use Rattle.desk_core.proofs.OpenSteps.{is_open-holds_key}
-use Rattle.desk_core.proofs.Linked.{all_lead-rows}
 
 -- The number names a row of the kind Window, which is found under its client and name.
 record IsTitled (widgets : Widgets) (key : ℕ) : Type 0 where

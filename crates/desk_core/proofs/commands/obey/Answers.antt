@@ -1,8 +1,7 @@
-use Rattle.std.proofs.Common.{◌≡◌, ℤ, List, Some, None, refl, sym, ap, ◌∙◌, subst, rules, to_z, of_z, SFits, w32}
+use Rattle.std.proofs.Common.{◌≡◌, ℤ, List, Some, None, refl, ap, subst, rules, to_z, of_z, SFits, w32}
 use Rattle.std.proofs.lemmas.Int.{to_z-of_z}
 use Rattle.kind_core.specs.declared.kinds.Attr.{Attr}
 use Rattle.kind_core.specs.declared.values.Value as value
-use Rattle.cmd_words.specs.declared.commands.Command.{Command}
 use Rattle.cmd_words.specs.declared.commands.ConfigOption.{ConfigOption}
 use Rattle.cmd_words.specs.declared.commands.PlaceOption.{PlaceOption}
 use Rattle.desk_model.specs.Commands.{row_of}

@@ -1,4 +1,4 @@
-use Rattle.std.proofs.Common.{◌≡◌, ℕ, List, Option, ap₂}
+use Rattle.std.proofs.Common.{ℕ, List, Option, ap₂}
 use Rattle.desk_model.specs.declared.pointer.Grab.{Grab}
 use Rattle.desk_model.specs.Ending.{let_go}
 use Rattle.desk_model.specs.Desk.{Desk}

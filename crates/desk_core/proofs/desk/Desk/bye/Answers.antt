@@ -1,6 +1,5 @@
-use Rattle.std.proofs.Common.{◌≡◌, ◌↔◌, IsTrue, ℕ, List, not, nat_eq, nat_lt, true, false, sym, ap, ◌∙◌, subst, arith}
+use Rattle.std.proofs.Common.{◌≡◌, ◌↔◌, IsTrue, ℕ, List, nat_lt, true, false, sym, ap, ◌∙◌, subst, arith}
 use Rattle.std.proofs.lemmas.Bool.{ltb-true, lt-ltb}
-use Rattle.std.specs.List.{filter}
 use Rattle.cmd_words.specs.declared.replies.Reply.{Reply}
 use Rattle.desk_model.specs.Nodes.{any_kind}
 use Rattle.desk_model.specs.Named.{rows_counted}

@@ -1,4 +1,4 @@
-use Rattle.std.proofs.Common.{false, true, Some, None, ap, sym, ◌∙◌, ◌≡◌, ℤ, pos, ◌≤◌, arith, to_z, w32}
+use Rattle.std.proofs.Common.{false, true, Some, None, ap, ◌∙◌, ◌≡◌, ℤ, pos, ◌≤◌, arith, to_z, w32}
 use Rattle.std.proofs.lemmas.Int.{to_z_pos}
 use Rattle.cmd_words.specs.declared.replies.Reply.TheVariants.{Refused, Number}
 use Rattle.cmd_words.specs.declared.replies.Refusal.TheVariants.{Memory}
