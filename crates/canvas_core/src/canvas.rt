@@ -42,7 +42,12 @@ impl Model for Canvas {
 
 impl Drop for Canvas {
     fn drop(self) {
-        let Canvas { width: _, height: _, bytes: _, writes: _ } = self;
+        let Canvas {
+            width: _,
+            height: _,
+            bytes: _,
+            writes: _,
+        } = self;
     }
 }
 
