@@ -83,5 +83,6 @@ fn are_answered(rt: &impl Abort, roster: &mut Roster, table: &str) -> Result<(),
 fn shares_come_to_the_limit_and_no_further(rt: HostRuntime) -> Result<(), Fail> {
     let mut roster = Roster::new(90);
     assert_eq!(rt; roster.len(), 0);
+    assert_eq!(rt; roster.at(0), None);
     are_answered(&rt, &mut roster, CALLS)
 }

@@ -63,6 +63,7 @@ fn are_answered(rt: &impl Abort, stack: &mut Stack, table: &str) -> Result<(), F
 #[test]
 fn keys_are_kept_from_top_to_bottom(rt: HostRuntime) -> Result<(), Fail> {
     let mut stack = Stack::new();
+    assert_eq!(rt; stack.len(), 0);
     assert_eq!(rt; stack.at(0), None);
     are_answered(&rt, &mut stack, CALLS)
 }
