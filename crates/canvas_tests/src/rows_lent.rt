@@ -23,11 +23,7 @@ fn puts(rt: &impl Abort, canvas: &mut Canvas, x: u32, y: u32, byte: u8) {
 }
 
 /// Does what the row's first words say.
-fn does(
-    rt: &impl Abort,
-    canvas: &mut Canvas,
-    words: &mut SplitWhitespace<'_>,
-) -> Result<(), Fail> {
+fn does(rt: &impl Abort, canvas: &mut Canvas, words: &mut SplitWhitespace<'_>) -> Result<(), Fail> {
     let name = word(words)?;
     let (x, y, len) = (number(words)?, number(words)?, number(words)?);
     match name {
