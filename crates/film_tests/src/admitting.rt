@@ -57,8 +57,8 @@ fn holds(rt: &impl Abort, roster: &Roster, entries: &str) -> Result<(), Fail> {
         assert_eq!(rt; roster.at(count), Some(wanted), "at {entry}");
         count = count.saturating_add(1);
     }
-    assert_eq!(rt; roster.len(), count, "at {entries}");
-    assert_eq!(rt; roster.at(count), None, "at {entries}");
+    assert_eq!(rt; roster.len(), count);
+    assert_eq!(rt; roster.at(count), None);
     Ok(())
 }
 

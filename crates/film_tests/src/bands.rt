@@ -27,7 +27,8 @@ fn shares_of_the_largest_film(rt: HostRuntime) -> Result<(), Fail> {
 
 // Three bands: 34, 34 and 32 pixels, so that a band ends in the middle of a row.
 const THREE: &str = "
-begin 3 | 3
+begin 3 | from phase 0
+period now | 3
 beats 2 | 0 34
 beats 1 | 68 32
 beats 1 | 0 34
@@ -40,7 +41,8 @@ fn a_hundred_pixels_in_three_beats(rt: HostRuntime) -> Result<(), Fail> {
 
 // Bands of two pixels in 50 beats, 14 empty bands, and the next period.
 const SIXTY_FOUR: &str = "
-begin 64 | 64
+begin 64 | from phase 0
+period now | 64
 beats 50 | 0 2
 beats 14 | 100 0
 beats 1 | 0 2
@@ -52,7 +54,8 @@ fn a_hundred_pixels_in_sixty_four_beats(rt: HostRuntime) -> Result<(), Fail> {
 }
 
 const ONE_PIXEL: &str = "
-begin 64 | 64
+begin 64 | from phase 0
+period now | 64
 beats 1 | 0 1
 beats 63 | 1 0
 beats 1 | 0 1
@@ -65,10 +68,12 @@ fn one_pixel_in_sixty_four_beats(rt: HostRuntime) -> Result<(), Fail> {
 
 // All in each beat; then six bands of 9,363 pixels and one of the 9,358 that are left.
 const LARGEST: &str = "
-begin 1 | 1
+begin 1 | from phase 0
+period now | 1
 beats 1 | 0 65536
 beats 1 | 0 65536
-begin 7 | 7
+begin 7 | from phase 0
+period now | 7
 beats 6 | 0 9363
 beats 1 | 56178 9358
 beats 1 | 0 9363
@@ -81,13 +86,17 @@ fn the_largest_film_in_one_beat_and_in_seven(rt: HostRuntime) -> Result<(), Fail
 
 // Rows of 7 pixels with bands of 5, and a period that begins anew in the middle of another.
 const ANEW: &str = "
-begin 5 | 5
+begin 5 | from phase 0
+period now | 5
 beats 3 | 0 5
-begin 4 | 4
+begin 4 | from phase 0
+period now | 4
 beats 3 | 0 6
 beats 1 | 18 3
-settle 0 | 0
-begin 64 | 64
+settle now | not admitted
+period now | 0
+begin 64 | from phase 0
+period now | 64
 beats 21 | 0 1
 beats 43 | 21 0
 ";

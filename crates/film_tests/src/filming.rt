@@ -17,7 +17,7 @@ pub fn pair(text: &str) -> Result<(u32, u32), Fail> {
 fn beats(rt: &impl Abort, film: &mut Film, count: u32, plan: &str) -> Result<(), Fail> {
     let (mut from, length) = pair(plan)?;
     for _i in 0..count {
-        assert!(rt; film.period() >= 1, "at {plan}");
+        assert!(rt; film.period() >= 1);
         let to = from.saturating_add(length);
         assert_eq!(rt; film.beat(), Band { from, to }, "at {plan}");
         from = to;
@@ -62,9 +62,9 @@ fn fills(
 
 /// The row's bytes are those of the text, in which `.` stands for 0.
 fn shows(rt: &impl Abort, film: &Film, y: u32, wanted: &str) {
-    assert!(rt; y < film.height(), "row {y}");
+    assert!(rt; y < film.height());
     let row = film.shown_row(y);
-    assert_eq!(rt; row.len(), wanted.len(), "row {y}");
+    assert_eq!(rt; row.len(), wanted.len());
     for (byte, letter) in row.iter().zip(wanted.as_bytes()) {
         let seen = if *byte == 0 { b'.' } else { *byte };
         assert_eq!(rt; seen, *letter, "row {y}");
@@ -80,30 +80,37 @@ fn begins(film: &mut Film, period: u32) -> Result<(), Fail> {
     Ok(())
 }
 
+/// The film tells this period.
+fn has_period(rt: &impl Abort, film: &Film, period: &str) -> Result<(), Fail> {
+    let period: u32 = period.parse()?;
+    assert_eq!(rt; film.period(), period);
+    Ok(())
+}
+
 /// One row, as `beats 3 | 0 34`: what is done, and what comes of it.
 fn row(rt: &impl Abort, alloc: Global, film: &mut Film, text: &str) -> Result<(), Fail> {
     let (done, answer) = text.split_once(" | ").ok_or("a row has no answer")?;
     let (word, rest) = done.split_once(' ').ok_or("a row has one word")?;
     match word {
-        "begin" => {
-            begins(film, rest.parse()?)?;
-            assert_eq!(rt; film.period(), answer.parse()?, "at {text}");
-        }
+        "begin" => begins(film, rest.parse()?),
         "settle" => {
             film.settle();
-            assert_eq!(rt; film.period(), answer.parse()?, "at {text}");
+            Ok(())
         }
-        "beats" => beats(rt, film, rest.parse()?, answer)?,
-        "commit" => commits(rt, film, rest.as_bytes(), answer)?,
-        "fill" => fills(rt, alloc, film, rest, answer)?,
-        "row" => shows(rt, film, rest.parse()?, answer),
-        _ => return Err("a row's word is none of these".into()),
+        "period" => has_period(rt, film, answer),
+        "beats" => beats(rt, film, rest.parse()?, answer),
+        "commit" => commits(rt, film, rest.as_bytes(), answer),
+        "fill" => fills(rt, alloc, film, rest, answer),
+        "row" => {
+            shows(rt, film, rest.parse()?, answer);
+            Ok(())
+        }
+        _ => Err("a row's word is none of these".into()),
     }
-    Ok(())
 }
 
-/// A new film of `w` by `h` pixels is played by the rows of the table, under a period with this share. Empty rows,
-/// and those that begin with `#`, say nothing.
+/// A new film of `w` by `h` pixels is played by the rows of the table. Empty rows, and those that begin with `#`,
+/// say nothing.
 pub fn plays(rt: &impl Abort, alloc: Global, w: u32, h: u32, table: &str) -> Result<(), Fail>
     requires some_width { 1 ≤ w }
     requires width { w ≤ 256 }

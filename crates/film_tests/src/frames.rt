@@ -6,7 +6,8 @@ use std::test::Fail;
 const SPLIT_ROWS: &str = "
 row 0 | ..........
 row 9 | ..........
-begin 3 | 3
+begin 3 | from phase 0
+period now | 3
 fill 100 A | ok
 row 0 | ..........
 beats 1 | 0 34
@@ -31,7 +32,8 @@ fn bands_end_in_the_middle_of_a_row(rt: HostRuntime) -> Result<(), Fail> {
 // Frames that come within a period wait for the next one, which takes the last of them.
 const WAITING: &str = "
 commit abcdefghijkl | ok
-begin 5 | 5
+begin 5 | from phase 0
+period now | 5
 beats 1 | 0 3
 row 0 | abc.
 commit mnopqrstuvwx | ok
@@ -65,23 +67,27 @@ fn a_frame_waits_for_the_next_period(rt: HostRuntime) -> Result<(), Fail> {
 
 // An admission that begins anew takes the newest frame at its first beat.
 const ENDING: &str = "
-begin 2 | 2
+begin 2 | from phase 0
+period now | 2
 commit abcdefghijkl | ok
 beats 1 | 0 6
 row 1 | ef..
 commit mnopqrstuvwx | ok
-settle 0 | 0
+settle now | not admitted
+period now | 0
 row 0 | mnop
 row 1 | qrst
 row 2 | uvwx
 commit ABCDEFGHIJKL | ok
 row 0 | mnop
-begin 2 | 2
+begin 2 | from phase 0
+period now | 2
 row 0 | mnop
 beats 1 | 0 6
 row 1 | EFst
 commit abcdefghijkl | ok
-begin 3 | 3
+begin 3 | from phase 0
+period now | 3
 row 1 | EFst
 beats 1 | 0 4
 row 0 | abcd
@@ -100,7 +106,8 @@ fill 0 B | 100 0
 fill 99 B | 100 99
 fill 101 B | 100 101
 fill 65536 B | 100 65536
-settle 0 | 0
+settle now | not admitted
+period now | 0
 row 0 | AAAAAAAAAA
 row 9 | AAAAAAAAAA
 ";
