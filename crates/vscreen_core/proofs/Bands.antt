@@ -1,41 +1,46 @@
--- Facts on bands: they stand in order, one ends where the next begins, and together they have all rows.
+-- Facts on bands: they stand in order, one ends where the next begins, and together they have all pixels.
 use Rattle.std.proofs.Common.{◌≡◌, ℕ, ◌+◌, ◌*◌, ◌<◌, ◌≤◌, arith}
 use Rattle.std.proofs.lemmas.Grind.{div_ceil_times}
 use Rattle.std.proofs.Math.Nat.{mul-le-mul_right, mul_comm}
-use Rattle.vscreen_core.specs.Band.{band_height, band_start, band_at}
+use Rattle.vscreen_core.specs.Band.{band_size, band_start, band_at, share_of}
+use Rattle.vscreen_core.specs.Laws.{PastTheLastPixel}
 
--- the bands of a whole period have all rows
-pub all_rows : (h p : ℕ) → 0 < p → h ≤ p * band_height h p
-unfolding band_height
-all_rows h p some = omega (arith, div_ceil_times h p some, mul_comm p (band_height h p))
+-- the bands of a whole period have all pixels
+pub all_pixels : (n p : ℕ) → 0 < p → n ≤ p * band_size n p
+unfolding band_size
+all_pixels n p some = omega (arith, div_ceil_times n p some, mul_comm p (band_size n p))
 
-pub band_start-zero : (h p : ℕ) → band_start h p 0 ≡ 0
+pub band_start-zero : (n p : ℕ) → band_start n p 0 ≡ 0
 unfolding band_start
-band_start-zero h p = omega arith
+band_start-zero n p = omega arith
 
-pub band_start-le : (h p k : ℕ) → band_start h p k ≤ h
+pub band_start-le : (n p k : ℕ) → band_start n p k ≤ n
 unfolding band_start
-band_start-le h p k = omega arith
+band_start-le n p k = omega arith
 
-pub band_start-order : (h p j k : ℕ) → j ≤ k → band_start h p j ≤ band_start h p k
+pub band_start-order : (n p j k : ℕ) → j ≤ k → band_start n p j ≤ band_start n p k
 unfolding band_start
-band_start-order h p j k le = omega (arith, mul-le-mul_right (band_height h p) le)
+band_start-order n p j k le = omega (arith, mul-le-mul_right (band_size n p) le)
 
--- at the period's end no row is left
-pub band_start-all : (h p : ℕ) → 0 < p → band_start h p p ≡ h
+-- at the period's end no pixel is left
+pub band_start-all : (n p : ℕ) → 0 < p → band_start n p p ≡ n
 unfolding band_start
-band_start-all h p some = omega (arith, all_rows h p some)
+band_start-all n p some = omega (arith, all_pixels n p some)
 
--- the band of a phase has rows of the film, in order
-pub band_order : (h p k : ℕ) → (band_at h p k).from ≤ (band_at h p k).to
+-- the band of a phase has pixels of the film, in order
+pub band_order : (n p k : ℕ) → (band_at n p k).from ≤ (band_at n p k).to
 unfolding band_at
-band_order h p k = band_start-order h p k (k + 1) (omega arith)
+band_order n p k = band_start-order n p k (k + 1) (omega arith)
 
-pub band_within : (h p k : ℕ) → (band_at h p k).to ≤ h
+pub band_within : (n p k : ℕ) → (band_at n p k).to ≤ n
 unfolding band_at
-band_within h p k = band_start-le h p (k + 1)
+band_within n p k = band_start-le n p (k + 1)
 
--- no band has more rows than a whole one
-pub band_few : (h p k : ℕ) → (band_at h p k).to ≤ (band_at h p k).from + band_height h p
+-- no band has more pixels than a whole one
+pub band_few : (n p k : ℕ) → (band_at n p k).to ≤ (band_at n p k).from + band_size n p
 unfolding band_at band_start
-band_few h p k = omega arith
+band_few n p k = omega arith
+
+pub past_the_last_pixel : PastTheLastPixel
+unfolding band_at band_start share_of
+past_the_last_pixel w h p k past = (omega arith, omega arith)

@@ -10,15 +10,19 @@ pub record FilmState : Type 0 where
   pub period : ℕ
   pub phase : ℕ
 
+-- the number of a film's pixels: each of its pictures has so many bytes
+abbrev pub pixels_in : FilmState → ℕ
+pixels_in film = film.width * film.height
+
 -- what holds of every film; a period of 0 means that the film isn't admitted
 pub record IsFilm (film : FilmState) : Type 0 where
   pub some_width : 1 ≤ film.width
   pub width_limit : film.width ≤ 256
   pub some_height : 1 ≤ film.height
   pub height_limit : film.height ≤ 256
-  pub newest_size : length film.newest ≡ film.height * film.width
-  pub current_size : length film.current ≡ film.height * film.width
-  pub shown_size : length film.shown ≡ film.height * film.width
+  pub newest_size : length film.newest ≡ pixels_in film
+  pub current_size : length film.current ≡ pixels_in film
+  pub shown_size : length film.shown ≡ pixels_in film
   pub period_limit : film.period ≤ 64
   pub phase_within : 0 < film.period → film.phase < film.period
 
@@ -27,9 +31,9 @@ unfoldable pub blank_film : ℕ → ℕ → FilmState
 blank_film width height = record {
   width = width;
   height = height;
-  newest = replicate (height * width) 0;
-  current = replicate (height * width) 0;
-  shown = replicate (height * width) 0;
+  newest = replicate (width * height) 0;
+  current = replicate (width * height) 0;
+  shown = replicate (width * height) 0;
   period = 0;
   phase = 0;
 }

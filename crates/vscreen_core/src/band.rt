@@ -1,18 +1,20 @@
-ghost use Rattle.std.specs.Prelude.{◌≡◌, ◌*◌, ◌-◌, ◌<◌, ◌≤◌};
-ghost use Rattle.vscreen_core.specs.Band.{band_height, band_at, share_of};
+ghost use Rattle.std.specs.Prelude.{◌≡◌, ◌+◌, ◌*◌, ◌-◌, ◌<◌, ◌≤◌};
+ghost use Rattle.vscreen_core.specs.Band.{band_size, band_at, share_of};
 
-/// The rows of a film that one beat drew: `from` up to `to`, without `to` (rows from 0). An empty band has
-/// `from` and `to` equal. The rule is in docs/MACHINE.md.
+/// The pixels of a film that one beat drew, by their numbers: pixel (u, v) has the number `v * width + u`, from 0.
+/// They are `from` up to `to`, without `to`. An empty band has `from` and `to` equal. The rule is in
+/// docs/MACHINE.md.
 #[derive(Clone, Copy, Debug, PartialEq, Eq)]
 pub struct Band {
-    /// The first row.
+    /// The first pixel.
     pub from: u32,
-    /// One past the last row.
+    /// One past the last pixel.
     pub to: u32,
 }
 
-/// The pixels per tick that a film of `w` by `h` pixels reserves under a period of so many ticks: the rows of a
-/// whole band times the width. No band has more. The rule is in docs/MACHINE.md.
+/// The pixels per tick that a film of `w` by `h` pixels, each at most 256, reserves under a period of so many
+/// ticks, at least 1: its pixels over the period, rounded up. No band has more, and the bands of a period have
+/// all. The rule is in docs/MACHINE.md.
 #[tactic(auto, unfolding(crate::specs::Band::share_of))]
 pub fn share(w: u32, h: u32, period: u32) -> u32
     requires wide { w ≤ 256 }
@@ -20,35 +22,49 @@ pub fn share(w: u32, h: u32, period: u32) -> u32
     requires periodic { 1 ≤ period }
     ensures share { result ≡ share_of w h period }
     ensures small { result ≤ 65536 }
+    ensures enough { w * h ≤ result * period }
+    ensures least { result * period < w * h + period }
 {
-    rows_of_band(h, period) * w
+    whole_band(pixels(w, h), period)
 }
 
-/// The band that the beat at this phase draws.
+/// How many pixels a film of this width and height has.
+pub(crate) fn pixels(width: u32, height: u32) -> u32
+    requires wide { width ≤ 256 }
+    requires high { height ≤ 256 }
+    ensures pixels { result ≡ width * height }
+    ensures small { result ≤ 65536 }
+{
+    width * height
+}
+
+/// The band that the beat at this phase draws, of a film of so many pixels.
 #[tactic(auto, unfolding(crate::specs::Band::band_at, crate::specs::Band::band_start))]
-pub(crate) fn band_of(h: u32, period: u32, phase: u32) -> Band
-    requires high { h ≤ 256 }
+pub(crate) fn band_of(pixels: u32, period: u32, phase: u32) -> Band
+    requires few { pixels ≤ 65536 }
     requires periodic { 1 ≤ period }
     requires early { phase ≤ 64 }
-    ensures band { result ≡ band_at h period phase }
+    ensures band { result ≡ band_at pixels period phase }
     ensures order { result.from ≤ result.to }
-    ensures within { result.to ≤ h }
+    ensures within { result.to ≤ pixels }
+    ensures few { result.to ≤ result.from + band_size pixels period }
 {
-    let rows = rows_of_band(h, period);
-    let from = h.min(phase * rows);
+    let whole = whole_band(pixels, period);
+    let from = pixels.min(phase * whole);
     Band {
         from,
-        to: h.min(from + rows),
+        to: pixels.min(from + whole),
     }
 }
 
-// How many rows a whole band has.
-#[tactic(auto, unfolding(crate::specs::Band::band_height))]
-fn rows_of_band(h: u32, period: u32) -> u32
-    requires high { h ≤ 256 }
+// How many pixels a whole band has.
+#[tactic(auto, unfolding(crate::specs::Band::band_size))]
+fn whole_band(pixels: u32, period: u32) -> u32
     requires periodic { 1 ≤ period }
-    ensures rows { result ≡ band_height h period }
-    ensures few { result ≤ h }
+    ensures pixels { result ≡ band_size pixels period }
+    ensures few { result ≤ pixels }
+    ensures enough { pixels ≤ result * period }
+    ensures least { result * period < pixels + period }
 {
-    h.div_ceil(period)
+    pixels.div_ceil(period)
 }

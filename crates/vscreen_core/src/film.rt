@@ -1,15 +1,17 @@
 ghost use Rattle.std.specs.Prelude.{◌≡◌, ◌+◌, ◌*◌, ◌%◌, ◌≤◌, ◌<◌, length, replicate, IfOk};
-ghost use Rattle.vscreen_core.specs.Picture.{row_of, with_bytes};
-ghost use Rattle.vscreen_core.specs.FilmState.{IsFilm, blank_film};
+ghost use Rattle.vscreen_core.specs.Band.{share_of};
+ghost use Rattle.vscreen_core.specs.Picture.{row_of, with_pixels};
+ghost use Rattle.vscreen_core.specs.FilmState.{IsFilm, blank_film, pixels_in};
 ghost use Rattle.vscreen_core.specs.Changes.{committed, commit_answer, begun, beaten, band_now, settled};
 
-use crate::band::{Band, band_of};
+use crate::band::{Band, band_of, pixels};
 use crate::no_memory::NoMemory;
 use crate::wrong_size::WrongSize;
 use std::alloc::{AllocError, Global};
 use std::marker::Model;
 
-/// What a VScreen shows: three pictures of one size, a byte a pixel, row by row.
+/// What a VScreen shows: three pictures of one size, a byte a pixel, row by row. The pixel (u, v) has the
+/// number `v * width + u`, from 0.
 ///
 /// - `newest` is the last frame that was committed.
 /// - `current` is the frame that the period under way draws.
@@ -17,7 +19,7 @@ use std::marker::Model;
 ///
 /// An admitted film has a period of 1 to 64 ticks and a phase below it; else its period is 0. Contracts see a
 /// film as a `FilmState` with these fields. The rule is in docs/MACHINE.md.
-#[derive(Debug, Drop)]
+#[derive(Debug)]
 pub struct Film {
     width: u32,
     height: u32,
@@ -38,6 +40,20 @@ impl Model for Film {
     ghost invariant = { λ f. IsFilm (record { width = f.width; height = f.height; newest = f.newest.items; current = f.current.items; shown = f.shown.items; period = f.period; phase = f.phase }) };
 }
 
+impl Drop for Film {
+    fn drop(self) {
+        let Film {
+            width: _,
+            height: _,
+            newest: _,
+            current: _,
+            shown: _,
+            period: _,
+            phase: _,
+        } = self;
+    }
+}
+
 impl Film {
     /// A film of `w` by `h` pixels, each 1 to 256, all of value 0 and not admitted. `NoMemory` where memory is
     /// short, and only then.
@@ -50,7 +66,7 @@ impl Film {
         ensures blank { IfOk result (λ film. film ≡ blank_film w h) }
         ensures valid { IfOk result (λ film. IsFilm film) }
     {
-        let size = area(w, h);
+        let size = pixels(w, h) as usize;
         Ok(Film {
             width: w,
             height: h,
@@ -62,13 +78,15 @@ impl Film {
         })
     }
 
-    /// Makes the frame, of at most 65,536 bytes, the newest. `WrongSize` with both numbers of bytes, and nothing
-    /// changed, exactly where it hasn't a byte for each pixel.
-    #[tactic(auto, unfolding(crate::specs::Changes::committed, crate::specs::Changes::commit_answer, crate::specs::Changes::frame_size))]
+    /// Makes the frame, of at most 65,536 bytes, the newest, and changes nothing else: the period under way goes on
+    /// with its own frame. `WrongSize` with both numbers of bytes, and nothing changed, exactly where it hasn't a
+    /// byte for each pixel. It costs one copy of the frame.
+    #[tactic(auto, unfolding(crate::specs::Changes::committed, crate::specs::Changes::commit_answer))]
     pub fn commit(&mut self, frame: &[u8]) -> Result<(), WrongSize>
         requires { length frame.now ≤ 65536 }
         ensures film { self.new ≡ committed self.old frame.now }
         ensures answer { result ≡ commit_answer self.old frame.now }
+        ensures kept { self.new ≡ record self.old { newest = self.new.newest } }
         ensures valid { IsFilm self.new }
     {
         let want = self.newest.len();
@@ -94,21 +112,25 @@ impl Film {
         self.phase = 0;
     }
 
-    /// Draws the band of this phase, of an admitted film, and goes on to the next phase. At phase 0 the newest
-    /// frame first becomes the current one. Answers the band. It costs a copy of the band's rows, and at
-    /// phase 0 one of the whole frame.
-    #[tactic(auto, unfolding(crate::specs::Changes::beaten, crate::specs::Changes::band_now, crate::specs::Changes::frame_now), using(crate::proofs::Pictures::rows_fit))]
+    /// Draws the band of this phase, of an admitted film, and goes on to the next phase, round the period. At
+    /// phase 0 the newest frame first becomes the current one. Answers the band: with s the film's share and k
+    /// the phase, the pixels k * s up to (k + 1) * s, as far as the film has them. It costs one copy of the
+    /// band's run of bytes, and at phase 0 one of the whole frame.
+    #[tactic(auto, unfolding(crate::specs::Changes::beaten, crate::specs::Changes::band_now, crate::specs::Changes::frame_now, crate::specs::Band::share_of))]
     pub fn beat(&mut self) -> Band
         requires { 1 ≤ self.old.period }
         ensures film { self.new ≡ beaten self.old }
         ensures band { result ≡ band_now self.old }
+        ensures order { result.from ≤ result.to }
+        ensures within { result.to ≤ pixels_in self.old }
+        ensures share { result.to ≤ result.from + share_of self.old.width self.old.height self.old.period }
         ensures valid { IsFilm self.new }
     {
         if self.phase == 0 {
             self.current.copy_from_slice(&self.newest);
         }
-        let band = band_of(self.height, self.period, self.phase);
-        copy_rows(&mut self.shown, &self.current, self.width, band);
+        let band = band_of(pixels(self.width, self.height), self.period, self.phase);
+        copy_run(&mut self.shown, &self.current, band);
         self.phase = next_phase(self.phase, self.period);
         band
     }
@@ -123,14 +145,15 @@ impl Film {
         self.period = 0;
     }
 
-    /// The bytes of row `y` (from 0, below the height) of what is shown.
+    /// The bytes of row `y` (from 0, below the height) of what is shown, one for each pixel from the left.
+    #[tactic(auto, using(crate::proofs::Pictures::row_fits))]
     pub fn shown_row(&self, y: u32) -> &[u8]
         requires { y < self.now.height }
         ensures row { result.now ≡ row_of self.now.width self.now.shown y }
         ensures length { length result.now ≡ self.now.width }
         ensures valid { IsFilm self.now }
     {
-        let from = area(self.width, y);
+        let from = row_start(self.width, y);
         let to = from + self.width as usize;
         &self.shown[from..to]
     }
@@ -160,14 +183,14 @@ impl Film {
     }
 }
 
-// The bytes of so many whole rows.
-fn area(width: u32, rows: u32) -> usize
-    requires width { width ≤ 256 }
-    requires rows { rows ≤ 256 }
-    ensures area { result ≡ rows * width }
+// The number of the row's first pixel.
+fn row_start(width: u32, y: u32) -> usize
+    requires wide { width ≤ 256 }
+    requires high { y ≤ 256 }
+    ensures start { result ≡ y * width }
     ensures small { result ≤ 65536 }
 {
-    rows as usize * width as usize
+    y as usize * width as usize
 }
 
 // A picture of so many bytes of value 0.
@@ -177,18 +200,16 @@ fn blank(alloc: Global, size: usize) -> Result<Vec<u8>, AllocError>
     vec![in alloc; 0; size]
 }
 
-// Copies the band's rows of `frame` into `shown`, at the same place.
-fn copy_rows(shown: &mut [u8], frame: &[u8], width: u32, band: Band)
-    requires width { width ≤ 256 }
+// Copies the band's pixels of `frame` into `shown`, at the same place.
+fn copy_run(shown: &mut [u8], frame: &[u8], band: Band)
     requires order { band.from ≤ band.to }
-    requires rows { band.to ≤ 256 }
-    requires shown { band.to * width ≤ length shown.old }
-    requires frame { band.to * width ≤ length frame.now }
-    ensures copied { shown.new ≡ with_bytes shown.old frame.now (band.from * width) (band.to * width) }
+    requires shown { band.to ≤ length shown.old }
+    requires frame { band.to ≤ length frame.now }
+    ensures copied { shown.new ≡ with_pixels shown.old frame.now band.from band.to }
     ensures size { length shown.new ≡ length shown.old }
 {
-    let from = area(width, band.from);
-    let to = area(width, band.to);
+    let from = band.from as usize;
+    let to = band.to as usize;
     shown[from..to].copy_from_slice(&frame[from..to]);
 }
 

@@ -1,12 +1,10 @@
-//! Films: the frames of raw pixels that a VScreen shows, drawn band by band under a period.
+//! Films: the frames of raw pixels that a VScreen shows, drawn band by band, a run of pixels a tick, under a period.
 #![tactic(auto)]
 
 mod band;
 mod film;
 pub mod laws;
 mod no_memory;
-#[cfg(test)]
-mod tests;
 mod wrong_size;
 
 pub use band::{Band, share};
