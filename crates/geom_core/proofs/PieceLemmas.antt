@@ -211,3 +211,17 @@ pub AreInRange-at : (rs : List Rect) (i : ℕ) (d : Rect) → AreInRange rs → 
 AreInRange-at [] i d near h = absurd (omega arith)
 AreInRange-at (r ∷ rs) zero d near h = near.0
 AreInRange-at (r ∷ rs) (suc i) d near h = AreInRange-at rs i d near.1 (omega arith)
+
+-- joined lists that are disjoint: each is, and no pixel is in both
+pub AreDisjoint-parts : (rs ss : List Rect) → AreDisjoint (rs ++ ss) → AreDisjoint rs × AreDisjoint ss × ((x y : ℤ) → (covers rs x y && covers ss x y) ≡ false)
+AreDisjoint-parts [] ss h = (tt, h, λ x y. refl)
+AreDisjoint-parts (r ∷ rs) ss h =
+    let rest = AreDisjoint-parts rs ss h.1 in (
+        (λ x y. let e = covers-append rs ss x y in let f = h.0 x y in let p = in_rect r x y in grind arith, rest.0),
+        rest.1,
+        λ x y. let e = covers-append rs ss x y in let f = h.0 x y in let g = rest.2 x y in let p = in_rect r x y in grind arith,
+    )
+
+pub HavePixels-parts : (rs ss : List Rect) → HavePixels (rs ++ ss) → HavePixels rs × HavePixels ss
+HavePixels-parts [] ss h = (tt, h)
+HavePixels-parts (r ∷ rs) ss h = let rest = HavePixels-parts rs ss h.1 in ((h.0, rest.0), rest.1)
