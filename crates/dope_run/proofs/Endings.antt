@@ -19,17 +19,17 @@ use Rattle.dope_run.specs.declared.player.Player.{Player}
 use Rattle.dope_run.specs.Framing.{Item, IsLine, AreWhole, IsUnended, bytes_of, wants_of, script_limit, read_limit}
 use Rattle.dope_run.specs.Script.{EndsUnread}
 use Rattle.dope_run.specs.Text.{text_of}
-use Rattle.dope_run.specs.Transcript.{Plays, Covers, LastRead, Gains, Leaves, Ended, AreCutShort, IsRefused}
+use Rattle.dope_run.specs.Transcript.{Plays, Covers, LastRead, Gains, IsLeft, Ended, AreCutShort, IsRefused}
 use Rattle.dope_run.specs.Playing.{IsPlayer, Fed, LineDone, LineUnread, IsFresh, Going, Finished, bare_item}
-use Rattle.dope_run.specs.Obeying.{Says}
-use Rattle.dope_run.proofs.Gaining.{text_of-append, Gains-after, IsReached-longer, Leaves-after}
+use Rattle.dope_run.specs.Obeying.{Says, Leaves}
+use Rattle.dope_run.proofs.Gaining.{text_of-append, Gains-after, IsReached-longer, IsLeft-after}
 use Rattle.dope_run.proofs.Reading.{Plays-append}
 use Rattle.dope_run.proofs.Feedings.{IsLine-nil, fed_none, fed_after, moments-fed_after, bytes_of-append}
 use Rattle.std.proofs.Math.Seq.{take-append_seam}
 use Rattle.dope_run.proofs.Framings.{lines_of}
 
 -- what is known of a run, put together
-ended : (shape : Shape) (status : Status) (source_old source_new sink_old sink_new : Option (List ℕ)) (state : State) (taken : List ℕ) (items : List Item) (moments : List Moment) → IsState (opening shape) → Consumes source_old source_new taken → Covers status taken source_new items → Plays (opening shape) items moments → (read : LastRead (opening shape) taken moments) → Gains status sink_old sink_new (text_of (take read.count moments)) (text_of moments) → Leaves status state (opening shape) moments → Ended shape status source_old source_new sink_old sink_new state
+ended : (shape : Shape) (status : Status) (source_old source_new sink_old sink_new : Option (List ℕ)) (state : State) (taken : List ℕ) (items : List Item) (moments : List Moment) → IsState (opening shape) → Consumes source_old source_new taken → Covers status taken source_new items → Plays (opening shape) items moments → (read : LastRead (opening shape) taken moments) → Gains status sink_old sink_new (text_of (take read.count moments)) (text_of moments) → IsLeft status state (opening shape) read.count moments → Ended shape status source_old source_new sink_old sink_new state
 ended shape status source_old source_new sink_old sink_new state taken items moments valid consumes covers plays read gains leaves = record {
   taken = taken;
   items = items;
@@ -178,7 +178,7 @@ ended_unwritten shape start between player count bytes s0 s1 s2 k0 k1 k2 fresh v
     (Plays-append (opening shape) fed.items behind.items fed.moments more.0 played further)
     (last_read shape start between count bytes all (cut.moments ++ more.0) (fed.moments ++ more.0) s0 s1 k0 k1 fresh valid going one refl parts)
     (subst (λ ms. Gains WriteFault k0 k2 (text_of (take (length going.fed.moments) ms)) (text_of ms)) (sym parts) (Gains-after WriteFault k0 k1 k2 going.fed.moments (cut.moments ++ more.0) going.fed.says broken))
-    (IsReached-longer player.server.state (opening shape) fed.moments more.0 (leaves_from shape WriteFault start player all (flushed k0) (flushed k2) fresh fed))
+    (subst (λ ms. IsLeft WriteFault player.server.state (opening shape) (length going.fed.moments) ms) (sym parts) (IsLeft-after WriteFault player.server.state between.server.state (opening shape) going.fed.moments (cut.moments ++ more.0) (leaves_from shape Done start between going.taken (flushed k0) (flushed k1) fresh going.fed) (IsReached-longer player.server.state between.server.state cut.moments more.0 cut.leaves)))
 
 -- ---- the source is at its end
 
@@ -224,7 +224,7 @@ ended_last shape status start player last count bytes s0 s1 s2 k0 k1 k2 covers f
     (Plays-append (opening shape) fed.items (item ∷ []) fed.moments done.moments front behind)
     (no_read shape start player count done.moments (fed.moments ++ done.moments) s0 s1 k0 k1 fresh valid going refl)
     (Gains-after status k0 k1 k2 fed.moments done.moments fed.says done.says)
-    (Leaves-after status last.server.state player.server.state (opening shape) fed.moments done.moments state done.leaves)
+    (IsLeft-after status last.server.state player.server.state (opening shape) fed.moments done.moments state done.leaves)
 
 -- the last line is off the grammar
 ended_off_last : (shape : Shape) (line : ℕ) (start player last : Player) (count : ℕ) (bytes : List ℕ) (s0 s1 s2 k0 k1 k2 : Option (List ℕ)) → IsFresh shape start → IsPlayer player → Going start player count s0 s1 k0 k1 → Consumes s1 s2 bytes → bytes ≡ [] → IsAtEnd s2 → count ≤ script_limit → player.line.items ≢ [] → LineUnread line player.line.items player last (flushed k1) (flushed k2) → Ended shape (BadScript line) s0 s2 k0 k2 last.server.state

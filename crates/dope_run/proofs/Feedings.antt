@@ -21,8 +21,8 @@ use Rattle.dope_run.specs.declared.status.Status.TheVariants.{Done, WriteFault, 
 use Rattle.dope_run.specs.declared.player.Player.{Player}
 use Rattle.dope_run.specs.Framing.{Item, IsItem, IsLine, wants_of, bytes_of, bytes_of_item, has_feed, line_limit}
 use Rattle.dope_run.specs.Script.{events_of_order, BeginsOff, BeginsUnread, BeginsTooLong}
-use Rattle.dope_run.specs.Transcript.{Plays, Leaves}
-use Rattle.dope_run.specs.Obeying.{Obeyed, Says}
+use Rattle.dope_run.specs.Transcript.{Plays}
+use Rattle.dope_run.specs.Obeying.{Obeyed, Says, Leaves}
 use Rattle.dope_run.specs.Playing.{FirstFeed, LineDone, LineUnread, LineCut, Fed, EndsSo, bare_item}
 use Rattle.dope_run.specs.Cutting.{status_of}
 use Rattle.dope_run.proofs.Gaining.{text_of-append, Says-none, Says-after, Leaves-after}

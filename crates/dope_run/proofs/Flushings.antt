@@ -10,9 +10,8 @@ use Rattle.dope_run.specs.declared.status.Status.{Status}
 use Rattle.dope_run.specs.declared.status.Status.TheVariants.{Done, WriteFault, BadScript}
 use Rattle.dope_run.specs.declared.player.Player.{Player}
 use Rattle.dope_run.specs.Text.{text_of}
-use Rattle.dope_run.specs.Transcript.{IsReached}
 use Rattle.dope_run.specs.Cutting.{status_of}
-use Rattle.dope_run.specs.Obeying.{Says}
+use Rattle.dope_run.specs.Obeying.{Says, IsReached}
 use Rattle.dope_run.specs.Playing.{LineDone, LineCut, Fed, Finished}
 use Rattle.dope_run.proofs.Gaining.{IsReached-last}
 

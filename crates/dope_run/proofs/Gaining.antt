@@ -14,8 +14,8 @@ use Rattle.desk_model.proofs.Runs.{state_after-append}
 use Rattle.dope_run.specs.declared.status.Status.{Status}
 use Rattle.dope_run.specs.declared.status.Status.TheVariants.{Done, ReadFault, WriteFault, Usage, BadScript, NoMemory, TooMuch}
 use Rattle.dope_run.specs.Text.{text_of}
-use Rattle.dope_run.specs.Transcript.{Gains, GainsFront, Leaves, IsReached}
-use Rattle.dope_run.specs.Obeying.{Says}
+use Rattle.dope_run.specs.Transcript.{Gains, GainsFront, IsPast, IsLeft}
+use Rattle.dope_run.specs.Obeying.{Says, Leaves, IsReached}
 
 pub text_of-append : (a b : List Moment) → text_of (a ++ b) ≡ text_of a ++ text_of b
 text_of-append a b = flat_map-append _ a b
@@ -102,3 +102,23 @@ Leaves-after Usage = state_after-after
 Leaves-after (BadScript line) = state_after-after
 Leaves-after NoMemory = state_after-after
 Leaves-after TooMuch = state_after-after
+
+-- the state after a part that was carried out whole, and then the next
+past_after : (state between from : State) (moments more : List Moment) → between ≡ state_after from moments → IsReached state between more → IsPast state from (length moments) (moments ++ more)
+past_after state between from moments more is reached = record {
+  count = length moments + reached.count;
+  enough = omega arith;
+  within = (let inside : reached.count ≤ length more = reached.within in omega (arith, length-append moments more));
+  reached = reached.reached ∙ ap (λ s. state_after s (take reached.count more)) is
+      ∙ sym (state_after-append from moments (take reached.count more))
+      ∙ ap (state_after from) (sym (take-append-add moments more reached.count));
+}
+
+pub IsLeft-after : (status : Status) (state between from : State) (moments more : List Moment) → between ≡ state_after from moments → Leaves status state between more → IsLeft status state from (length moments) (moments ++ more)
+IsLeft-after WriteFault = past_after
+IsLeft-after Done = state_after-after
+IsLeft-after ReadFault = state_after-after
+IsLeft-after Usage = state_after-after
+IsLeft-after (BadScript line) = state_after-after
+IsLeft-after NoMemory = state_after-after
+IsLeft-after TooMuch = state_after-after

@@ -7,10 +7,10 @@ use Rattle.desk_model.specs.Events.{Event}
 use Rattle.desk_model.specs.Run.{events_of}
 use Rattle.dope_run.specs.declared.status.Status.TheVariants.{BadScript, TooMuch}
 use Rattle.script_lines.specs.Lines.{line_order}
-use Rattle.dope_run.specs.Framing.{Item, IsItem, IsLine, IsPartial, IsUnended, IsShortOfPayload, bytes_of, has_feed, line_limit, script_limit, wants_of}
+use Rattle.dope_run.specs.Framing.{Item, IsItem, IsLine, IsPartial, IsUnended, IsShortOfPayload, bytes_of, has_feed, line_limit, script_limit, read_limit, wants_of}
 use Rattle.dope_run.specs.Script.{read_script, BeginsOff, EndsOff}
 use Rattle.dope_run.specs.Transcript.{Ended}
-use Rattle.dope_run.specs.ScriptLaws.{IsReading, IsScript, BytesHaveAReading, ReadingsAreOne, PartsAreNotOff, ScriptsAreNotRefused}
+use Rattle.dope_run.specs.ScriptLaws.{IsReading, IsScript, BytesHaveAReading, ReadingsAreOne, PartsAreNotOff, ScriptsAreNotRefused, LittleIsReadAhead}
 use Rattle.script_lines.specs.declared.order.Order.{Order}
 use Rattle.dope_run.specs.Playing.{bare_item}
 use Rattle.dope_run.proofs.Reading.{read_script-cons, read_script-parts, read_script-nil}
@@ -37,6 +37,20 @@ pub parts_are_not_off : PartsAreNotOff
 parts_are_not_off bytes (inl line) (inl unread) = both (has_feed bytes) (ap has_feed unread.spelled ∙ has_feed-line unread.line unread.later) line.no_feed
 parts_are_not_off bytes (inl line) (inr long) = (let short : length bytes ≤ line_limit = line.short in let more : line_limit + 1 ≤ length bytes = long.long in omega arith)
 parts_are_not_off bytes (inr short) off = no_short bytes short
+
+-- a line not yet whole is short
+short_part : (bytes : List ℕ) → IsPartial bytes → length bytes ≤ line_limit
+short_part bytes (inl line) = line.short
+short_part bytes (inr short) = absurd (no_short bytes short)
+
+pub little_is_read_ahead : LittleIsReadAhead
+little_is_read_ahead from taken moments read =
+    let part : length read.cut.rest ≤ line_limit = short_part read.cut.rest read.cut.partial in
+    let last : length read.last ≤ read_limit = read.one_read in (
+      read.cut.rest ++ read.last,
+      read.parts ∙ ap (λ xs. xs ++ read.last) read.cut.spelled ∙ append_assoc (bytes_of read.lines) read.cut.rest read.last,
+      omega (arith, part, last, length-append read.cut.rest read.last),
+    )
 
 all_parts : (front behind : List Item) → All IsItem (front ++ behind) → All IsItem front × All IsItem behind
 all_parts [] behind all = (All-nil IsItem, all)

@@ -15,8 +15,8 @@ use Rattle.script_lines.specs.Lines.{line_order}
 use Rattle.dope_run.specs.Framing.{Item, IsLine, bytes_of, has_feed}
 use Rattle.dope_run.specs.Script.{BeginsOff}
 use Rattle.dope_run.specs.Text.{text_of}
-use Rattle.dope_run.specs.Transcript.{Plays, Leaves}
-use Rattle.dope_run.specs.Obeying.{Says}
+use Rattle.dope_run.specs.Transcript.{Plays}
+use Rattle.dope_run.specs.Obeying.{Says, Leaves}
 
 -- A player between two bytes: its server is valid, and it keeps the bytes of a line that is not yet whole.
 pub record IsPlayer (player : Player) : Type 0 where

@@ -1,14 +1,15 @@
--- What holds of every script: its bytes are read in one way, so there is one first line off the grammar; and a
--- script inside the grammar isn't refused.
-use Rattle.std.specs.Prelude.{◌≡◌, ◌⊎◌, ℕ, ◌≤◌, List, ◌++◌, length, Option, Some}
+-- What holds of every script: its bytes are read in one way, so there is one first line off the grammar; a script
+-- inside the grammar isn't refused; and little is read ahead of what is written.
+use Rattle.std.specs.Prelude.{◌≡◌, ◌⊎◌, ℕ, ◌+◌, ◌≤◌, List, ◌++◌, length, Option, Some}
 use Rattle.std.specs.List.{All}
 use Rattle.kind_core.specs.declared.shapes.Shape.{Shape}
 use Rattle.desk_model.specs.State.{State}
 use Rattle.desk_model.specs.Events.{Event}
+use Rattle.desk_model.specs.Run.{Moment}
 use Rattle.dope_run.specs.declared.status.Status.TheVariants.{BadScript, TooMuch}
-use Rattle.dope_run.specs.Framing.{Item, IsItem, IsPartial, AreWhole, bytes_of, script_limit}
+use Rattle.dope_run.specs.Framing.{Item, IsItem, IsPartial, AreWhole, bytes_of, line_limit, script_limit, read_limit}
 use Rattle.dope_run.specs.Script.{read_script, BeginsOff}
-use Rattle.dope_run.specs.Transcript.{Ended}
+use Rattle.dope_run.specs.Transcript.{LastRead, Ended}
 
 -- The bytes are these lines, each read, and then a part that is no whole line or is off the grammar.
 pub record IsReading (bytes : List ℕ) (items : List Item) (rest : List ℕ) : Type 0 where
@@ -45,3 +46,10 @@ abbrev pub ScriptsAreNotRefused : Type 0
 ScriptsAreNotRefused =
     (shape : Shape) (bytes : List ℕ) (line : ℕ) (left sink_old sink_new : Option (List ℕ)) (state : State)
     → IsScript bytes → (Ended shape (BadScript line) (Some bytes) left sink_old sink_new state → ⊥) × (Ended shape TooMuch (Some bytes) left sink_old sink_new state → ⊥)
+
+-- What was taken behind the lines that are carried out and written before the last read is part of a line and the
+-- bytes of one read, at most 520 and 4,096.
+abbrev pub LittleIsReadAhead : Type 0
+LittleIsReadAhead =
+    (from : State) (taken : List ℕ) (moments : List Moment) → (read : LastRead from taken moments)
+    → (rest : List ℕ) × (taken ≡ bytes_of read.lines ++ rest) × (length rest ≤ line_limit + read_limit)

@@ -71,15 +71,18 @@ abbrev pub Gains : Status → Option (List ℕ) → Option (List ℕ) → List �
 Gains WriteFault old new earlier text = GainsFront old new earlier text
 Gains _ old new earlier text = Appends old new text
 
--- The server is left in the last state of the run, or after a write fault in one of its states.
-pub record IsReached (state from : State) (moments : List Moment) : Type 0 where
+-- The server is in a state of the run, after at least so many of its moments.
+pub record IsPast (state from : State) (least : ℕ) (moments : List Moment) : Type 0 where
   pub count : ℕ
+  pub enough : least ≤ count
   pub within : count ≤ length moments
   pub reached : state ≡ state_after from (take count moments)
 
-abbrev pub Leaves : Status → State → State → List Moment → Type 0
-Leaves WriteFault state from moments = IsReached state from moments
-Leaves _ state from moments = state ≡ state_after from moments
+-- The server is left in the last state of the run, or after a write fault in one of its states, in which all is
+-- carried out that was asked for before the last read.
+abbrev pub IsLeft : Status → State → State → ℕ → List Moment → Type 0
+IsLeft WriteFault state from least moments = IsPast state from least moments
+IsLeft _ state from least moments = state ≡ state_after from moments
 
 -- A run of a server of this shape that ended so: what it took from the source, which lines of it were played,
 -- what was taken by the last read alone, what the sink gained, in which state the server is, and the laws that the
@@ -93,7 +96,7 @@ pub record Ended (shape : Shape) (status : Status) (source_old source_new sink_o
   pub plays : Plays (opening shape) items moments
   pub read : LastRead (opening shape) taken moments
   pub gains : Gains status sink_old sink_new (text_of (take read.count moments)) (text_of moments)
-  pub leaves : Leaves status state (opening shape) moments
+  pub leaves : IsLeft status state (opening shape) read.count moments
   pub laws : KeepsLaws (opening shape) moments
 
 -- The run was refused before anything was read, or it was played.

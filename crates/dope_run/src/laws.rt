@@ -1,6 +1,6 @@
 //! Laws of scripts, over the definitions alone. Each is a function without parameters whose contract is the
 //! law. docs/MACHINE.md, "Scripts", reads them in prose.
-ghost use Rattle.dope_run.specs.ScriptLaws.{BytesHaveAReading, ReadingsAreOne, PartsAreNotOff, ScriptsAreNotRefused};
+ghost use Rattle.dope_run.specs.ScriptLaws.{BytesHaveAReading, ReadingsAreOne, PartsAreNotOff, ScriptsAreNotRefused, LittleIsReadAhead};
 
 /// Any bytes are whole lines that are read, and then no whole line or one off the grammar.
 pub fn bytes_have_a_reading()
@@ -20,4 +20,10 @@ pub fn parts_are_not_off()
 /// A script inside the grammar and within the limit isn't refused: without a fault its run is done.
 pub fn scripts_are_not_refused()
     ensures { ScriptsAreNotRefused }
+{}
+
+/// What a run has taken behind the lines that were carried out and written before its last read is part of a line
+/// and the bytes of that read: at most 520 bytes and 4,096.
+pub fn little_is_read_ahead()
+    ensures { LittleIsReadAhead }
 {}
