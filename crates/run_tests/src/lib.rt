@@ -1,20 +1,19 @@
-//! Tests of the run of whole scripts: over a source and a sink in memory, from the words to the status, the
-//! text and the server that is kept.
+//! Tests of the run of whole scripts over a source and a sink in memory, of what the built program can't show: faults
+//! of single reads and writes, scripts cut at any byte, the order of reads and writes, and the server that is kept.
+//! What it can show stands in `cases/`.
 #![tactic(auto)]
 
 #[cfg(test)]
-mod drip;
+mod dumps;
 #[cfg(test)]
 mod faults;
 #[cfg(test)]
-mod limits;
+mod grammar;
 #[cfg(test)]
-mod panels;
+mod kept;
+#[cfg(test)]
+mod order;
 #[cfg(test)]
 mod played;
 #[cfg(test)]
-mod refusals;
-#[cfg(test)]
-mod transcripts;
-#[cfg(test)]
-mod widgets;
+mod reports;

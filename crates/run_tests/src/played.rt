@@ -1,8 +1,8 @@
 //! One run of a script in memory, as the tests make it.
 ghost use Rattle.std.specs.Prelude.{◌≤◌};
 
-use dope_run::{Server, Status, run};
-use outside_io::{MemSink, MemSource};
+use dope_run::{Server, Status, report, run};
+use outside_io::{MemSink, MemSource, Sink, Source};
 use std::alloc::Global;
 use std::test::Fail;
 
@@ -17,22 +17,35 @@ pub const SCRIPT: &str =
 pub const TRANSCRIPT: &str =
     "1 ok\n1 ok\n1 ok\n1 ok\ndirty 400\ndrew 0+100 left 300\ndrew 0+100 left 200\ndrew 0+100 left 100\ndrew 0+100 left 0\npixel 4\npixel 5\npixel 3\npixel 2\n";
 
-/// How a run ended: its status, what the sink holds, how many bytes the source has left, and the server kept.
+/// What a run came to: its status, what the sink holds, how many bytes the source has left, and whether a server was
+/// kept.
 #[derive(Drop)]
 pub struct Played {
     pub status: Status,
     pub held: Vec<u8>,
     pub left: usize,
-    pub kept: Option<Server>,
+    pub is_kept: bool,
 }
 
-/// The words of a line, between its spaces.
+/// The words of a line, between its spaces; `~` is an empty one.
 pub fn words_of(alloc: Global, line: &str) -> Result<Vec<String>, Fail> {
     let mut words = Vec::new(alloc);
     for word in line.split(' ') {
-        words.push(word.to_string(alloc)?)?;
+        words.push(if word == "~" { "" } else { word }.to_string(alloc)?)?;
     }
     Ok(words)
+}
+
+/// Runs the words over a source and a sink, and answers the status and whether a server was kept.
+pub fn run_over<S: Source, K: Sink>(
+    alloc: Global,
+    words: &[String],
+    source: &mut S,
+    sink: &mut K,
+) -> (Status, bool) {
+    let mut kept: Option<Server> = None;
+    let status = run(alloc, words, source, sink, &mut kept);
+    (status, kept.is_some())
 }
 
 /// Runs the words over the script. The source gives at most `step` bytes a read; it fails at the reads, and the
@@ -40,7 +53,7 @@ pub fn words_of(alloc: Global, line: &str) -> Result<Vec<String>, Fail> {
 pub fn play_with(
     alloc: Global,
     words: &str,
-    script: &str,
+    script: &[u8],
     step: usize,
     bad_reads: &[u64],
     bad_writes: &[u64],
@@ -48,23 +61,41 @@ pub fn play_with(
     requires { 1 ≤ step }
 {
     let words = words_of(alloc, words)?;
-    let mut source = MemSource::new(
-        script.as_bytes().to_vec(alloc)?,
-        step,
-        bad_reads.to_vec(alloc)?,
-    );
+    let mut source = MemSource::new(script.to_vec(alloc)?, step, bad_reads.to_vec(alloc)?);
     let mut sink = MemSink::new(alloc, 65536, bad_writes.to_vec(alloc)?)?;
-    let mut kept: Option<Server> = None;
-    let status = run(alloc, words.as_slice(), &mut source, &mut sink, &mut kept);
+    let (status, is_kept) = run_over(alloc, words.as_slice(), &mut source, &mut sink);
     Ok(Played {
         status,
         held: sink.held().to_vec(alloc)?,
         left: source.left().len(),
-        kept,
+        is_kept,
     })
 }
 
-/// Runs the words over the script with no fault.
-pub fn play(alloc: Global, words: &str, script: &str) -> Result<Played, Fail> {
-    play_with(alloc, words, script, 4096, &[], &[])
+/// Whether a run ended so: `done`, or the program's message without its name, as `bad script at line 2`.
+pub fn is_status(status: &Status, wanted: &str) -> bool {
+    let told = report(status);
+    match told.err.as_str().strip_prefix("dope: ") {
+        Some(message) => message.trim_end() == wanted,
+        None => wanted == "done",
+    }
+}
+
+/// The three columns of a table's row.
+pub fn columns(row: &str) -> Result<(&str, &str, &str), Fail> {
+    let (first, rest) = row.split_once(" | ").ok_or("a row has no second column")?;
+    let (second, third) = rest.split_once(" | ").ok_or("a row has no third column")?;
+    Ok((first, second, third))
+}
+
+/// The bytes that a column stands for: each `/` is a line feed, and `-` is no bytes.
+pub fn bytes_of(alloc: Global, column: &str) -> Result<Vec<u8>, Fail> {
+    let mut bytes = Vec::new(alloc);
+    if column == "-" {
+        return Ok(bytes);
+    }
+    for byte in column.as_bytes() {
+        bytes.push(if *byte == b'/' { b'\n' } else { *byte })?;
+    }
+    Ok(bytes)
 }
