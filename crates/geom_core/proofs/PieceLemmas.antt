@@ -217,9 +217,9 @@ pub AreDisjoint-parts : (rs ss : List Rect) → AreDisjoint (rs ++ ss) → AreDi
 AreDisjoint-parts [] ss h = (tt, h, λ x y. refl)
 AreDisjoint-parts (r ∷ rs) ss h =
     let rest = AreDisjoint-parts rs ss h.1 in (
-        (λ x y. let e = covers-append rs ss x y in let f = h.0 x y in let p = in_rect r x y in grind arith, rest.0),
-        rest.1,
-        λ x y. let e = covers-append rs ss x y in let f = h.0 x y in let g = rest.2 x y in let p = in_rect r x y in grind arith,
+      (λ x y. let e = covers-append rs ss x y in let f = h.0 x y in let p = in_rect r x y in grind arith, rest.0),
+      rest.1,
+      λ x y. let e = covers-append rs ss x y in let f = h.0 x y in let g = rest.2 x y in let p = in_rect r x y in grind arith,
     )
 
 pub HavePixels-parts : (rs ss : List Rect) → HavePixels (rs ++ ss) → HavePixels rs × HavePixels ss

@@ -67,7 +67,8 @@ fn takes(queue: &mut Queue, plain: &mut Vec<bool>, n: u32) -> bool
     ensures height { queue.new.height ≡ 16 }
 {
     match queue.next(n.max(1)) {
-        Some(rect) => set_plain(plain, rect, false) == rect.w * rect.h && rect.w * rect.h <= n.max(1),
+        Some(rect) => set_plain(plain, rect, false) == rect.w * rect.h
+            && rect.w * rect.h <= n.max(1),
         None => queue.count() == 0,
     }
 }

@@ -43,20 +43,38 @@ fn strips(alloc: Global) -> Result<Option<Rect>, Fail> {
 
 #[test]
 fn what_is_off_the_screen_is_not_counted(rt: HostRuntime) -> Result<(), Fail> {
-    let corner = Rect { x: -5, y: -5, w: 10, h: 10 };
+    let corner = Rect {
+        x: -5,
+        y: -5,
+        w: 10,
+        h: 10,
+    };
     assert_eq!(rt; added_twice(rt.alloc(), corner)?, (25, 25));
     Ok(())
 }
 
 #[test]
 fn a_rectangle_that_is_not_too_large_is_given_whole(rt: HostRuntime) -> Result<(), Fail> {
-    let rect = Rect { x: 3, y: 4, w: 20, h: 10 };
+    let rect = Rect {
+        x: 3,
+        y: 4,
+        w: 20,
+        h: 10,
+    };
     assert_eq!(rt; given(rt.alloc(), rect, 200)?, (Some(rect), None));
     Ok(())
 }
 
 #[test]
 fn strips_that_continue_each_other_are_given_as_one(rt: HostRuntime) -> Result<(), Fail> {
-    assert_eq!(rt; strips(rt.alloc())?, Some(Rect { x: 0, y: 0, w: 64, h: 64 }));
+    assert_eq!(rt;
+        strips(rt.alloc())?,
+        Some(Rect {
+            x: 0,
+            y: 0,
+            w: 64,
+            h: 64
+        })
+    );
     Ok(())
 }
