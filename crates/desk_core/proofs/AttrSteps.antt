@@ -9,12 +9,12 @@ use Rattle.kind_core.specs.declared.values.AttrRefusal.{AttrRefusal}
 use Rattle.kind_core.specs.declared.values.AttrRefusal.TheVariants.{NotOfKind, OutOfRange}
 use Rattle.kind_core.specs.Attributes.{domain_of, judged}
 use Rattle.cmd_words.specs.declared.replies.Refusal.{Refusal}
-use Rattle.desk_model.specs.Rows.{Row, with_attr}
-use Rattle.desk_model.specs.Nodes.{node_of}
+use Rattle.widget_model.specs.Rows.{Row, with_attr}
+use Rattle.widget_model.specs.Nodes.{node_of}
 use Rattle.desk_model.specs.Refusing.{first_refusal}
 use Rattle.desk_model.specs.AttrOptions.{told, attr_refusal, with_attrs}
-use Rattle.desk_model.specs.Widgets.{Widgets, edited}
-use Rattle.desk_model.specs.Fitting.{fits_rules}
+use Rattle.widget_model.specs.Widgets.{Widgets, edited}
+use Rattle.widget_model.specs.Fitting.{fits_rules}
 use Rattle.desk_core.proofs.Edits.{edited-edited}
 
 -- where nothing is refused, no option is

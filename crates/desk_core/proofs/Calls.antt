@@ -6,9 +6,9 @@ use Rattle.cmd_words.specs.declared.commands.Command.{Command}
 use Rattle.cmd_words.specs.declared.replies.Reply.{Reply}
 use Rattle.cmd_words.specs.declared.replies.Reply.TheVariants.{Done, Number}
 use Rattle.stack_core.specs.Stack.{IsStack}
-use Rattle.desk_model.specs.Shapes.{IsShape}
-use Rattle.desk_model.specs.Widgets.{Widgets, nodes, no_widgets, is_joined, joined, departed}
-use Rattle.desk_model.specs.Forest.{IsWidgets, is_client}
+use Rattle.scene_model.specs.Shapes.{IsShape}
+use Rattle.widget_model.specs.Widgets.{Widgets, nodes, no_widgets, is_joined, joined, departed}
+use Rattle.widget_model.specs.Forest.{IsWidgets, is_client}
 use Rattle.desk_model.specs.Desk.{Desk, opening_desk, is_connected}
 use Rattle.desk_model.specs.DeskFacts.{AreConnectedOnce, IsDesk}
 use Rattle.desk_model.specs.Refusing.{is_memory}

@@ -5,15 +5,15 @@ use Rattle.std.specs.List.{list_all, filter}
 use Rattle.std.specs.Option.{option_map_or}
 use Rattle.desk_core.specs.declared.setting.Setting.{Setting}
 use Rattle.stack_core.specs.Stack.{IsStack}
-use Rattle.desk_model.specs.Rows.{Row}
-use Rattle.desk_model.specs.Nodes.{Node, node_at}
-use Rattle.desk_model.specs.Linking.{is_window_kind}
-use Rattle.desk_model.specs.Widgets.{Widgets, nodes, departed}
-use Rattle.desk_model.specs.Forest.{IsWidgets}
+use Rattle.widget_model.specs.Rows.{Row}
+use Rattle.widget_model.specs.Nodes.{Node, node_at}
+use Rattle.widget_model.specs.Kinds.{is_window_kind}
+use Rattle.widget_model.specs.Widgets.{Widgets, nodes, departed}
+use Rattle.widget_model.specs.Forest.{IsWidgets}
 use Rattle.desk_model.specs.Clients.{without_client}
-use Rattle.desk_model.proofs.Naming.{rows, rows_of-departed}
+use Rattle.widget_model.proofs.Naming.{rows, rows_of-departed}
 use Rattle.desk_core.specs.Standing.{windows_at, desk_of, names_window, is_others, IsStanding}
-use Rattle.desk_model.specs.Fitting.{fits_rules}
+use Rattle.widget_model.specs.Fitting.{fits_rules}
 use Rattle.desk_model.specs.DeskFacts.{AreConnectedOnce}
 use Rattle.desk_core.proofs.Leaving.{windows_at-filter, node_at-others}
 

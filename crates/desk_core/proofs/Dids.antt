@@ -7,17 +7,17 @@ use Rattle.kind_core.specs.declared.kinds.Kind.{Kind}
 use Rattle.cmd_words.specs.declared.replies.Reply.{Reply}
 use Rattle.cmd_words.specs.declared.replies.Reply.TheVariants.{Refused}
 use Rattle.cmd_words.specs.declared.replies.Refusal.{Refusal}
-use Rattle.desk_model.specs.Rows.{Row}
-use Rattle.desk_model.specs.Nodes.{Node, node_of, node_at, id_named}
-use Rattle.desk_model.specs.Named.{with_named}
-use Rattle.desk_model.specs.Widgets.{Widgets, nodes, rows_of, row_at, with_row, edited}
-use Rattle.desk_model.specs.Forest.{IsWidgets}
+use Rattle.widget_model.specs.Rows.{Row}
+use Rattle.widget_model.specs.Nodes.{Node, node_of, node_at, id_named}
+use Rattle.widget_model.specs.Named.{with_named}
+use Rattle.widget_model.specs.Widgets.{Widgets, nodes, rows_of, row_at, with_row, edited}
+use Rattle.widget_model.specs.Forest.{IsWidgets}
 use Rattle.desk_model.specs.Desk.{Desk}
-use Rattle.desk_model.proofs.Naming.{rows, row_named-found, row_named-parts, rows-with_row}
+use Rattle.widget_model.proofs.Naming.{rows, row_named-found, row_named-parts, rows-with_row}
 use Rattle.tree_core.proofs.ForestLemmas.{nodes-with_row}
-use Rattle.desk_model.specs.Linking.{is_window_kind}
+use Rattle.widget_model.specs.Kinds.{is_window_kind}
 use Rattle.desk_core.specs.Standing.{windows_at, desk_of, names_window, IsStanding}
-use Rattle.desk_model.specs.Fitting.{fits_rules}
+use Rattle.widget_model.specs.Fitting.{fits_rules}
 use Rattle.desk_model.specs.DeskFacts.{AreConnectedOnce}
 use Rattle.desk_core.specs.Did.{Did, DidAll, IsFound, with_rows}
 

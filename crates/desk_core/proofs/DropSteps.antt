@@ -8,18 +8,18 @@ use Rattle.cmd_words.specs.declared.replies.Reply.{Reply}
 use Rattle.cmd_words.specs.declared.replies.Reply.TheVariants.{Done}
 use Rattle.cmd_words.specs.declared.replies.Refusal.TheVariants.{InUse}
 use Rattle.stack_core.specs.Stack.{holds_key}
-use Rattle.desk_model.specs.Rows.{Row}
-use Rattle.desk_model.specs.Nodes.{node_of, node_at}
-use Rattle.desk_model.specs.Named.{has_name, row_named, without_named}
-use Rattle.desk_model.specs.Trees.{is_used}
-use Rattle.desk_model.specs.Widgets.{Widgets, nodes, rows_of, without_row, removed}
-use Rattle.desk_model.specs.Forest.{IsWidgets}
+use Rattle.widget_model.specs.Rows.{Row}
+use Rattle.widget_model.specs.Nodes.{node_of, node_at}
+use Rattle.widget_model.specs.Named.{has_name, row_named, without_named}
+use Rattle.widget_model.specs.Trees.{is_used}
+use Rattle.widget_model.specs.Widgets.{Widgets, nodes, rows_of, without_row, removed}
+use Rattle.widget_model.specs.Forest.{IsWidgets}
 use Rattle.desk_model.specs.Desk.{Desk, is_open}
 use Rattle.desk_model.specs.Refusing.{when, first_refusal, outcome, unless_there}
 use Rattle.desk_model.specs.Making.{drop_effect, step_drop}
-use Rattle.desk_model.proofs.Naming.{rows, rows-without_row}
+use Rattle.widget_model.proofs.Naming.{rows, rows-without_row}
 use Rattle.desk_core.specs.Standing.{windows_at, desk_of, names_window, IsStanding}
-use Rattle.desk_model.specs.Fitting.{fits_rules}
+use Rattle.widget_model.specs.Fitting.{fits_rules}
 use Rattle.desk_core.specs.Did.{DidAll, TellsAll, IsFound}
 use Rattle.desk_core.proofs.OpenSteps.{is_open-holds_key}
 

@@ -1,8 +1,8 @@
 -- One change after another, and changes that are none.
 use Rattle.std.proofs.Common.{◌≡◌, ℕ, Bool, true, false, cond, nat_eq, List, [], ◌∷◌, Some, refl, ap}
 use Rattle.std.specs.Option.{option_map}
-use Rattle.desk_model.specs.Rows.{Row}
-use Rattle.desk_model.specs.Widgets.{Widgets, row_at, row_kind, with_row, edited}
+use Rattle.widget_model.specs.Rows.{Row}
+use Rattle.widget_model.specs.Widgets.{Widgets, row_at, row_kind, with_row, edited}
 
 with_row-same : (es : List (ℕ × Row)) (id : ℕ) (change : Row → Row) → ((row : Row) → change row ≡ row) → with_row id change es ≡ es
 with_row-same [] id change same = refl

@@ -12,11 +12,11 @@ use Rattle.cmd_words.specs.declared.replies.Refusal.TheVariants.{WrongKind, BadV
 use Rattle.tree_core.specs.declared.refusal.AttachRefusal.{AttachRefusal}
 use Rattle.tree_core.specs.declared.refusal.AttachRefusal.TheVariants as attach
 use Rattle.tree_core.specs.Refusals.{attach_refusal, attach_answer}
-use Rattle.desk_model.specs.Rows.{Row, with_spot}
-use Rattle.desk_model.specs.Widgets.{Widgets, rows_of}
-use Rattle.desk_model.specs.Named.{row_named, is_kind_of}
-use Rattle.desk_model.specs.Trees.{hangs, has_children, can_be_child, child_in, depth_of, height_of, is_above, most_levels}
-use Rattle.desk_model.specs.Planted.{is_cell, takes_cell}
+use Rattle.widget_model.specs.Rows.{Row, with_spot}
+use Rattle.widget_model.specs.Widgets.{Widgets, rows_of}
+use Rattle.widget_model.specs.Named.{row_named, is_kind_of}
+use Rattle.widget_model.specs.Trees.{hangs, has_children, can_be_child, child_in, depth_of, height_of, is_above, most_levels}
+use Rattle.widget_model.specs.Planted.{is_cell, takes_cell}
 use Rattle.desk_model.specs.Desk.{Desk}
 use Rattle.desk_model.specs.Refusing.{when, first_refusal, outcome, unless_there}
 use Rattle.desk_model.specs.PlaceOptions.{unless_within, last_cell, place_refusal, places_refusal, first_cell, with_place, with_places, cell_given}

@@ -7,13 +7,13 @@ use Rattle.std.specs.Option.{option_map, option_and_then}
 use Rattle.std.specs.Str.{bytes_eq}
 use Rattle.kind_core.specs.declared.kinds.Kind.{Kind}
 use Rattle.stack_core.specs.Stack.{holds_key}
-use Rattle.desk_model.specs.Rows.{Row}
-use Rattle.desk_model.specs.Nodes.{id_named}
-use Rattle.desk_model.specs.Named.{row_named, is_kind_of}
-use Rattle.desk_model.specs.Trees.{parent_of, root_in, root_of, most_levels}
-use Rattle.desk_model.specs.Places.{root_id}
-use Rattle.desk_model.specs.Widgets.{Widgets, nodes, rows_of, row_at}
-use Rattle.desk_model.specs.Linking.{is_window_kind}
+use Rattle.widget_model.specs.Rows.{Row}
+use Rattle.widget_model.specs.Nodes.{id_named}
+use Rattle.widget_model.specs.Named.{row_named, is_kind_of}
+use Rattle.widget_model.specs.Trees.{parent_of, root_in, root_of, most_levels}
+use Rattle.widget_model.specs.Places.{root_id}
+use Rattle.widget_model.specs.Widgets.{Widgets, nodes, rows_of, row_at}
+use Rattle.widget_model.specs.Kinds.{is_window_kind}
 use Rattle.desk_model.specs.Desk.{is_window}
 use Rattle.desk_model.specs.Ending.{is_in_window}
 use Rattle.desk_core.specs.declared.setting.Setting.{Setting}

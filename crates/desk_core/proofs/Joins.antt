@@ -8,8 +8,8 @@ use Rattle.std.specs.List.{list_all, range_with_len}
 use Rattle.stack_core.specs.Stack.{holds_key, AreDistinct}
 use Rattle.desk_model.specs.Clients.{free_from}
 use Rattle.desk_model.specs.DeskFacts.{AreConnectedOnce}
-use Rattle.desk_model.specs.Forest.{is_client}
-use Rattle.desk_model.specs.Widgets.{is_joined}
+use Rattle.widget_model.specs.Forest.{is_client}
+use Rattle.widget_model.specs.Widgets.{is_joined}
 use Rattle.desk_core.specs.Joined.{IsJoined}
 use Rattle.desk_core.proofs.Counting.{no_longer, range_holds}
 

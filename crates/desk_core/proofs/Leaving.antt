@@ -6,9 +6,9 @@ use Rattle.std.specs.List.{list_all, filter}
 use Rattle.std.specs.Option.{option_map}
 use Rattle.stack_core.specs.Stack.{without}
 use Rattle.stack_core.proofs.Keys.{AreDistinct-without}
-use Rattle.desk_model.specs.Rows.{Row}
-use Rattle.desk_model.specs.Nodes.{Node, node_of, node_at}
-use Rattle.desk_model.specs.Widgets.{nodes, row_at}
+use Rattle.widget_model.specs.Rows.{Row}
+use Rattle.widget_model.specs.Nodes.{Node, node_of, node_at}
+use Rattle.widget_model.specs.Widgets.{nodes, row_at}
 use Rattle.tree_core.proofs.ForestLemmas.{node_at-nodes}
 use Rattle.desk_core.specs.Joined.{IsJoined}
 use Rattle.desk_core.proofs.Joins.{distinct-once, once-distinct}

@@ -7,16 +7,16 @@ use Rattle.std.specs.Str.{bytes_eq}
 use Rattle.kind_core.specs.declared.kinds.Kind.{Kind}
 use Rattle.kind_core.specs.declared.shapes.Cell.{Cell}
 use Rattle.cmd_words.specs.declared.replies.Refusal.TheVariants.{NotHere}
-use Rattle.desk_model.specs.Rows.{Row, with_spot}
-use Rattle.desk_model.specs.Nodes.{id_named}
-use Rattle.desk_model.specs.Named.{row_named}
-use Rattle.desk_model.specs.Places.{parent_id}
-use Rattle.desk_model.specs.Widgets.{Widgets, nodes, rows_of, row_at}
-use Rattle.desk_model.specs.Forest.{IsWidgets}
+use Rattle.widget_model.specs.Rows.{Row, with_spot}
+use Rattle.widget_model.specs.Nodes.{id_named}
+use Rattle.widget_model.specs.Named.{row_named}
+use Rattle.widget_model.specs.Places.{parent_id}
+use Rattle.widget_model.specs.Widgets.{Widgets, nodes, rows_of, row_at}
+use Rattle.widget_model.specs.Forest.{IsWidgets}
 use Rattle.desk_model.specs.Desk.{Desk}
 use Rattle.desk_model.specs.Refusing.{when, first_refusal, outcome, unless_there}
 use Rattle.desk_model.specs.Hanging.{lift_effect, step_lift}
-use Rattle.desk_model.proofs.Naming.{row_named-found, row_named-parts}
+use Rattle.widget_model.proofs.Naming.{row_named-found, row_named-parts}
 use Rattle.desk_core.specs.Did.{IsFound}
 use Rattle.desk_core.proofs.Dids.{found-parts}
 

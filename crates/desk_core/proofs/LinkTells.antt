@@ -3,12 +3,12 @@ use Rattle.std.proofs.Common.{◌≡◌, ℕ, Bool, true, false, cond, nat_eq, L
 use Rattle.std.proofs.lemmas.Bool.{true≢false, and_parts}
 use Rattle.std.specs.Option.{option_and_then}
 use Rattle.kind_core.specs.declared.kinds.Kind.{Kind}
-use Rattle.desk_model.specs.Rows.{Row}
-use Rattle.desk_model.specs.Nodes.{Node, is_named, id_named, kind_named}
-use Rattle.desk_model.specs.Links.{ties, is_variable, leads, all_lead, linked_id}
-use Rattle.desk_model.specs.Widgets.{Widgets, nodes, rows_of, row_at}
-use Rattle.desk_model.specs.Forest.{IsWidgets}
-use Rattle.desk_model.proofs.Naming.{row_named-found, row_named-parts}
+use Rattle.widget_model.specs.Rows.{Row}
+use Rattle.widget_model.specs.Nodes.{Node, is_named, id_named, kind_named}
+use Rattle.widget_model.specs.Links.{ties, is_variable, leads, all_lead, linked_id}
+use Rattle.widget_model.specs.Widgets.{Widgets, nodes, rows_of, row_at}
+use Rattle.widget_model.specs.Forest.{IsWidgets}
+use Rattle.widget_model.proofs.Naming.{row_named-found, row_named-parts}
 use Rattle.desk_core.specs.Did.{IsFound}
 use Rattle.desk_core.proofs.Dids.{found-parts}
 

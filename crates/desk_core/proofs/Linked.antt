@@ -4,14 +4,14 @@ use Rattle.std.specs.List.{list_all}
 use Rattle.std.specs.Option.{option_map}
 use Rattle.kind_core.specs.declared.kinds.Kind.{Kind}
 use Rattle.kind_core.specs.declared.kinds.Kind.TheVariants.{Window, Grid, Frame, Button, Label, Entry, Scale, Scrollbar, Variable, VScreen}
-use Rattle.desk_model.specs.Rows.{Row}
-use Rattle.desk_model.specs.Nodes.{kind_named}
-use Rattle.desk_model.specs.Named.{has_name, row_named, is_kind_of}
-use Rattle.desk_model.specs.Widgets.{nodes}
-use Rattle.desk_model.specs.Links.{ties, is_variable, leads, all_lead}
-use Rattle.desk_model.specs.Linking.{is_variable_kind}
+use Rattle.widget_model.specs.Rows.{Row}
+use Rattle.widget_model.specs.Nodes.{kind_named}
+use Rattle.widget_model.specs.Named.{has_name, row_named, is_kind_of}
+use Rattle.widget_model.specs.Widgets.{nodes}
+use Rattle.widget_model.specs.Links.{ties, is_variable, leads, all_lead}
+use Rattle.widget_model.specs.Kinds.{is_variable_kind}
 use Rattle.desk_model.specs.DeskFacts.{links_right}
-use Rattle.desk_model.proofs.Naming.{rows}
+use Rattle.widget_model.proofs.Naming.{rows}
 
 -- the kind of a name is that of the name's row
 kind_named-rows : (es : List (ℕ × Row)) (client : ℕ) (name : List ℕ) → kind_named (nodes es) client name ≡ option_map (λ (row : Row). row.kind) (row_named (rows es) client name)

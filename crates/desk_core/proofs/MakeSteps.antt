@@ -13,16 +13,16 @@ use Rattle.cmd_words.specs.declared.replies.Refusal.TheVariants.{Memory, NameTak
 use Rattle.tree_core.specs.declared.refusal.AddRefusal.{AddRefusal}
 use Rattle.tree_core.specs.declared.refusal.AddRefusal.TheVariants as add
 use Rattle.tree_core.specs.Refusals.{add_refusal, AnswersRefusal}
-use Rattle.desk_model.specs.Rows.{Row, new_row, attr_of}
-use Rattle.desk_model.specs.Nodes.{node_of, node_at, id_named, any_kind, counts_with}
-use Rattle.desk_model.specs.Named.{has_name, row_named, rows_counted}
-use Rattle.desk_model.specs.Widgets.{Widgets, nodes, rows_of, with_new}
+use Rattle.widget_model.specs.Rows.{Row, new_row, attr_of}
+use Rattle.widget_model.specs.Nodes.{node_of, node_at, id_named, any_kind, counts_with}
+use Rattle.widget_model.specs.Named.{has_name, row_named, rows_counted}
+use Rattle.widget_model.specs.Widgets.{Widgets, nodes, rows_of, with_new}
 use Rattle.desk_model.specs.Desk.{Desk}
 use Rattle.desk_model.specs.Refusing.{when, first_refusal, outcome, unless_there}
 use Rattle.desk_model.specs.AttrOptions.{attrs_refusal}
 use Rattle.desk_model.specs.Making.{reply_with, set_effect, new_refusal, new_effect, step_new, step_set, step_get}
-use Rattle.desk_model.proofs.Naming.{rows, rows-push, count_of-nodes}
-use Rattle.desk_model.specs.Fitting.{fits_rules}
+use Rattle.widget_model.proofs.Naming.{rows, rows-push, count_of-nodes}
+use Rattle.widget_model.specs.Fitting.{fits_rules}
 use Rattle.desk_model.specs.Refusing.{is_memory}
 use Rattle.desk_core.specs.Did.{Did, with_rows}
 use Rattle.desk_core.specs.Told.{told_add}

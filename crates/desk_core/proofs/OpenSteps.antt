@@ -12,15 +12,16 @@ use Rattle.cmd_words.specs.declared.replies.Reply.TheVariants.{Done, Refused}
 use Rattle.cmd_words.specs.declared.replies.Refusal.{Refusal}
 use Rattle.cmd_words.specs.declared.replies.Refusal.TheVariants.{AlreadyOpen}
 use Rattle.stack_core.specs.Stack.{holds_key, IsStack}
-use Rattle.desk_model.specs.Rows.{Row}
-use Rattle.desk_model.specs.Nodes.{Node, node_of, id_named, node_at, count_of, counts_with}
-use Rattle.desk_model.specs.Named.{has_name, row_named}
-use Rattle.desk_model.specs.Widgets.{Widgets, nodes, row_at, is_joined}
-use Rattle.desk_model.specs.Forest.{HaveOwnNames, is_client}
+use Rattle.widget_model.specs.Rows.{Row}
+use Rattle.widget_model.specs.Nodes.{Node, node_of, id_named, node_at, count_of, counts_with}
+use Rattle.widget_model.specs.Named.{has_name, row_named}
+use Rattle.widget_model.specs.Widgets.{Widgets, nodes, row_at, is_joined}
+use Rattle.widget_model.specs.Forest.{HaveOwnNames, is_client}
 use Rattle.desk_model.specs.Desk.{Desk, is_window, is_open}
 use Rattle.desk_model.specs.Refusing.{when, first_refusal, outcome, unless_there, unless_kind}
-use Rattle.desk_model.specs.Linking.{is_window_kind, open_effect, step_open}
-use Rattle.desk_model.proofs.Naming.{has_name-parts, has_name-own, id_named-row}
+use Rattle.desk_model.specs.Linking.{open_effect, step_open}
+use Rattle.widget_model.specs.Kinds.{is_window_kind}
+use Rattle.widget_model.proofs.Naming.{has_name-parts, has_name-own, id_named-row}
 use Rattle.tree_core.proofs.ForestLemmas.{node_at-nodes, joined_in_range}
 use Rattle.desk_core.specs.Standing.{title_at, windows_at, desk_of, names_window, IsStanding}
 use Rattle.desk_core.specs.Did.{DidAll, IsFound}

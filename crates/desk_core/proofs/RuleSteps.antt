@@ -9,18 +9,18 @@ use Rattle.cmd_words.specs.declared.replies.Reply.{Reply}
 use Rattle.cmd_words.specs.declared.replies.Reply.TheVariants.{Done}
 use Rattle.cmd_words.specs.declared.replies.Refusal.{Refusal}
 use Rattle.cmd_words.specs.declared.replies.Refusal.TheVariants.{BadValue}
-use Rattle.desk_model.specs.Rows.{Row, column_rule_of, row_rule_of, with_column_rule, with_row_rule}
-use Rattle.desk_model.specs.Nodes.{node_of, node_at}
-use Rattle.desk_model.specs.Named.{with_named}
-use Rattle.desk_model.specs.Widgets.{Widgets, nodes, rows_of, row_at, row_kind, IsGrid, with_row, edited}
-use Rattle.desk_model.specs.Forest.{HaveOwnNumbers, IsWidgets}
+use Rattle.widget_model.specs.Rows.{Row, column_rule_of, row_rule_of, with_column_rule, with_row_rule}
+use Rattle.widget_model.specs.Nodes.{node_of, node_at}
+use Rattle.widget_model.specs.Named.{with_named}
+use Rattle.widget_model.specs.Widgets.{Widgets, nodes, rows_of, row_at, row_kind, IsGrid, with_row, edited}
+use Rattle.widget_model.specs.Forest.{HaveOwnNumbers, IsWidgets}
 use Rattle.desk_model.specs.Desk.{Desk}
 use Rattle.desk_model.specs.Refusing.{when, first_refusal, outcome}
 use Rattle.desk_model.specs.PlaceOptions.{unless_within}
 use Rattle.desk_model.specs.ConfigOptions.{config_refusal, configs_refusal, with_config, with_configs}
 use Rattle.desk_model.specs.Hanging.{config_refusal as ruling_refusal, with_column, with_line, column_effect, line_effect, step_column, step_line}
-use Rattle.desk_model.proofs.Naming.{rows}
-use Rattle.desk_model.specs.Fitting.{fits_rule, fits_rules}
+use Rattle.widget_model.proofs.Naming.{rows}
+use Rattle.widget_model.specs.Fitting.{fits_rule, fits_rules}
 use Rattle.desk_core.specs.Did.{Did, with_rows}
 use Rattle.desk_core.specs.Ruling.{IsRuled}
 use Rattle.desk_core.proofs.Dids.{done_did}

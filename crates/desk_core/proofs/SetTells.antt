@@ -11,7 +11,7 @@ use Rattle.std.proofs.lemmas.Slice.Eq.{bytes_eq-Decides}
 use Rattle.kind_core.specs.declared.kinds.Attr.{Attr}
 use Rattle.kind_core.specs.declared.values.Value as value
 use Rattle.kind_core.specs.declared.values.Value.TheVariants.{Number, Words}
-use Rattle.desk_model.specs.Rows.{Row, attr_place, attr_of, with_attr}
+use Rattle.widget_model.specs.Rows.{Row, attr_place, attr_of, with_attr}
 use Rattle.desk_model.specs.AttrOptions.{with_attrs}
 use Rattle.desk_core.specs.Given.{values_given}
 

@@ -5,12 +5,12 @@ use Rattle.std.specs.List.{list_all}
 use Rattle.std.specs.Option.{option_map, option_eq}
 use Rattle.kind_core.specs.declared.kinds.Kind.{Kind}
 use Rattle.cmd_words.specs.declared.replies.Reply.{Reply}
-use Rattle.desk_model.specs.Rows.{Row}
-use Rattle.desk_model.specs.Named.{with_named}
-use Rattle.desk_model.specs.Widgets.{Widgets, nodes, rows_of, row_at, with_row, edited}
-use Rattle.desk_model.specs.Forest.{IsWidgets}
+use Rattle.widget_model.specs.Rows.{Row}
+use Rattle.widget_model.specs.Named.{with_named}
+use Rattle.widget_model.specs.Widgets.{Widgets, nodes, rows_of, row_at, with_row, edited}
+use Rattle.widget_model.specs.Forest.{IsWidgets}
 use Rattle.desk_model.specs.Desk.{Desk}
-use Rattle.desk_model.proofs.Naming.{rows-with_row, with_named-kept, with_named-same}
+use Rattle.widget_model.proofs.Naming.{rows-with_row, with_named-kept, with_named-same}
 use Rattle.desk_core.specs.Standing.{names_window}
 use Rattle.desk_core.specs.Did.{Did, IsFound, TellsRows, TellsAll}
 use Rattle.desk_core.proofs.Dids.{titles_kept}

@@ -3,13 +3,13 @@ use Rattle.std.proofs.Common.{◌≡◌, ℕ, true, List, [], ◌∷◌, Option,
 use Rattle.std.proofs.lemmas.Bool.{true≢false, and_parts, and_from}
 use Rattle.std.specs.List.{list_all}
 use Rattle.std.specs.Option.{option_map}
-use Rattle.desk_model.specs.Rows.{Row}
-use Rattle.desk_model.specs.Nodes.{node_of, node_at}
-use Rattle.desk_model.specs.Named.{row_named, is_kind_of}
-use Rattle.desk_model.specs.Widgets.{Widgets, nodes, row_at, rows_of}
-use Rattle.desk_model.specs.Forest.{IsForest}
-use Rattle.desk_model.specs.Linking.{is_window_kind}
-use Rattle.desk_model.proofs.Naming.{id_named-row}
+use Rattle.widget_model.specs.Rows.{Row}
+use Rattle.widget_model.specs.Nodes.{node_of, node_at}
+use Rattle.widget_model.specs.Named.{row_named, is_kind_of}
+use Rattle.widget_model.specs.Widgets.{Widgets, nodes, row_at, rows_of}
+use Rattle.widget_model.specs.Forest.{IsForest}
+use Rattle.widget_model.specs.Kinds.{is_window_kind}
+use Rattle.widget_model.proofs.Naming.{id_named-row}
 use Rattle.tree_core.proofs.ForestLemmas.{node_at-nodes}
 use Rattle.tree_core.proofs.Listed.{row_named-row}
 use Rattle.desk_core.specs.Standing.{title_at, windows_at, names_window}

@@ -6,15 +6,17 @@ use Rattle.std.specs.Option.{option_map}
 use Rattle.kind_core.specs.declared.kinds.Attr.TheVariants.{X, Y, W, H}
 use Rattle.desk_core.specs.declared.setting.Setting.{Setting}
 use Rattle.kind_core.specs.declared.values.Value as value
-use Rattle.desk_model.specs.Rows.{Row, attr_of}
-use Rattle.desk_model.specs.Nodes.{Node, node_of, node_at}
-use Rattle.desk_model.specs.Named.{row_named}
-use Rattle.desk_model.specs.Widgets.{Widgets, nodes, rows_of, row_at}
-use Rattle.desk_model.proofs.Naming.{row_named-found, id_named-row}
+use Rattle.widget_model.specs.Rows.{Row, attr_of}
+use Rattle.widget_model.specs.Nodes.{Node, node_of, node_at}
+use Rattle.widget_model.specs.Named.{row_named}
+use Rattle.widget_model.specs.Widgets.{Widgets, nodes, rows_of, row_at}
+use Rattle.widget_model.proofs.Naming.{row_named-found, id_named-row}
 use Rattle.tree_core.proofs.ForestLemmas.{node_at-nodes}
 use Rattle.desk_core.specs.Standing.{title_at, windows_at, desk_of, names_window, IsStanding}
-use Rattle.desk_model.specs.declared.window.Window.{Window}
-use Rattle.desk_model.specs.OpenWindows.{number_in, open_windows, place_of_window, place_of_row}
+use Rattle.scene_model.specs.declared.window.Window.{Window}
+use Rattle.scene_model.specs.OpenWindows.{number_in, place_of_window, place_of_row}
+use Rattle.scene_model.specs.OpenWindows.{window_places}
+use Rattle.desk_model.specs.Seen.{open_windows}
 
 -- a place as its sides
 abbrev pub sides : Window → ℤ × ℤ × ℕ × ℕ
@@ -69,7 +71,7 @@ sides_of_row (Some row) x y w h a b d e = cc
 
 -- the place of the window with that index is that of its number's row
 pub open_windows-key : (setting : Setting) (w : Widgets) (clients : List ℕ) (keys : List ℕ) (i key : ℕ) → IsStanding clients w keys → slice_get keys i ≡ Some key → slice_get (open_windows (desk_of setting w keys)) i ≡ Some (place_of_row (row_at w.entries key))
-unfolding open_windows
+unfolding open_windows window_places
 open_windows-key setting w clients keys i key kept there =
     let ns = nodes w.entries in
     let found : slice_get (windows_at ns keys) i ≡ Some (title_at ns key) = slice_get-map (title_at ns) keys i ∙ ap (option_map (title_at ns)) there in
@@ -78,7 +80,7 @@ open_windows-key setting w clients keys i key kept there =
     ∙ ap (λ (o : Option Row). Some (place_of_row o)) (title_row w clients keys key kept (window_live w keys i key kept.windows there))
 
 pub open_windows-past : (setting : Setting) (w : Widgets) (keys : List ℕ) (i : ℕ) → slice_get keys i ≡ None → slice_get (open_windows (desk_of setting w keys)) i ≡ None
-unfolding open_windows
+unfolding open_windows window_places
 open_windows-past setting w keys i past =
     let ns = nodes w.entries in
     let none : slice_get (windows_at ns keys) i ≡ None = slice_get-map (title_at ns) keys i ∙ ap (option_map (title_at ns)) past in

@@ -4,13 +4,13 @@ use Rattle.std.specs.List.{list_all}
 use Rattle.kind_core.specs.declared.kinds.Kind.{Kind}
 use Rattle.desk_core.specs.declared.setting.Setting.{Setting}
 use Rattle.cmd_words.specs.declared.replies.Reply.{Reply}
-use Rattle.desk_model.specs.Rows.{Row}
-use Rattle.desk_model.specs.Nodes.{node_at, id_named}
-use Rattle.desk_model.specs.Named.{row_named}
-use Rattle.desk_model.specs.Widgets.{Widgets, nodes, rows_of, row_at}
+use Rattle.widget_model.specs.Rows.{Row}
+use Rattle.widget_model.specs.Nodes.{node_at, id_named}
+use Rattle.widget_model.specs.Named.{row_named}
+use Rattle.widget_model.specs.Widgets.{Widgets, nodes, rows_of, row_at}
 use Rattle.desk_model.specs.Desk.{Desk}
 use Rattle.desk_core.specs.Standing.{windows_at, desk_of, IsStanding}
-use Rattle.desk_model.specs.Fitting.{fits_rules}
+use Rattle.widget_model.specs.Fitting.{fits_rules}
 
 -- the desk with other rows
 abbrev pub with_rows : List Row → Desk → Desk

@@ -1,7 +1,7 @@
 -- What finding a client's widget answers.
 use Rattle.std.specs.Prelude.{ℕ, ◌≡◌, List, Option, Some, None}
-use Rattle.desk_model.specs.Widgets.{Widgets, rows_of}
-use Rattle.desk_model.specs.Named.{row_named}
+use Rattle.widget_model.specs.Widgets.{Widgets, rows_of}
+use Rattle.widget_model.specs.Named.{row_named}
 use Rattle.desk_core.specs.declared.finding.Found.{Found}
 use Rattle.desk_core.specs.Did.{IsFound}
 

@@ -5,9 +5,9 @@ use Rattle.cmd_words.specs.declared.commands.ConfigOption.{ConfigOption}
 use Rattle.cmd_words.specs.declared.replies.Refusal.{Refusal}
 use Rattle.desk_model.specs.ConfigOptions.{configs_refusal}
 use Rattle.desk_model.specs.Hanging.{config_refusal}
-use Rattle.desk_model.specs.Widgets.{Widgets, rows_of}
+use Rattle.widget_model.specs.Widgets.{Widgets, rows_of}
 use Rattle.desk_model.specs.Desk.{Desk}
-use Rattle.desk_model.specs.Rows.{IsIndex}
+use Rattle.widget_model.specs.Rows.{IsIndex}
 use Rattle.desk_core.specs.Did.{IsFound, with_rows}
 use Rattle.desk_core.specs.declared.rules.Ruled.{Ruled}
 

@@ -4,12 +4,12 @@ use Rattle.std.specs.List.{list_all}
 use Rattle.std.specs.Option.{option_map_or}
 use Rattle.desk_core.specs.declared.setting.Setting.{Setting}
 use Rattle.stack_core.specs.Stack.{IsStack}
-use Rattle.desk_model.specs.Nodes.{Node, node_at}
-use Rattle.desk_model.specs.Widgets.{Widgets, nodes, rows_of}
-use Rattle.desk_model.specs.Forest.{IsWidgets}
-use Rattle.desk_model.specs.Fitting.{fits_rules}
+use Rattle.widget_model.specs.Nodes.{Node, node_at}
+use Rattle.widget_model.specs.Widgets.{Widgets, nodes, rows_of}
+use Rattle.widget_model.specs.Forest.{IsWidgets}
+use Rattle.widget_model.specs.Fitting.{fits_rules}
 use Rattle.desk_model.specs.DeskFacts.{AreConnectedOnce, IsDesk}
-use Rattle.desk_model.specs.Linking.{is_window_kind}
+use Rattle.widget_model.specs.Kinds.{is_window_kind}
 use Rattle.desk_model.specs.Desk.{Desk}
 
 pub record Standing : Type 0 where

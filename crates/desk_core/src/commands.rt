@@ -1,7 +1,7 @@
 //! Which command is answered by which function.
 
 ghost use Rattle.std.specs.Prelude.{◌≡◌, true, IfSome};
-ghost use Rattle.desk_model.specs.Widgets.{is_joined};
+ghost use Rattle.widget_model.specs.Widgets.{is_joined};
 ghost use Rattle.desk_model.specs.Commands.{is_built, row_of};
 ghost use Rattle.desk_core.specs.Standing.{IsStanding};
 ghost use Rattle.desk_model.specs.Refusing.{is_memory};

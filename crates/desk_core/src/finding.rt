@@ -1,5 +1,5 @@
 ghost use Rattle.std.specs.Prelude.{◌≡◌};
-ghost use Rattle.desk_model.specs.Forest.{IsWidgets};
+ghost use Rattle.widget_model.specs.Forest.{IsWidgets};
 ghost use Rattle.desk_core.specs.Finding.{AnswersFound};
 
 use kind_core::{Kind, Name};

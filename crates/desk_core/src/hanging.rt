@@ -1,10 +1,10 @@
 //! The commands that hang one widget in another, take it out, and remove it.
 
 ghost use Rattle.std.specs.Prelude.{◌≡◌, ◌&&◌};
-ghost use Rattle.desk_model.specs.Trees.{has_children, can_be_child};
+ghost use Rattle.widget_model.specs.Trees.{has_children, can_be_child};
 ghost use Rattle.desk_model.specs.Hanging.{step_place, step_lift};
 ghost use Rattle.desk_model.specs.Making.{step_drop};
-ghost use Rattle.desk_model.specs.Forest.{IsWidgets};
+ghost use Rattle.widget_model.specs.Forest.{IsWidgets};
 ghost use Rattle.desk_core.specs.Standing.{IsStanding};
 ghost use Rattle.desk_core.specs.Did.{Did, DidAll, TellsRows, TellsAll};
 ghost use Rattle.desk_core.specs.Told.{told_attach};

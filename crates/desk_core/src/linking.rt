@@ -2,8 +2,9 @@
 
 ghost use Rattle.std.specs.Prelude.{◌≡◌, ◌↔◌, ◌&&◌, Some, IsTrue};
 ghost use Rattle.std.specs.Option.{option_map};
-ghost use Rattle.desk_model.specs.Forest.{IsWidgets};
-ghost use Rattle.desk_model.specs.Linking.{can_link, is_variable_kind, step_link, step_unlink, step_bind};
+ghost use Rattle.widget_model.specs.Forest.{IsWidgets};
+ghost use Rattle.desk_model.specs.Linking.{step_link, step_unlink, step_bind};
+ghost use Rattle.widget_model.specs.Kinds.{can_link, is_variable_kind};
 ghost use Rattle.desk_core.specs.Did.{Did, TellsRows};
 
 use crate::answer::Answer;

@@ -4,8 +4,8 @@ ghost use Rattle.std.specs.Prelude.{◌≡◌, ◌↔◌, ◌≤◌, true, false
 ghost use Rattle.desk_model.specs.AttrOptions.{attr_refusal, attrs_refusal, with_attrs, told};
 ghost use Rattle.desk_model.specs.Making.{step_new, step_set, step_get, reply_with};
 ghost use Rattle.std.specs.Option.{option_map};
-ghost use Rattle.desk_model.specs.Widgets.{is_joined, IsLive, row_at, row_kind, edited};
-ghost use Rattle.desk_model.specs.Forest.{IsWidgets};
+ghost use Rattle.widget_model.specs.Widgets.{is_joined, IsLive, row_at, row_kind, edited};
+ghost use Rattle.widget_model.specs.Forest.{IsWidgets};
 ghost use Rattle.desk_model.specs.Refusing.{is_memory};
 ghost use Rattle.desk_core.specs.Did.{Did, TellsRows};
 ghost use Rattle.desk_core.specs.Told.{told_add};

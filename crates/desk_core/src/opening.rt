@@ -3,9 +3,10 @@
 ghost use Rattle.std.specs.Prelude.{◌≡◌, Some, true, false, MatchOption};
 ghost use Rattle.std.specs.List.{list_all, filter};
 ghost use Rattle.stack_core.specs.Stack.{holds_key, IsStack};
-ghost use Rattle.desk_model.specs.Linking.{is_window_kind, step_open};
-ghost use Rattle.desk_model.specs.Widgets.{IsLive, row_at, nodes};
-ghost use Rattle.desk_model.specs.OpenWindows.{number_in, place_of_row};
+ghost use Rattle.desk_model.specs.Linking.{step_open};
+ghost use Rattle.widget_model.specs.Kinds.{is_window_kind};
+ghost use Rattle.widget_model.specs.Widgets.{IsLive, row_at, nodes};
+ghost use Rattle.scene_model.specs.OpenWindows.{number_in, place_of_row};
 ghost use Rattle.desk_core.specs.Standing.{IsStanding, names_window, is_others};
 ghost use Rattle.desk_core.specs.Did.{DidAll, TellsAll};
 

@@ -4,10 +4,10 @@ ghost use Rattle.std.specs.Prelude.{◌≡◌, true};
 ghost use Rattle.desk_model.specs.ConfigOptions.{config_refusal, configs_refusal, with_config, with_configs};
 ghost use Rattle.desk_model.specs.PlaceOptions.{unless_within};
 ghost use Rattle.desk_model.specs.Hanging.{is_grid, step_column, step_line};
-ghost use Rattle.desk_model.specs.Widgets.{rows_of};
-ghost use Rattle.desk_model.specs.Forest.{IsWidgets};
+ghost use Rattle.widget_model.specs.Widgets.{rows_of};
+ghost use Rattle.widget_model.specs.Forest.{IsWidgets};
 ghost use Rattle.std.specs.List.{list_all};
-ghost use Rattle.desk_model.specs.Fitting.{fits_rules};
+ghost use Rattle.widget_model.specs.Fitting.{fits_rules};
 ghost use Rattle.desk_core.specs.Did.{Did, TellsRows};
 ghost use Rattle.desk_core.specs.Ruling.{AnswersRuled};
 

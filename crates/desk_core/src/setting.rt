@@ -1,6 +1,6 @@
 //! What no row of a command touches: the shape and the pointer.
 
-use desk_model::{Pointer, Shape};
+use scene_model::{Pointer, Shape};
 
 /// A desk's fixed numbers and its pointer.
 #[derive(Clone, Copy)]

@@ -20,8 +20,8 @@ use Rattle.cmd_words.specs.declared.replies.Reply.{Reply}
 use Rattle.cmd_words.specs.declared.replies.Reply.TheVariants.{Done, Refused}
 use Rattle.cmd_words.specs.declared.replies.Refusal.{Refusal}
 use Rattle.cmd_words.specs.declared.replies.Refusal.TheVariants.{Memory, Full, NotConnected, Connected}
-use Rattle.desk_model.specs.Rows.{Row}
-use Rattle.desk_model.specs.Named.{row_named}
+use Rattle.widget_model.specs.Rows.{Row}
+use Rattle.widget_model.specs.Named.{row_named}
 use Rattle.desk_model.specs.Desk.{Desk, is_connected}
 use Rattle.desk_model.specs.Refusing.{when, first_refusal, outcome, is_memory}
 use Rattle.desk_model.specs.AttrOptions.{told, attr_refusal, attrs_refusal}

@@ -6,7 +6,7 @@ use Rattle.kind_core.specs.declared.kinds.Kind.TheVariants.{Window, Grid, Frame}
 use Rattle.kind_core.specs.declared.shapes.Cell.{Cell}
 use Rattle.cmd_words.specs.declared.commands.PlaceOption.{PlaceOption}
 use Rattle.cmd_words.specs.declared.commands.PlaceOption.TheVariants.{Column, Row, Pad}
-use Rattle.desk_model.specs.Planted.{is_cell, takes_cell}
+use Rattle.widget_model.specs.Planted.{is_cell, takes_cell}
 use Rattle.desk_model.specs.PlaceOptions.{unless_within, last_cell, place_refusal, places_refusal, first_cell, with_place, with_places, cell_given}
 use Rattle.desk_model.proofs.Refusals.{passed, unless_within-none}
 

@@ -8,17 +8,17 @@ use Rattle.cmd_words.specs.declared.commands.ConfigOption.{ConfigOption}
 use Rattle.cmd_words.specs.declared.replies.Refusal.{Refusal}
 use Rattle.cmd_words.specs.declared.replies.Refusal.TheVariants.{NotHere}
 use Rattle.kind_core.specs.declared.shapes.Cell.{Cell}
-use Rattle.desk_model.specs.Rows.{Row, with_spot}
-use Rattle.desk_model.specs.Named.{row_named, with_named, is_kind_of}
-use Rattle.desk_model.specs.Trees.{hangs, has_children, can_be_child, parent_of, child_in, depth_of, height_of, is_above, most_levels}
-use Rattle.desk_model.specs.Planted.{IsPlanted}
+use Rattle.widget_model.specs.Rows.{Row, with_spot}
+use Rattle.widget_model.specs.Named.{row_named, with_named, is_kind_of}
+use Rattle.widget_model.specs.Trees.{hangs, has_children, can_be_child, parent_of, child_in, depth_of, height_of, is_above, most_levels}
+use Rattle.widget_model.specs.Planted.{IsPlanted}
 use Rattle.desk_model.specs.Desk.{Desk}
 use Rattle.desk_model.specs.Refusing.{when, unless_there, unless_kind}
 use Rattle.desk_model.specs.PlaceOptions.{unless_within, places_refusal, cell_given}
 use Rattle.desk_model.specs.ConfigOptions.{configs_refusal}
 use Rattle.desk_model.specs.Hanging.{is_grid, place_refusals, place_effect, lift_refusal, lift_effect, config_refusal, column_effect, line_effect, with_column, with_line, step_place, step_lift, step_column, step_line}
-use Rattle.desk_model.proofs.Cells.{CanHang}
-use Rattle.desk_model.proofs.Planting.{IsPlanted-change, IsPlanted-detach, IsPlanted-attach}
+use Rattle.widget_model.proofs.Cells.{CanHang}
+use Rattle.widget_model.proofs.Planting.{IsPlanted-change, IsPlanted-detach, IsPlanted-attach}
 use Rattle.desk_model.proofs.Sound.{IsSound, IsSound-outcome}
 use Rattle.desk_model.proofs.KeptRows.{Suits, IsSound-with_named}
 use Rattle.desk_model.proofs.Refusals.{passed, when-none, unless_there-none, is_some-none}

@@ -4,15 +4,16 @@ use Rattle.std.proofs.lemmas.Bool.{and_parts, and_from, not-false}
 use Rattle.kind_core.specs.declared.kinds.EventKind.{EventKind}
 use Rattle.cmd_words.specs.declared.replies.Refusal.{Refusal}
 use Rattle.cmd_words.specs.declared.replies.Refusal.TheVariants.{WrongKind, AlreadyOpen}
-use Rattle.desk_model.specs.Rows.{Row, with_link, with_binding}
-use Rattle.desk_model.specs.Named.{row_named, is_kind_of}
-use Rattle.desk_model.specs.Planted.{IsPlanted}
+use Rattle.widget_model.specs.Rows.{Row, with_link, with_binding}
+use Rattle.widget_model.specs.Named.{row_named, is_kind_of}
+use Rattle.widget_model.specs.Planted.{IsPlanted}
 use Rattle.desk_model.specs.Desk.{Desk, is_open}
 use Rattle.desk_model.specs.Refusing.{when, unless_there, unless_kind}
-use Rattle.desk_model.specs.Linking.{can_link, is_variable_kind, is_window_kind, link_refusal, link_effect, unlink_refusal, unlink_effect, bind_refusal, bind_effect, open_refusal, open_effect, step_link, step_unlink, step_bind, step_open}
+use Rattle.desk_model.specs.Linking.{link_refusal, link_effect, unlink_refusal, unlink_effect, bind_refusal, bind_effect, open_refusal, open_effect, step_link, step_unlink, step_bind, step_open}
+use Rattle.widget_model.specs.Kinds.{can_link, is_variable_kind, is_window_kind}
 use Rattle.desk_model.specs.DeskFacts.{links_right, links_by_kind}
-use Rattle.desk_model.proofs.Hanging.{IsNamed-row_named}
-use Rattle.desk_model.proofs.Planting.{IsPlanted-change}
+use Rattle.widget_model.proofs.Hanging.{IsNamed-row_named}
+use Rattle.widget_model.proofs.Planting.{IsPlanted-change}
 use Rattle.desk_model.proofs.Sound.{IsSound, IsSound-outcome}
 use Rattle.desk_model.proofs.KeptRows.{Suits, IsSound-with_named}
 use Rattle.desk_model.proofs.Refusals.{passed, when-none, unless_there-none, unless_kind-none}

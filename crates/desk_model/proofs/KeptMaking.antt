@@ -5,18 +5,18 @@ use Rattle.std.specs.Option.{option_map_or, option_and_then}
 use Rattle.kind_core.specs.declared.kinds.Kind.{Kind}
 use Rattle.kind_core.specs.declared.kinds.Attr.{Attr}
 use Rattle.kind_core.specs.declared.values.Value as value
-use Rattle.desk_model.specs.Rows.{Row, new_row}
-use Rattle.desk_model.specs.Nodes.{any_kind, counts_with}
-use Rattle.desk_model.specs.Named.{row_named, rows_counted}
-use Rattle.desk_model.specs.Trees.{is_used}
-use Rattle.desk_model.specs.Planted.{IsPlanted}
-use Rattle.desk_model.specs.Fitting.{fits_rules}
-use Rattle.desk_model.specs.Widgets.{is_joined}
+use Rattle.widget_model.specs.Rows.{Row, new_row}
+use Rattle.widget_model.specs.Nodes.{any_kind, counts_with}
+use Rattle.widget_model.specs.Named.{row_named, rows_counted}
+use Rattle.widget_model.specs.Trees.{is_used}
+use Rattle.widget_model.specs.Planted.{IsPlanted}
+use Rattle.widget_model.specs.Fitting.{fits_rules}
+use Rattle.widget_model.specs.Widgets.{is_joined}
 use Rattle.desk_model.specs.Desk.{Desk, is_connected, is_open}
 use Rattle.desk_model.specs.AttrOptions.{attrs_refusal, with_attrs}
 use Rattle.desk_model.specs.DeskFacts.{links_right, links_by_kind, has_places}
 use Rattle.desk_model.specs.Making.{new_refusal, new_effect, set_refusal, set_effect, get_refusal, get_effect, drop_refusal, drop_effect, step_new, step_set, step_get, step_drop}
-use Rattle.desk_model.proofs.Planting.{IsPlanted-change}
+use Rattle.widget_model.proofs.Planting.{IsPlanted-change}
 use Rattle.desk_model.proofs.Sound.{IsSound, IsSound-outcome}
 use Rattle.desk_model.proofs.KeptRows.{Suits, IsSound-with_named}
 use Rattle.desk_model.proofs.KeptNew.{IsNew, IsSound-push}

@@ -7,16 +7,17 @@ use Rattle.std.specs.List.{list_all}
 use Rattle.std.specs.Option.{option_map_or}
 use Rattle.kind_core.specs.declared.kinds.Kind.{Kind}
 use Rattle.kind_core.specs.declared.kinds.Kind.TheVariants.{Window, VScreen}
-use Rattle.desk_model.specs.Rows.{Row}
-use Rattle.desk_model.specs.Nodes.{any_kind, counts_with}
-use Rattle.desk_model.specs.Named.{has_name, row_named, rows_counted, is_kind_of}
-use Rattle.desk_model.specs.Widgets.{is_joined}
-use Rattle.desk_model.specs.Fitting.{fits_table, fits_rules}
+use Rattle.widget_model.specs.Rows.{Row}
+use Rattle.widget_model.specs.Nodes.{any_kind, counts_with}
+use Rattle.widget_model.specs.Named.{has_name, row_named, rows_counted, is_kind_of}
+use Rattle.widget_model.specs.Widgets.{is_joined}
+use Rattle.widget_model.specs.Fitting.{fits_table, fits_rules}
 use Rattle.desk_model.specs.Desk.{Desk}
-use Rattle.desk_model.specs.Linking.{is_variable_kind, is_window_kind}
-use Rattle.desk_model.specs.DeskFacts.{AreNamedApart, links_right, links_by_kind, has_places}
-use Rattle.desk_model.proofs.Hanging.{all_at, all_from, find_none_at, find_none_from, IsNamed-from, has_name-own}
-use Rattle.desk_model.proofs.Planting.{IsPlanted-push}
+use Rattle.widget_model.specs.Kinds.{is_variable_kind, is_window_kind}
+use Rattle.desk_model.specs.DeskFacts.{links_right, links_by_kind, has_places}
+use Rattle.widget_model.specs.Named.{AreNamedApart}
+use Rattle.widget_model.proofs.Hanging.{all_at, all_from, find_none_at, find_none_from, IsNamed-from, has_name-own}
+use Rattle.widget_model.proofs.Planting.{IsPlanted-push}
 use Rattle.desk_model.proofs.Sound.{AreRows, names_window, AreWindows, IsSound}
 
 -- a row that can be put last: there is room for it and its name is free, and it stands alone

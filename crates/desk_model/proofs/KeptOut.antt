@@ -6,20 +6,21 @@ use Rattle.std.specs.List.{filter, list_all, list_any}
 use Rattle.std.specs.Option.{option_map_or}
 use Rattle.std.specs.Str.{bytes_eq}
 use Rattle.kind_core.specs.declared.kinds.Kind.{Kind}
-use Rattle.desk_model.specs.Rows.{Row}
-use Rattle.desk_model.specs.Nodes.{any_kind, counts_with}
-use Rattle.desk_model.specs.Named.{has_name, row_named, rows_counted, is_kind_of, without_named, rows_of_others}
-use Rattle.desk_model.specs.Trees.{hangs, is_child, links_to, is_used}
-use Rattle.desk_model.specs.Widgets.{is_joined}
-use Rattle.desk_model.specs.Planted.{IsPlanted}
-use Rattle.desk_model.specs.Fitting.{fits_table, fits_rules}
+use Rattle.widget_model.specs.Rows.{Row}
+use Rattle.widget_model.specs.Nodes.{any_kind, counts_with}
+use Rattle.widget_model.specs.Named.{has_name, row_named, rows_counted, is_kind_of, without_named, rows_of_others}
+use Rattle.widget_model.specs.Trees.{hangs, is_child, links_to, is_used}
+use Rattle.widget_model.specs.Widgets.{is_joined}
+use Rattle.widget_model.specs.Planted.{IsPlanted}
+use Rattle.widget_model.specs.Fitting.{fits_table, fits_rules}
 use Rattle.desk_model.specs.Desk.{Desk, is_window, is_open}
 use Rattle.desk_model.specs.Clients.{without_client}
-use Rattle.desk_model.specs.Linking.{is_variable_kind, is_window_kind}
-use Rattle.desk_model.specs.DeskFacts.{AreConnectedOnce, AreNamedApart, AreOpenOnce, links_right, links_by_kind, has_places}
-use Rattle.desk_model.proofs.Hanging.{all_at, all_from, none_at, all-filter, IsNamed-row_named, row_named-filter}
+use Rattle.widget_model.specs.Kinds.{is_variable_kind, is_window_kind}
+use Rattle.desk_model.specs.DeskFacts.{AreConnectedOnce, AreOpenOnce, links_right, links_by_kind, has_places}
+use Rattle.widget_model.specs.Named.{AreNamedApart}
+use Rattle.widget_model.proofs.Hanging.{all_at, all_from, none_at, all-filter, IsNamed-row_named, row_named-filter}
 use Rattle.desk_model.proofs.OthersRows.{list_any-without_other}
-use Rattle.desk_model.proofs.Planting.{IsPlanted-remove, IsPlanted-others}
+use Rattle.widget_model.proofs.Planting.{IsPlanted-remove, IsPlanted-others}
 use Rattle.desk_model.proofs.Sound.{AreRows, names_window, IsSound}
 
 -- what holds of all or of none holds so of those that are kept

@@ -5,16 +5,17 @@ use Rattle.std.proofs.lemmas.List.Sums.{sum_by-cons}
 use Rattle.std.specs.List.{list_all, list_any}
 use Rattle.std.specs.Option.{option_map, option_map_or}
 use Rattle.kind_core.specs.declared.kinds.Kind.{Kind}
-use Rattle.desk_model.specs.Rows.{Row}
-use Rattle.desk_model.specs.Nodes.{any_kind, counts_with}
-use Rattle.desk_model.specs.Named.{has_name, row_named, with_named, rows_counted, is_kind_of}
-use Rattle.desk_model.specs.Widgets.{is_joined}
-use Rattle.desk_model.specs.Planted.{IsPlanted}
-use Rattle.desk_model.specs.Fitting.{fits_table, fits_rules}
+use Rattle.widget_model.specs.Rows.{Row}
+use Rattle.widget_model.specs.Nodes.{any_kind, counts_with}
+use Rattle.widget_model.specs.Named.{has_name, row_named, with_named, rows_counted, is_kind_of}
+use Rattle.widget_model.specs.Widgets.{is_joined}
+use Rattle.widget_model.specs.Planted.{IsPlanted}
+use Rattle.widget_model.specs.Fitting.{fits_table, fits_rules}
 use Rattle.desk_model.specs.Desk.{Desk}
-use Rattle.desk_model.specs.Linking.{is_variable_kind, is_window_kind}
-use Rattle.desk_model.specs.DeskFacts.{AreNamedApart, links_right, links_by_kind, has_places}
-use Rattle.desk_model.proofs.Hanging.{all_at, all_from, LeavesNames, changed, row_named-map, row_named-only}
+use Rattle.widget_model.specs.Kinds.{is_variable_kind, is_window_kind}
+use Rattle.desk_model.specs.DeskFacts.{links_right, links_by_kind, has_places}
+use Rattle.widget_model.specs.Named.{AreNamedApart}
+use Rattle.widget_model.proofs.Hanging.{all_at, all_from, LeavesNames, changed, row_named-map, row_named-only}
 use Rattle.desk_model.proofs.Sound.{AreRows, names_window, AreWindows, IsSound}
 
 -- a change that leaves what names a row and its kind

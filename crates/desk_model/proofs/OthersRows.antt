@@ -11,8 +11,8 @@ use Rattle.std.specs.Str.{bytes_eq}
 use Rattle.kind_core.specs.declared.kinds.Kind.{Kind}
 use Rattle.kind_core.specs.declared.kinds.Attr.{Attr}
 use Rattle.kind_core.specs.declared.values.Value as value
-use Rattle.desk_model.specs.Rows.{Row, new_row, with_attr}
-use Rattle.desk_model.specs.Named.{with_named, without_named, rows_of_others}
+use Rattle.widget_model.specs.Rows.{Row, new_row, with_attr}
+use Rattle.widget_model.specs.Named.{with_named, without_named, rows_of_others}
 use Rattle.desk_model.specs.AttrOptions.{with_attrs}
 use Rattle.desk_model.specs.OwnPart.{windows_of_others}
 

@@ -12,8 +12,8 @@ use Rattle.cmd_words.specs.declared.commands.Command.{Command}
 use Rattle.cmd_words.specs.declared.commands.Command.TheVariants.{New, Set, Get, Place, Lift, ColumnConfig, RowConfig, Link, Unlink, Bind, Unbind, OpenWindow, DropWidget}
 use Rattle.cmd_words.specs.declared.replies.Reply.{Reply}
 use Rattle.cmd_words.specs.declared.replies.Refusal.{Refusal}
-use Rattle.desk_model.specs.Nodes.{any_kind, counts_with}
-use Rattle.desk_model.specs.Trees.{most_levels}
+use Rattle.widget_model.specs.Nodes.{any_kind, counts_with}
+use Rattle.widget_model.specs.Trees.{most_levels}
 use Rattle.desk_model.specs.Desk.{Desk, is_open}
 use Rattle.desk_model.specs.Refusing.{outcome}
 use Rattle.desk_model.specs.PlaceOptions.{cell_given}
@@ -22,7 +22,7 @@ use Rattle.desk_model.specs.Hanging.{place_refusals, place_effect, lift_refusal,
 use Rattle.desk_model.specs.Linking.{link_refusal, link_effect, unlink_refusal, unlink_effect, bind_refusal, bind_effect, open_refusal, open_effect, step_link, step_unlink, step_bind, step_open}
 use Rattle.desk_model.specs.Commands.{row_of}
 use Rattle.desk_model.specs.OwnPart.{AgreeOn}
-use Rattle.desk_model.proofs.OwnRows.{list_any-agree, row_named-agree, rows_counted-agree, child_in-agree, depth_in-agree, is_above_in-agree, height_in-agree, named-is_used-agree}
+use Rattle.widget_model.proofs.OwnRows.{list_any-agree, row_named-agree, rows_counted-agree, child_in-agree, depth_in-agree, is_above_in-agree, height_in-agree, named-is_used-agree}
 
 -- one refusal, or effects of one reply
 pub answer-outcome : (one two : Desk) (here there : Option Refusal) (first second : Reply × Desk) → here ≡ there → first.0 ≡ second.0 → (outcome one here first).0 ≡ (outcome two there second).0

@@ -18,11 +18,11 @@ use Rattle.cmd_words.specs.declared.replies.Reply.{Reply}
 use Rattle.cmd_words.specs.declared.replies.Reply.TheVariants.{Done}
 use Rattle.cmd_words.specs.declared.replies.Refusal.{Refusal}
 use Rattle.cmd_words.specs.declared.replies.Refusal.TheVariants.{Memory, NotConnected, Connected}
-use Rattle.desk_model.specs.Rows.{Row, new_row, with_spot, with_link, with_binding}
-use Rattle.desk_model.specs.Named.{rows_of_others, with_named, without_named}
-use Rattle.desk_model.specs.declared.pointer.Pointer.{Pointer}
-use Rattle.desk_model.specs.declared.pointer.Grab.{Grab}
-use Rattle.desk_model.specs.declared.pointer.Grab.TheVariants.{Nothing, Widget, Drag}
+use Rattle.widget_model.specs.Rows.{Row, new_row, with_spot, with_link, with_binding}
+use Rattle.widget_model.specs.Named.{rows_of_others, with_named, without_named}
+use Rattle.scene_model.specs.declared.pointer.Pointer.{Pointer}
+use Rattle.scene_model.specs.declared.pointer.Grab.{Grab}
+use Rattle.scene_model.specs.declared.pointer.Grab.TheVariants.{Nothing, Widget, Drag}
 use Rattle.desk_model.specs.Desk.{Desk, Admission, Ring, is_connected, is_open}
 use Rattle.desk_model.specs.Refusing.{when, first_refusal, outcome}
 use Rattle.desk_model.specs.AttrOptions.{with_attrs}
@@ -33,10 +33,11 @@ use Rattle.desk_model.specs.Linking.{link_refusal, link_effect, unlink_refusal, 
 use Rattle.desk_model.specs.Clients.{step_connect, step_bye, with_client, without_client}
 use Rattle.desk_model.specs.Commands.{row_of, asked, step}
 use Rattle.desk_model.specs.Ending.{is_in_window, grab_left, focus_left, let_go, event_end}
-use Rattle.desk_model.specs.Trees.{root_of, most_levels}
-use Rattle.desk_model.specs.OwnPart.{own_rows, own_windows, windows_of_others, IsGrabOf, IsFocusOf, LeavesPointer, reply_of, LeavesOthers, CommandsLeaveOthers, ConnectsLeaveOthers, ByesLeaveOthers, AnswersDependOnOwnPart, ConnectsDependOnOwnPart, ByesDependOnOwnPart}
+use Rattle.widget_model.specs.Trees.{root_of, most_levels}
+use Rattle.desk_model.specs.OwnPart.{own_windows, windows_of_others, IsGrabOf, IsFocusOf, LeavesPointer, reply_of, LeavesOthers, CommandsLeaveOthers, ConnectsLeaveOthers, ByesLeaveOthers, AnswersDependOnOwnPart, ConnectsDependOnOwnPart, ByesDependOnOwnPart}
+use Rattle.widget_model.specs.Named.{own_rows}
 use Rattle.desk_model.proofs.OthersRows.{filter-filter, filter-within, rows_of_others-with_named, rows_of_others-without_named, rows_of_others-push, client-new_row, client-with_attrs, windows_of_others-cons, list_any-push_other, list_any-without_other}
-use Rattle.desk_model.proofs.OwnRows.{list_any-agree, root_in-agree}
+use Rattle.widget_model.proofs.OwnRows.{list_any-agree, root_in-agree}
 use Rattle.desk_model.proofs.OwnAnswers.{answer-outcome, answer-row}
 
 -- What is not the client's, and the whole pointer, is as it was: before a step's ending.

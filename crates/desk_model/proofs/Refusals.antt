@@ -4,8 +4,8 @@ use Rattle.std.proofs.lemmas.Bool.{true≢false, leb-true, and_parts, not-false}
 use Rattle.kind_core.specs.declared.kinds.Kind.{Kind}
 use Rattle.cmd_words.specs.declared.replies.Refusal.{Refusal}
 use Rattle.cmd_words.specs.declared.replies.Refusal.TheVariants.{BadValue}
-use Rattle.desk_model.specs.Rows.{Row}
-use Rattle.desk_model.specs.Named.{is_kind_of}
+use Rattle.widget_model.specs.Rows.{Row}
+use Rattle.widget_model.specs.Named.{is_kind_of}
 use Rattle.desk_model.specs.Refusing.{when, first_refusal, unless_there, unless_kind}
 use Rattle.desk_model.specs.PlaceOptions.{unless_within}
 

@@ -6,8 +6,8 @@ use Rattle.std.specs.List.{list_all}
 use Rattle.kind_core.specs.declared.kinds.EventKind.{EventKind}
 use Rattle.cmd_words.specs.declared.commands.ConfigOption.{ConfigOption}
 use Rattle.cmd_words.specs.declared.commands.ConfigOption.TheVariants.{Size, Weight}
-use Rattle.desk_model.specs.Rows.{Row, column_rule_of, row_rule_of, event_place, with_binding}
-use Rattle.desk_model.specs.Fitting.{fits_rule, fits_rules}
+use Rattle.widget_model.specs.Rows.{Row, column_rule_of, row_rule_of, event_place, with_binding}
+use Rattle.widget_model.specs.Fitting.{fits_rule, fits_rules}
 use Rattle.desk_model.specs.ConfigOptions.{config_refusal, configs_refusal, with_config, with_configs}
 use Rattle.desk_model.specs.Hanging.{with_column, with_line}
 use Rattle.desk_model.specs.DeskFacts.{has_places}

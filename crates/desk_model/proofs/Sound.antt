@@ -5,21 +5,22 @@ use Rattle.std.specs.List.{list_all}
 use Rattle.kind_core.specs.declared.kinds.Kind.{Kind}
 use Rattle.cmd_words.specs.declared.replies.Reply.{Reply}
 use Rattle.cmd_words.specs.declared.replies.Refusal.{Refusal}
-use Rattle.desk_model.specs.declared.pointer.Grab.{Grab}
-use Rattle.desk_model.specs.declared.pointer.Grab.TheVariants.{Nothing, Widget, Drag}
-use Rattle.desk_model.specs.Shapes.{IsShape}
-use Rattle.desk_model.specs.Rows.{Row}
-use Rattle.desk_model.specs.Nodes.{any_kind, counts_with}
-use Rattle.desk_model.specs.Named.{row_named, rows_counted, is_kind_of}
-use Rattle.desk_model.specs.Widgets.{is_joined}
-use Rattle.desk_model.specs.Forest.{is_client}
-use Rattle.desk_model.specs.Planted.{IsPlanted}
-use Rattle.desk_model.specs.Fitting.{fits_table, fits_rules}
+use Rattle.scene_model.specs.declared.pointer.Grab.{Grab}
+use Rattle.scene_model.specs.declared.pointer.Grab.TheVariants.{Nothing, Widget, Drag}
+use Rattle.scene_model.specs.Shapes.{IsShape}
+use Rattle.widget_model.specs.Rows.{Row}
+use Rattle.widget_model.specs.Nodes.{any_kind, counts_with}
+use Rattle.widget_model.specs.Named.{row_named, rows_counted, is_kind_of}
+use Rattle.widget_model.specs.Widgets.{is_joined}
+use Rattle.widget_model.specs.Forest.{is_client}
+use Rattle.widget_model.specs.Planted.{IsPlanted}
+use Rattle.widget_model.specs.Fitting.{fits_table, fits_rules}
 use Rattle.desk_model.specs.Desk.{Desk}
-use Rattle.desk_model.specs.Linking.{is_window_kind}
+use Rattle.widget_model.specs.Kinds.{is_window_kind}
 use Rattle.desk_model.specs.Ending.{is_in_window, grab_left, focus_left, let_go}
 use Rattle.desk_model.specs.Refusing.{outcome}
-use Rattle.desk_model.specs.DeskFacts.{AreConnectedOnce, AreNamedApart, AreOpenOnce, links_right, links_by_kind, has_places, IsDesk}
+use Rattle.desk_model.specs.DeskFacts.{AreConnectedOnce, AreOpenOnce, links_right, links_by_kind, has_places, IsDesk}
+use Rattle.widget_model.specs.Named.{AreNamedApart}
 
 -- what holds of the rows, where these clients are connected
 pub record AreRows (clients : List ℕ) (rows : List Row) : Type 0 where

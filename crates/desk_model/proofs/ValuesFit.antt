@@ -12,10 +12,10 @@ use Rattle.kind_core.specs.declared.values.Value as value
 use Rattle.kind_core.specs.declared.values.AttrRefusal.{AttrRefusal}
 use Rattle.kind_core.specs.declared.values.AttrRefusal.TheVariants.{NotOfKind, OutOfRange}
 use Rattle.kind_core.specs.Attributes.{domain_of, judged}
-use Rattle.desk_model.specs.Rows.{Row, all_attrs, attr_of, attr_place, with_attr, new_row, first_values, default_at}
-use Rattle.desk_model.specs.Fitting.{fits_attr, fits_table}
+use Rattle.widget_model.specs.Rows.{Row, all_attrs, attr_of, attr_place, with_attr, new_row, first_values, default_at}
+use Rattle.widget_model.specs.Fitting.{fits_attr, fits_table}
 use Rattle.desk_model.specs.AttrOptions.{told, attr_refusal, attrs_refusal, with_attrs}
-use Rattle.desk_model.proofs.Hanging.{all_at, all_from}
+use Rattle.widget_model.proofs.Hanging.{all_at, all_from}
 use Rattle.desk_model.proofs.Refusals.{passed}
 
 pub fits_table-new : (client : ℕ) (name : List ℕ) (kind : Kind) → fits_table (new_row client name kind) ≡ true

@@ -2,7 +2,7 @@
 -- draws before all else. No widget has a frame yet, so a beat changes nothing and no pixel is in a band.
 use Rattle.std.specs.Prelude.{ℕ, ◌/◌, ◌%◌, Bool, false}
 use Rattle.std.specs.List.{count_by, range_with_len}
-use Rattle.desk_model.specs.Shapes.{area}
+use Rattle.scene_model.specs.Shapes.{area}
 use Rattle.desk_model.specs.Desk.{Desk}
 
 unfoldable pub beat : Desk → Desk

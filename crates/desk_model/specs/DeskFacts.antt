@@ -3,27 +3,22 @@ use Rattle.std.specs.Prelude.{ℕ, ◌≡◌, ◌≤◌, Bool, true, false, ◌&
 use Rattle.std.specs.List.{list_all, list_any}
 use Rattle.std.specs.Option.{option_map_or}
 use Rattle.kind_core.specs.declared.kinds.Kind.{Kind}
-use Rattle.desk_model.specs.Shapes.{IsShape}
-use Rattle.desk_model.specs.Rows.{Row}
-use Rattle.desk_model.specs.Nodes.{any_kind, counts_with}
-use Rattle.desk_model.specs.Named.{row_named, has_name, rows_counted, is_kind_of}
-use Rattle.desk_model.specs.Widgets.{is_joined}
-use Rattle.desk_model.specs.Forest.{is_client}
-use Rattle.desk_model.specs.Planted.{IsPlanted}
-use Rattle.desk_model.specs.Fitting.{fits_table, fits_rules}
+use Rattle.scene_model.specs.Shapes.{IsShape}
+use Rattle.widget_model.specs.Rows.{Row}
+use Rattle.widget_model.specs.Nodes.{any_kind, counts_with}
+use Rattle.widget_model.specs.Named.{row_named, rows_counted, is_kind_of, AreNamedApart}
+use Rattle.widget_model.specs.Widgets.{is_joined}
+use Rattle.widget_model.specs.Forest.{is_client}
+use Rattle.widget_model.specs.Planted.{IsPlanted}
+use Rattle.widget_model.specs.Fitting.{fits_table, fits_rules}
 use Rattle.desk_model.specs.Desk.{Desk, is_connected, is_window}
-use Rattle.desk_model.specs.Linking.{can_link, is_variable_kind, is_window_kind}
+use Rattle.widget_model.specs.Kinds.{can_link, is_variable_kind, is_window_kind}
 use Rattle.desk_model.specs.Ending.{let_go}
 
 -- No client is connected twice.
 abbrev pub AreConnectedOnce : List ℕ → Type 0
 AreConnectedOnce [] = Unit {0}
 AreConnectedOnce (client ∷ clients) = (is_joined clients client ≡ false) × AreConnectedOnce clients
-
--- No two rows of one client have one name.
-abbrev pub AreNamedApart : List Row → Type 0
-AreNamedApart [] = Unit {0}
-AreNamedApart (row ∷ rows) = (list_any (has_name row.client row.name) rows ≡ false) × AreNamedApart rows
 
 -- A link leads to a Variable of the same client.
 abbrev pub links_right : List Row → Row → Bool

@@ -1,9 +1,9 @@
 -- The one ending of every event: a grab or focus whose widget is neither an open window nor under one is none.
 use Rattle.std.specs.Prelude.{ℕ, Bool, List, Option, Some, None, if◌then◌else◌}
 use Rattle.cmd_words.specs.declared.replies.Reply.{Reply}
-use Rattle.desk_model.specs.declared.pointer.Grab.{Grab}
-use Rattle.desk_model.specs.declared.pointer.Grab.TheVariants.{Nothing, Widget, Drag}
-use Rattle.desk_model.specs.Trees.{root_of}
+use Rattle.scene_model.specs.declared.pointer.Grab.{Grab}
+use Rattle.scene_model.specs.declared.pointer.Grab.TheVariants.{Nothing, Widget, Drag}
+use Rattle.widget_model.specs.Trees.{root_of}
 use Rattle.desk_model.specs.Desk.{Desk, is_open}
 
 -- whether the widget is an open window or under one

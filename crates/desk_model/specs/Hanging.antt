@@ -10,9 +10,9 @@ use Rattle.cmd_words.specs.declared.replies.Reply.{Reply}
 use Rattle.cmd_words.specs.declared.replies.Reply.TheVariants.{Done}
 use Rattle.cmd_words.specs.declared.replies.Refusal.{Refusal}
 use Rattle.cmd_words.specs.declared.replies.Refusal.TheVariants.{WrongKind, HasParent, Cycle, TooDeep, CellTaken, NotHere}
-use Rattle.desk_model.specs.Rows.{Row, with_spot, column_rule_of, row_rule_of, with_column_rule, with_row_rule}
-use Rattle.desk_model.specs.Named.{row_named, with_named, is_kind_of}
-use Rattle.desk_model.specs.Trees.{hangs, has_children, can_be_child, parent_of, child_in, depth_of, height_of, is_above, most_levels}
+use Rattle.widget_model.specs.Rows.{Row, with_spot, column_rule_of, row_rule_of, with_column_rule, with_row_rule}
+use Rattle.widget_model.specs.Named.{row_named, with_named, is_kind_of}
+use Rattle.widget_model.specs.Trees.{hangs, has_children, can_be_child, parent_of, child_in, depth_of, height_of, is_above, most_levels}
 use Rattle.desk_model.specs.Desk.{Desk}
 use Rattle.desk_model.specs.Refusing.{when, first_refusal, outcome, unless_there, unless_kind}
 use Rattle.desk_model.specs.PlaceOptions.{unless_within, places_refusal, cell_given}

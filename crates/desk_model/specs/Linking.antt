@@ -1,29 +1,16 @@
 -- The commands that link a widget to a Variable and bind its events, and the one that opens a window.
 use Rattle.std.specs.Prelude.{ℕ, Bool, true, false, ◌&&◌, not, List, [], ◌∷◌, Option, Some, None}
-use Rattle.kind_core.specs.declared.kinds.Kind.{Kind}
-use Rattle.kind_core.specs.declared.kinds.Kind.TheVariants.{Window, Frame, Label, Scale, Scrollbar, Variable}
 use Rattle.kind_core.specs.declared.kinds.EventKind.{EventKind}
 use Rattle.kind_core.specs.Events.{gives_event}
 use Rattle.cmd_words.specs.declared.replies.Reply.{Reply}
 use Rattle.cmd_words.specs.declared.replies.Reply.TheVariants.{Done}
 use Rattle.cmd_words.specs.declared.replies.Refusal.{Refusal}
 use Rattle.cmd_words.specs.declared.replies.Refusal.TheVariants.{WrongKind, AlreadyOpen}
-use Rattle.desk_model.specs.Rows.{with_link, with_binding}
-use Rattle.desk_model.specs.Named.{row_named, with_named, is_kind_of}
+use Rattle.widget_model.specs.Rows.{with_link, with_binding}
+use Rattle.widget_model.specs.Named.{row_named, with_named, is_kind_of}
+use Rattle.widget_model.specs.Kinds.{can_link, is_variable_kind, is_window_kind}
 use Rattle.desk_model.specs.Desk.{Desk, is_open}
 use Rattle.desk_model.specs.Refusing.{when, first_refusal, outcome, unless_there, unless_kind}
-
--- A Label, Scale, Scrollbar or Frame shows a Variable.
-abbrev pub can_link : Kind → Bool
-can_link Label = true
-can_link Scale = true
-can_link Scrollbar = true
-can_link Frame = true
-can_link _ = false
-
-abbrev pub is_variable_kind : Kind → Bool
-is_variable_kind Variable = true
-is_variable_kind _ = false
 
 -- `n.link(v)`
 abbrev pub link_refusal : Desk → ℕ → List ℕ → List ℕ → Option Refusal
@@ -61,10 +48,6 @@ bind_effect desk client name event tag = (Done, record desk { rows = with_named 
 
 unfoldable pub step_bind : Desk → ℕ → List ℕ → EventKind → Option (List ℕ) → Reply × Desk
 step_bind desk client name event tag = outcome desk (bind_refusal desk client name event) (bind_effect desk client name event tag)
-
-abbrev pub is_window_kind : Kind → Bool
-is_window_kind Window = true
-is_window_kind _ = false
 
 -- `w.open()`: the window goes on top of all.
 abbrev pub open_refusal : Desk → ℕ → List ℕ → Option Refusal

@@ -4,18 +4,15 @@ use Rattle.std.specs.Option.{option_map}
 use Rattle.std.specs.List.{filter}
 use Rattle.cmd_words.specs.declared.commands.Command.{Command}
 use Rattle.cmd_words.specs.declared.replies.Reply.{Reply}
-use Rattle.desk_model.specs.declared.pointer.Pointer.{Pointer}
-use Rattle.desk_model.specs.declared.pointer.Grab.{Grab}
-use Rattle.desk_model.specs.declared.pointer.Grab.TheVariants.{Nothing, Widget, Drag}
-use Rattle.desk_model.specs.Rows.{Row}
-use Rattle.desk_model.specs.Named.{rows_of_others}
+use Rattle.scene_model.specs.declared.pointer.Pointer.{Pointer}
+use Rattle.scene_model.specs.declared.pointer.Grab.{Grab}
+use Rattle.scene_model.specs.declared.pointer.Grab.TheVariants.{Nothing, Widget, Drag}
+use Rattle.widget_model.specs.Rows.{Row}
+use Rattle.widget_model.specs.Named.{own_rows, rows_of_others}
 use Rattle.desk_model.specs.Desk.{Desk, is_connected}
 use Rattle.desk_model.specs.Clients.{step_connect, step_bye}
 use Rattle.desk_model.specs.Commands.{step}
 use Rattle.desk_model.specs.DeskFacts.{IsDesk}
-
-abbrev pub own_rows : ℕ → List Row → List Row
-own_rows client rows = filter (λ row. nat_eq client row.client) rows
 
 abbrev pub own_windows : ℕ → List (ℕ × List ℕ) → List (ℕ × List ℕ)
 own_windows client windows = filter (λ window. nat_eq client window.0) windows

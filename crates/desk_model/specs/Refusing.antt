@@ -5,8 +5,8 @@ use Rattle.cmd_words.specs.declared.replies.Reply.{Reply}
 use Rattle.cmd_words.specs.declared.replies.Reply.TheVariants.{Refused}
 use Rattle.cmd_words.specs.declared.replies.Refusal.{Refusal}
 use Rattle.cmd_words.specs.declared.replies.Refusal.TheVariants.{Memory, NoSuchName, WrongKind}
-use Rattle.desk_model.specs.Rows.{Row}
-use Rattle.desk_model.specs.Named.{is_kind_of}
+use Rattle.widget_model.specs.Rows.{Row}
+use Rattle.widget_model.specs.Named.{is_kind_of}
 use Rattle.desk_model.specs.Desk.{Desk}
 
 -- a refusal that holds where the test is true

@@ -4,8 +4,8 @@ use Rattle.std.proofs.lemmas.Bool.{and_from, le-leb}
 use Rattle.std.proofs.lemmas.List.Elements.{All-nil, All-cons, All-append, All-replicate}
 use Rattle.std.specs.Prelude.{IfSome}
 use Rattle.std.specs.List.{All}
-use Rattle.desk_model.specs.Events.{Event}
-use Rattle.desk_model.specs.Step.{CanCome}
+use Rattle.machine_model.specs.Events.{Event}
+use Rattle.machine_model.specs.Step.{CanCome}
 use Rattle.script_lines.specs.declared.order.Order.{Order}
 use Rattle.script_lines.specs.declared.order.Order.TheVariants.{Nothing, Connect, Bye, Ask, Misread, Ticks, Dirty, Pixel, Dump}
 use Rattle.script_lines.specs.Lines.{line_order}

@@ -2,9 +2,9 @@
 use Rattle.std.proofs.Common.{◌≡◌, ℕ, Result, Ok, Err, OnOk, OnErr, MatchResult, List, [], ◌∷◌, ◌++◌, refl, subst, codes}
 use Rattle.outside_io.specs.Outbox.{Output, Puts, PutsFront}
 use Rattle.outside_io.proofs.Gathered.{Puts-append, PutsFront-longer, PutsFront-after}
-use Rattle.desk_model.specs.State.{State}
-use Rattle.desk_model.specs.Events.Event.{Dump}
-use Rattle.desk_model.specs.Events.Answer.{Dumped}
+use Rattle.machine_model.specs.State.{State}
+use Rattle.machine_model.specs.Events.Event.{Dump}
+use Rattle.machine_model.specs.Events.Answer.{Dumped}
 use Rattle.dope_run.specs.declared.status.Status.TheVariants.{Done, WriteFault}
 use Rattle.dope_run.specs.Text.{answer_text, dump_line, dump_text}
 use Rattle.dope_run.specs.Obeying.{Obeyed}

@@ -5,11 +5,11 @@ use Rattle.outside_io.specs.Outbox.{Output, Puts, PutsFront, flushed}
 use Rattle.outside_io.proofs.Told.{Consumes-none, Consumes-append, Consumes-keeps}
 use Rattle.outside_io.proofs.Gathered.{Puts-none, PutsFront-longer}
 use Rattle.kind_core.specs.declared.shapes.Shape.{Shape}
-use Rattle.desk_model.proofs.Opening.{shape-opening}
-use Rattle.desk_model.specs.State.{State, IsState, opening}
-use Rattle.desk_model.specs.Run.{Moment, state_after}
-use Rattle.desk_model.proofs.Runs.{IsState-run, KeepsLaws-run}
-use Rattle.desk_model.proofs.Progress.{some_run}
+use Rattle.machine_model.proofs.Opening.{shape-opening}
+use Rattle.machine_model.specs.State.{State, IsState, opening}
+use Rattle.machine_model.specs.Run.{Moment, state_after}
+use Rattle.machine_model.proofs.Runs.{IsState-run, KeepsLaws-run}
+use Rattle.machine_model.proofs.Progress.{some_run}
 use Rattle.dope_run.proofs.Coming.{events-come}
 use Rattle.dope_run.specs.declared.cut.Cut.{Cut}
 use Rattle.dope_run.specs.declared.cut.Cut.TheVariants.{Unread, Unwritten}

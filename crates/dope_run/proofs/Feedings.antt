@@ -9,8 +9,8 @@ use Rattle.std.proofs.lemmas.List.Folds.{list_any-append, list_any_more}
 use Rattle.std.proofs.lemmas.Grind.{flat_map-append}
 use Rattle.std.proofs.lemmas.List.{take_all, take_more, take-append-le, take-append-drop}
 use Rattle.std.proofs.Math.Seq.{take-add}
-use Rattle.desk_model.specs.State.{State}
-use Rattle.desk_model.specs.Run.{state_after}
+use Rattle.machine_model.specs.State.{State}
+use Rattle.machine_model.specs.Run.{state_after}
 use Rattle.script_lines.specs.declared.order.Order.{Order}
 use Rattle.script_lines.specs.declared.order.Order.TheVariants.{Nothing}
 use Rattle.script_lines.specs.Lines.{line_order}

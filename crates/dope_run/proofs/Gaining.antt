@@ -8,9 +8,9 @@ use Rattle.outside_io.proofs.Told.{Appends-append}
 use Rattle.std.proofs.lemmas.Grind.{flat_map-append}
 use Rattle.outside_io.specs.Outbox.{Output, Puts, flushed}
 use Rattle.outside_io.proofs.Gathered.{Puts-none, Puts-append, PutsFront-after, Appends-put}
-use Rattle.desk_model.specs.State.{State}
-use Rattle.desk_model.specs.Run.{Moment, state_after}
-use Rattle.desk_model.proofs.Runs.{state_after-append}
+use Rattle.machine_model.specs.State.{State}
+use Rattle.machine_model.specs.Run.{Moment, state_after}
+use Rattle.machine_model.proofs.Runs.{state_after-append}
 use Rattle.dope_run.specs.declared.status.Status.{Status}
 use Rattle.dope_run.specs.declared.status.Status.TheVariants.{Done, ReadFault, WriteFault, Usage, BadScript, NoMemory, TooMuch}
 use Rattle.dope_run.specs.Text.{text_of}

@@ -4,12 +4,12 @@ use Rattle.std.specs.List.{All}
 use Rattle.std.proofs.lemmas.List.{map-append}
 use Rattle.outside_io.specs.Outbox.{Output, Puts, PutsFront}
 use Rattle.outside_io.proofs.Gathered.{PutsFront-longer}
-use Rattle.desk_model.specs.State.{State, IsState}
-use Rattle.desk_model.specs.Events.{Event, Answer}
-use Rattle.desk_model.specs.Step.{Step, CanCome}
-use Rattle.desk_model.specs.Run.{Run, events_of, state_after}
-use Rattle.desk_model.proofs.Runs.{Run-append, Run-one, IsState-run}
-use Rattle.desk_model.proofs.Progress.{some_run}
+use Rattle.machine_model.specs.State.{State, IsState}
+use Rattle.machine_model.specs.Events.{Event, Answer}
+use Rattle.machine_model.specs.Step.{Step, CanCome}
+use Rattle.machine_model.specs.Run.{Run, events_of, state_after}
+use Rattle.machine_model.proofs.Runs.{Run-append, Run-one, IsState-run}
+use Rattle.machine_model.proofs.Progress.{some_run}
 use Rattle.dope_run.specs.declared.status.Status.{Status}
 use Rattle.dope_run.specs.declared.status.Status.TheVariants.{Done, WriteFault}
 use Rattle.dope_run.specs.Text.{answer_text}

@@ -2,10 +2,10 @@
 use Rattle.std.proofs.Common.{◌≡◌, List, [], ◌∷◌, ◌++◌, Option, Some, None, refl, sym, ap, ◌∙◌, append_assoc}
 use Rattle.std.proofs.lemmas.List.{map-append}
 use Rattle.std.proofs.lemmas.List.Elements.{All-append}
-use Rattle.desk_model.specs.State.{State}
-use Rattle.desk_model.specs.Events.{Event}
-use Rattle.desk_model.specs.Run.{Moment, state_after}
-use Rattle.desk_model.proofs.Runs.{Run-append}
+use Rattle.machine_model.specs.State.{State}
+use Rattle.machine_model.specs.Events.{Event}
+use Rattle.machine_model.specs.Run.{Moment, state_after}
+use Rattle.machine_model.proofs.Runs.{Run-append}
 use Rattle.script_lines.specs.declared.order.Order.{Order}
 use Rattle.script_lines.specs.Lines.{line_order}
 use Rattle.script_lines.specs.Steps.{◌>>=◌}

@@ -5,7 +5,7 @@ use Rattle.std.proofs.lemmas.Bool.Decides.{nat_tests}
 use Rattle.std.proofs.Math.Seq.{take-append-add}
 use Rattle.std.proofs.lemmas.List.Elements.{All-head, All-tail}
 use Rattle.std.proofs.lemmas.List.Folds.{list_any-append}
-use Rattle.desk_model.specs.Events.{Event}
+use Rattle.machine_model.specs.Events.{Event}
 use Rattle.script_lines.specs.declared.order.Order.{Order}
 use Rattle.script_lines.specs.Lines.{line_order}
 use Rattle.dope_run.specs.Framing.{Item, IsItem, IsPartial, bytes_of, has_feed, line_limit, wants_of}

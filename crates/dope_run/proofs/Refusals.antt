@@ -2,9 +2,9 @@
 use Rattle.std.proofs.Common.{◌≡◌, ◌≢◌, ◌⊎◌, ℕ, ◌+◌, ◌≤◌, ◌<◌, List, [], ◌∷◌, ◌++◌, length, Option, Some, None, refl, sym, ap, subst, ◌∙◌, inl, inr, arith, append_assoc, append-nil, length-append}
 use Rattle.std.specs.List.{All}
 use Rattle.kind_core.specs.declared.shapes.Shape.{Shape}
-use Rattle.desk_model.specs.State.{State}
-use Rattle.desk_model.specs.Events.{Event}
-use Rattle.desk_model.specs.Run.{events_of}
+use Rattle.machine_model.specs.State.{State}
+use Rattle.machine_model.specs.Events.{Event}
+use Rattle.machine_model.specs.Run.{events_of}
 use Rattle.dope_run.specs.declared.status.Status.TheVariants.{BadScript, TooMuch}
 use Rattle.script_lines.specs.Lines.{line_order}
 use Rattle.dope_run.specs.Framing.{Item, IsItem, IsLine, IsPartial, IsUnended, IsShortOfPayload, bytes_of, has_feed, line_limit, script_limit, read_limit, wants_of}

@@ -1,6 +1,6 @@
 -- What a script's lines ask the machine for, one after another, up to the first line off the grammar.
 use Rattle.std.specs.Prelude.{◌≡◌, ◌≢◌, ◌⊎◌, ℕ, ◌+◌, ◌≤◌, false, List, [], ◌∷◌, ◌++◌, length, take, replicate, Option, Some, None}
-use Rattle.desk_model.specs.Events.{Event}
+use Rattle.machine_model.specs.Events.{Event}
 use Rattle.script_lines.specs.declared.order.Order.{Order}
 use Rattle.script_lines.specs.declared.order.Order.TheVariants.{Nothing, Connect, Bye, Ask, Misread, Ticks, Dirty, Pixel, Dump}
 use Rattle.script_lines.specs.Lines.{line_order}

@@ -3,9 +3,9 @@
 use Rattle.std.specs.Prelude.{◌≡◌, ◌⊎◌, ℕ, ◌+◌, ◌≤◌, List, ◌++◌, length, Option, Some}
 use Rattle.std.specs.List.{All}
 use Rattle.kind_core.specs.declared.shapes.Shape.{Shape}
-use Rattle.desk_model.specs.State.{State}
-use Rattle.desk_model.specs.Events.{Event}
-use Rattle.desk_model.specs.Run.{Moment}
+use Rattle.machine_model.specs.State.{State}
+use Rattle.machine_model.specs.Events.{Event}
+use Rattle.machine_model.specs.Run.{Moment}
 use Rattle.dope_run.specs.declared.status.Status.TheVariants.{BadScript, TooMuch}
 use Rattle.dope_run.specs.Framing.{Item, IsItem, IsPartial, AreWhole, bytes_of, line_limit, script_limit, read_limit}
 use Rattle.dope_run.specs.Script.{read_script, BeginsOff}

@@ -6,10 +6,10 @@ use Rattle.kind_core.specs.declared.shapes.Shape.{Shape}
 use Rattle.cmd_words.specs.declared.inputs.Drew.{Drew}
 use Rattle.cmd_words.specs.declared.replies.Reply.{Reply}
 use Rattle.cmd_print.specs.Replies.{reply_text}
-use Rattle.desk_model.specs.Events.{Event, Answer}
-use Rattle.desk_model.specs.Events.Event.{Connect, Bye, Ask, Misread, Tick, CountDirty, LookAt, Dump}
-use Rattle.desk_model.specs.Events.Answer.{Replied, Drawn, Counted, Seen, Dumped}
-use Rattle.desk_model.specs.Run.{Moment}
+use Rattle.machine_model.specs.Events.{Event, Answer}
+use Rattle.machine_model.specs.Events.Event.{Connect, Bye, Ask, Misread, Tick, CountDirty, LookAt, Dump}
+use Rattle.machine_model.specs.Events.Answer.{Replied, Drawn, Counted, Seen, Dumped}
+use Rattle.machine_model.specs.Run.{Moment}
 
 -- a reply, behind the number of the client that asked
 abbrev pub reply_line : ℕ → Reply → List ℕ

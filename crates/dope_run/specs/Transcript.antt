@@ -3,9 +3,9 @@ use Rattle.std.specs.Prelude.{◌≡◌, ℕ, ◌+◌, ◌≤◌, ◌⊎◌, Lis
 use Rattle.std.specs.List.{All}
 use Rattle.std.specs.Io.KnownBytes.{Appends, Consumes, IsAtEnd}
 use Rattle.kind_core.specs.declared.shapes.Shape.{Shape}
-use Rattle.desk_model.specs.State.{State, opening}
-use Rattle.desk_model.specs.Run.{Moment, Run, events_of, state_after}
-use Rattle.desk_model.specs.Laws.{KeepsLaws}
+use Rattle.machine_model.specs.State.{State, opening}
+use Rattle.machine_model.specs.Run.{Moment, Run, events_of, state_after}
+use Rattle.machine_model.specs.Laws.{KeepsLaws}
 use Rattle.dope_run.specs.declared.status.Status.{Status}
 use Rattle.dope_run.specs.declared.status.Status.TheVariants.{Done, ReadFault, WriteFault, Usage, BadScript, NoMemory, TooMuch}
 use Rattle.dope_run.specs.Framing.{Item, IsItem, IsPartial, AreWhole, bytes_of, script_limit, read_limit}

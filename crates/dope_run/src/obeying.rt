@@ -2,9 +2,9 @@
 ghost use Rattle.std.specs.Prelude.{◌≡◌, ℕ, ◌≤◌, ◌∷◌, [], true, replicate, MatchResult, OnOk, OnErr};
 ghost use Rattle.outside_io.specs.Count.{Rose};
 ghost use Rattle.outside_io.specs.Outbox.{Puts, PutsFront, output};
-ghost use Rattle.desk_model.specs.State.{IsState, seen_at};
+ghost use Rattle.machine_model.specs.State.{IsState, seen_at};
 ghost use Rattle.desk_model.specs.Commands.{is_built};
-ghost use Rattle.desk_model.specs.Events.Event.{Connect, Bye, Ask, Misread, Tick, CountDirty, LookAt, Dump};
+ghost use Rattle.machine_model.specs.Events.Event.{Connect, Bye, Ask, Misread, Tick, CountDirty, LookAt, Dump};
 ghost use Rattle.script_lines.specs.Suits.{Suits};
 ghost use Rattle.dope_run.specs.declared.status.Status.TheVariants.{Done, WriteFault};
 ghost use Rattle.dope_run.specs.Obeying.{Obeyed};

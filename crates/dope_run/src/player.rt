@@ -2,7 +2,7 @@
 ghost use Rattle.std.specs.Prelude.{◌≡◌, ◌≢◌, ◌+◌, ◌<◌, ◌≤◌, ◌^◌, ◌∷◌, ◌++◌, [], true, false, length, take, MatchOption, MatchResult, OnOk, IfOk, IfErr, Some};
 ghost use Rattle.outside_io.specs.Count.{Rose};
 ghost use Rattle.outside_io.specs.Outbox.{Output, output, flushed};
-ghost use Rattle.desk_model.specs.State.{IsState};
+ghost use Rattle.machine_model.specs.State.{IsState};
 ghost use Rattle.script_lines.specs.declared.order.Order.TheVariants.{Nothing};
 ghost use Rattle.script_lines.specs.Lines.{is_silent, line_order};
 ghost use Rattle.dope_run.specs.declared.status.Status.TheVariants.{Done};

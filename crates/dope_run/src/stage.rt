@@ -1,6 +1,6 @@
 //! What a run works with.
 ghost use Rattle.std.specs.Prelude.{◌≡◌, [], length, IfOk};
-ghost use Rattle.desk_model.specs.Shapes.{IsShape};
+ghost use Rattle.scene_model.specs.Shapes.{IsShape};
 ghost use Rattle.dope_run.specs.Playing.{IsPlayer, IsFresh};
 
 use crate::player::Player;

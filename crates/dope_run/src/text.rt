@@ -4,7 +4,8 @@ ghost use Rattle.dope_run.specs.Text.{reply_line, drew_line, dirty_line, pixel_l
 
 use arrayvec::ArrayString;
 use cmd_text::{Reply, print_reply};
-use desk_model::{Drew, Shape};
+use cmd_words::Drew;
+use kind_core::Shape;
 use itoa::Buffer;
 
 /// A line of output, with its line feed.

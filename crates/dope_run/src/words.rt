@@ -1,10 +1,10 @@
 //! Reading the words of a command line.
 ghost use Rattle.std.specs.Prelude.{◌≡◌, ◌≤◌, map, string_bytes, codes, IfSome};
-ghost use Rattle.desk_model.specs.Shapes.{IsShape};
+ghost use Rattle.scene_model.specs.Shapes.{IsShape};
 ghost use Rattle.dope_run.specs.Words.{option_in, screen_behind, budget_behind, shape_behind, play_shape};
 
 use crate::number::number_in;
-use desk_model::Shape;
+use kind_core::Shape;
 
 /// The number behind an option of this name, from `least` to `most`.
 fn option_in(name: &str, least: u32, most: u32, word: &String, value: &String) -> Option<u32>

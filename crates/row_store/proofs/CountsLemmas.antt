@@ -7,10 +7,10 @@ use Rattle.std.specs.Cmp.{nat_eq_equiv}
 use Rattle.std.specs.List.{filter}
 use Rattle.kind_core.specs.declared.kinds.Kind.{Kind}
 use Rattle.kind_core.specs.declared.kinds.Kind.TheVariants.{Window, VScreen}
-use Rattle.desk_model.specs.Rows.{Row}
-use Rattle.desk_model.specs.Nodes.{Node, node_of, node_at, count_of, any_kind, counts_with, counted}
-use Rattle.desk_model.specs.Widgets.{row_at, with_row, without_row, nodes}
-use Rattle.desk_model.specs.Forest.{HaveOwnNumbers}
+use Rattle.widget_model.specs.Rows.{Row}
+use Rattle.widget_model.specs.Nodes.{Node, node_of, node_at, count_of, any_kind, counts_with, counted}
+use Rattle.widget_model.specs.Widgets.{row_at, with_row, without_row, nodes}
+use Rattle.widget_model.specs.Forest.{HaveOwnNumbers}
 use Rattle.row_store.specs.declared.count.Count.{Count}
 use Rattle.row_store.specs.Counts.{no_count, no_counts, number_alike, one_more, one_less, count_in, gained, lost, forgotten, AreCounts}
 use Rattle.row_store.proofs.Nodes.{count-push, nodes-with_row}

@@ -1,7 +1,7 @@
 -- The index of names after a row is put last.
 use Rattle.std.proofs.Common.{◌≡◌, ℕ, Bool, true, false, cond, List, [], ◌∷◌, ◌++◌, Option, Some, None, refl, sym, ap, ◌∙◌}
 use Rattle.std.specs.Map.{lookup}
-use Rattle.desk_model.specs.Nodes.{Node, is_named, id_named}
+use Rattle.widget_model.specs.Nodes.{Node, is_named, id_named}
 use Rattle.row_store.specs.Index.{same_key, IsIndexed}
 
 -- the last one is found where no other is

@@ -4,9 +4,9 @@ use Rattle.std.proofs.lemmas.Bool.{eq-eqb}
 use Rattle.std.proofs.lemmas.List.Sums.{sum_by_push}
 use Rattle.std.specs.Option.{option_map}
 use Rattle.kind_core.specs.declared.kinds.Kind.{Kind}
-use Rattle.desk_model.specs.Rows.{Row}
-use Rattle.desk_model.specs.Nodes.{Node, node_of, is_named, id_named, node_at, count_of}
-use Rattle.desk_model.specs.Widgets.{row_at, with_row, nodes}
+use Rattle.widget_model.specs.Rows.{Row}
+use Rattle.widget_model.specs.Nodes.{Node, node_of, is_named, id_named, node_at, count_of}
+use Rattle.widget_model.specs.Widgets.{row_at, with_row, nodes}
 
 -- a row put last is a node put last
 pub nodes-push : (es : List (ℕ × Row)) (id : ℕ) (row : Row) → nodes (es ++ (id, row) ∷ []) ≡ nodes es ++ (id, node_of row) ∷ []

@@ -3,8 +3,8 @@ use Rattle.std.proofs.Common.{◌≡◌, ◌≢◌, ℕ, zero, suc, true, false,
 use Rattle.std.proofs.lemmas.Bool.{true≢false, eqb-true, eq-eqb, ne_eqb, eqb-false, cases_Bool}
 use Rattle.std.specs.Option.{option_and_then}
 use Rattle.std.specs.Map.{lookup, remove_entry}
-use Rattle.desk_model.specs.Rows.{Row}
-use Rattle.desk_model.specs.Widgets.{row_at, with_row, without_row}
+use Rattle.widget_model.specs.Rows.{Row}
+use Rattle.widget_model.specs.Widgets.{row_at, with_row, without_row}
 use Rattle.row_store.specs.Shown.{shown, IsApart, IsShown}
 use Rattle.row_store.proofs.Options.{none_or_some}
 

@@ -5,11 +5,11 @@ use Rattle.std.proofs.lemmas.Slice.Eq.{bytes_eq-Decides}
 use Rattle.std.specs.List.{filter}
 use Rattle.std.specs.Map.{lookup}
 use Rattle.std.specs.Str.{bytes_eq}
-use Rattle.desk_model.specs.Rows.{Row}
-use Rattle.desk_model.specs.Nodes.{Node, node_of, node_at, id_named, is_named}
-use Rattle.desk_model.specs.Widgets.{row_at, nodes, without_row}
-use Rattle.desk_model.specs.Forest.{HaveOwnNumbers, HaveOwnNames}
-use Rattle.desk_model.proofs.Naming.{rows, row_named-found, row_named-parts, id_named-row}
+use Rattle.widget_model.specs.Rows.{Row}
+use Rattle.widget_model.specs.Nodes.{Node, node_of, node_at, id_named, is_named}
+use Rattle.widget_model.specs.Widgets.{row_at, nodes, without_row}
+use Rattle.widget_model.specs.Forest.{HaveOwnNumbers, HaveOwnNames}
+use Rattle.widget_model.proofs.Naming.{rows, row_named-found, row_named-parts, id_named-row}
 use Rattle.row_store.specs.Index.{same_key, IsIndexed}
 use Rattle.row_store.proofs.Options.{none_or_some, option_same}
 use Rattle.row_store.proofs.Nodes.{named-live, row_live}

@@ -1,8 +1,8 @@
 -- Numbers that are taken out one after another.
 use Rattle.std.proofs.Common.{◌≡◌, ◌≤◌, ◌+◌, ℕ, Bool, true, false, cond, not, ◌&&◌, nat_eq, nat_le, nat_lt, List, [], ◌∷◌, Some, None, refl, sym, ◌∙◌, arith}
 use Rattle.std.proofs.lemmas.Bool.{eqb-true, eqb-false, leb-true, leb-false, ltb-true, ltb-false}
-use Rattle.desk_model.specs.Rows.{Row}
-use Rattle.desk_model.specs.Widgets.{row_at, without_row}
+use Rattle.widget_model.specs.Rows.{Row}
+use Rattle.widget_model.specs.Widgets.{row_at, without_row}
 use Rattle.row_store.proofs.Taken.{kept, without_row-kept}
 
 -- one filter is as the other where the tests agree

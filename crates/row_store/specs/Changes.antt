@@ -1,5 +1,5 @@
 -- What each change makes of a row.
-use Rattle.desk_model.specs.Rows.{Row, IsIndex, with_attr, with_column_rule, with_row_rule, with_link, with_binding, with_spot}
+use Rattle.widget_model.specs.Rows.{Row, IsIndex, with_attr, with_column_rule, with_row_rule, with_link, with_binding, with_spot}
 use Rattle.row_store.specs.declared.change.Change.{Change}
 use Rattle.row_store.specs.declared.change.Change.TheVariants.{Attribute, ColumnRule, RowRule, Link, Binding, Spot}
 

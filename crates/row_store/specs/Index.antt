@@ -2,7 +2,7 @@
 use Rattle.std.specs.Prelude.{ℕ, ◌≡◌, Bool, ◌&&◌, nat_eq, List}
 use Rattle.std.specs.Str.{bytes_eq}
 use Rattle.std.specs.Map.{lookup}
-use Rattle.desk_model.specs.Nodes.{Node, id_named}
+use Rattle.widget_model.specs.Nodes.{Node, id_named}
 
 -- whether two keys are one client and one name
 abbrev pub same_key : ℕ × List ℕ → ℕ × List ℕ → Bool

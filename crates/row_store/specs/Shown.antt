@@ -1,6 +1,6 @@
 -- How the numbered rows lie in a slab: a table has the slab's key for each number, in the order of making.
 use Rattle.std.specs.Prelude.{ℕ, ◌≡◌, List, [], ◌∷◌, Option, Some, None, is_some, true, false, nat_eq}
-use Rattle.desk_model.specs.Rows.{Row}
+use Rattle.widget_model.specs.Rows.{Row}
 
 -- the numbered rows, where `at` is what the slab has at a key
 abbrev pub shown_one : ℕ → Option Row → List (ℕ × Row) → List (ℕ × Row)

@@ -1,5 +1,5 @@
 ghost use Rattle.std.specs.Prelude.{◌≡◌, ◌<◌, ◌≤◌, ◌+◌, ◌-◌, ◌*◌, ℕ, [], None, OnOk, length, slice_set, slice_index_or};
-ghost use Rattle.desk_model.specs.Rows.{IsIndex};
+ghost use Rattle.widget_model.specs.Rows.{IsIndex};
 ghost use Rattle.row_store.specs.Places.{cell_place};
 
 use std::alloc::{AllocError, Global};

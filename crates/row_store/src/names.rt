@@ -1,9 +1,9 @@
 ghost use Rattle.std.specs.Prelude.{◌≡◌, ◌++◌, ◌∷◌, [], None, IsSome, is_ok, if◌then◌else◌, not, nat_eq};
 ghost use Rattle.std.specs.List.{filter};
-ghost use Rattle.desk_model.specs.Rows.{new_row};
-ghost use Rattle.desk_model.specs.Nodes.{id_named};
-ghost use Rattle.desk_model.specs.Widgets.{row_at, nodes, without_row};
-ghost use Rattle.desk_model.specs.Forest.{HaveOwnNumbers, HaveOwnNames};
+ghost use Rattle.widget_model.specs.Rows.{new_row};
+ghost use Rattle.widget_model.specs.Nodes.{id_named};
+ghost use Rattle.widget_model.specs.Widgets.{row_at, nodes, without_row};
+ghost use Rattle.widget_model.specs.Forest.{HaveOwnNumbers, HaveOwnNames};
 ghost use Rattle.row_store.specs.Index.{IsIndexed};
 
 use crate::row::Row;

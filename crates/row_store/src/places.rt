@@ -1,5 +1,5 @@
 ghost use Rattle.std.specs.Prelude.{◌≡◌, ◌<◌};
-ghost use Rattle.desk_model.specs.Rows.{attr_place, event_place};
+ghost use Rattle.widget_model.specs.Rows.{attr_place, event_place};
 
 use kind_core::{Attr, EventKind};
 

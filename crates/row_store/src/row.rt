@@ -1,5 +1,5 @@
 ghost use Rattle.std.specs.Prelude.{◌≡◌};
-ghost use Rattle.desk_model.specs.Rows.{new_row, first_values, default_at, attr_of, IsIndex, column_rule_of, row_rule_of, binding_of};
+ghost use Rattle.widget_model.specs.Rows.{new_row, first_values, default_at, attr_of, IsIndex, column_rule_of, row_rule_of, binding_of};
 ghost use Rattle.row_store.specs.Changes.{changed_by, CanBeMade};
 
 use crate::change::Change;
@@ -23,7 +23,7 @@ pub struct Row {
 }
 
 impl Model for Row {
-    ghost use Rattle.desk_model.specs.Rows.{Row as Seen};
+    ghost use Rattle.widget_model.specs.Rows.{Row as Seen};
 
     ghost Value = { Seen };
 
@@ -31,7 +31,7 @@ impl Model for Row {
 }
 
 /// The default of the kind's attribute.
-#[tactic(auto, unfolding(desk_model::specs::Rows::default_at))]
+#[tactic(auto, unfolding(widget_model::specs::Rows::default_at))]
 fn default_at(kind: Kind, attr: Attr) -> Option<Value>
     ensures { result ≡ default_at kind attr }
 {
@@ -39,7 +39,7 @@ fn default_at(kind: Kind, attr: Attr) -> Option<Value>
 }
 
 /// The values of a new row of the kind.
-#[tactic(auto, unfolding(desk_model::specs::Rows::first_values))]
+#[tactic(auto, unfolding(widget_model::specs::Rows::first_values))]
 fn first_values(kind: Kind) -> [Option<Value>; 13]
     ensures { result ≡ first_values kind }
 {
@@ -63,7 +63,7 @@ fn first_values(kind: Kind) -> [Option<Value>; 13]
 impl Row {
     /// The row of a new widget, with the defaults of its kind. It hangs in none, has no rules, no link and no
     /// bindings.
-    #[tactic(auto, unfolding(desk_model::specs::Rows::new_row))]
+    #[tactic(auto, unfolding(widget_model::specs::Rows::new_row))]
     pub fn new(client: u32, name: Name, kind: Kind) -> Row
         ensures { result ≡ new_row client name kind }
     {

@@ -2,8 +2,8 @@ ghost use Rattle.std.specs.Prelude.{◌≡◌, ◌<◌, ◌≤◌, not, ◌++◌
 ghost use Rattle.std.specs.Option.{option_copied};
 ghost use Rattle.std.specs.List.{filter};
 ghost use Rattle.slab.specs.Slab.{get as slab_get};
-ghost use Rattle.desk_model.specs.Nodes.{is_number_of};
-ghost use Rattle.desk_model.specs.Widgets.{row_at, with_row, without_row};
+ghost use Rattle.widget_model.specs.Nodes.{is_number_of};
+ghost use Rattle.widget_model.specs.Widgets.{row_at, with_row, without_row};
 ghost use Rattle.row_store.specs.Changes.{changed_by, CanBeMade};
 ghost use Rattle.row_store.specs.Shown.{shown, IsShown};
 
@@ -24,7 +24,7 @@ pub struct Store {
 impl Model for Store {
     ghost use Rattle.std.specs.Prelude.{ℕ, List};
     ghost use Rattle.slab.specs.Slab.{get as slab_get};
-    ghost use Rattle.desk_model.specs.Rows.{Row as Seen};
+    ghost use Rattle.widget_model.specs.Rows.{Row as Seen};
     ghost use Rattle.row_store.specs.Shown.{shown, IsShown};
 
     ghost Value = { List (ℕ × Seen) };

@@ -4,9 +4,11 @@ use Rattle.std.specs.List.{slice_get}
 use Rattle.std.specs.Option.{option_map}
 use Rattle.std.proofs.lemmas.List.{take_more, take_more_set, length-map}
 use Rattle.std.proofs.lemmas.Option.{slice_get_within, get_or_from_slice_get}
-use Rattle.desk_model.specs.declared.window.Window.{Window}
+use Rattle.scene_model.specs.declared.window.Window.{Window}
 use Rattle.desk_model.specs.Desk.{Desk}
-use Rattle.desk_model.specs.OpenWindows.{open_windows, place_of_window}
+use Rattle.scene_model.specs.OpenWindows.{place_of_window}
+use Rattle.scene_model.specs.OpenWindows.{window_places}
+use Rattle.desk_model.specs.Seen.{open_windows}
 
 -- a window as the numbers of its place
 abbrev numbers : Window → ℤ × ℤ × ℕ × ℕ
@@ -14,7 +16,7 @@ numbers w = (w.x, w.y, w.w, w.h)
 
 -- there are as many places as open windows
 pub length-open_windows : (desk : Desk) → length (open_windows desk) ≡ length desk.windows
-unfolding open_windows
+unfolding open_windows window_places
 length-open_windows desk = length-map desk.windows (place_of_window desk.rows)
 
 -- the window whose numbers were read

@@ -6,9 +6,9 @@ use Rattle.std.proofs.lemmas.List.{length-set, get_or-set_same, get_or-set_other
 use Rattle.std.proofs.lemmas.List.Sums.{sum_by-set}
 use Rattle.std.proofs.lemmas.Bool.{cases_lt, cond-false, true≢false}
 use Rattle.std.proofs.lemmas.List.Folds.{list_any_more}
-use Rattle.desk_model.specs.declared.window.Window.{Window}
-use Rattle.desk_model.specs.Windows.{is_within, shows, shown_by_any}
-use Rattle.desk_model.specs.State.{count_true}
+use Rattle.scene_model.specs.declared.window.Window.{Window}
+use Rattle.scene_model.specs.Windows.{is_within, shows, shown_by_any}
+use Rattle.machine_model.specs.State.{count_true}
 use Rattle.server_core.specs.Sweeping.{mark_at}
 use Rattle.server_core.specs.Marking.{MarkedTo, MarkedAll, shown_at, shows_at}
 

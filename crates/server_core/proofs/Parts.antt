@@ -4,31 +4,34 @@ use Rattle.std.proofs.lemmas.Nat.{mul-add-lt, div-mul-add, mod-mul-add}
 use Rattle.cmd_words.specs.declared.inputs.Drew.{Drew}
 use Rattle.cmd_words.specs.declared.replies.Reply.{Reply}
 use Rattle.kind_core.specs.declared.shapes.Shape.{Shape}
-use Rattle.desk_model.specs.declared.window.Window.{Window}
-use Rattle.desk_model.specs.Shapes.{area}
+use Rattle.scene_model.specs.declared.window.Window.{Window}
+use Rattle.scene_model.specs.Shapes.{area}
 use Rattle.desk_model.specs.Desk.{Desk, opening_desk}
-use Rattle.desk_model.specs.OpenWindows.{open_windows}
-use Rattle.desk_model.specs.Windows.{shown_by_any, top_at}
-use Rattle.desk_model.specs.Picture.{colour, colour_through}
-use Rattle.desk_model.specs.Reach.{IsTouched, is_shown, in_reach}
+use Rattle.scene_model.specs.OpenWindows.{window_places}
+use Rattle.scene_model.specs.Picture.{scene_colour}
+use Rattle.desk_model.specs.Seen.{open_windows}
+use Rattle.scene_model.specs.Windows.{shown_by_any, top_at}
+use Rattle.scene_model.specs.Picture.{colour_through}
+use Rattle.desk_model.specs.Seen.{colour}
+use Rattle.machine_model.specs.Reach.{IsTouched, is_shown, in_reach}
 use Rattle.desk_model.specs.Refusing.{is_memory}
 use Rattle.desk_model.specs.Beat.{beat, in_band}
-use Rattle.desk_model.specs.State.{IsState, count_true, opening}
-use Rattle.desk_model.specs.Step.{Obeyed, Changed, Answered, Ticked}
+use Rattle.machine_model.specs.State.{IsState, count_true, opening}
+use Rattle.machine_model.specs.Step.{Obeyed, Changed, Answered, Ticked}
 use Rattle.desk_core.specs.Standing.{Standing, TellsChange}
 use Rattle.server_core.specs.Serving.{state_of, IsServing}
 use Rattle.server_core.specs.Sweeping.{SweptTo, mark_at, colour_under}
 use Rattle.server_core.specs.Marking.{Followed, shown_at}
 use Rattle.canvas_core.specs.Screen.{Screen, IsScreen, with_span}
 use Rattle.canvas_core.proofs.Span.{with_span-one}
-use Rattle.desk_model.proofs.Pixels.{place_of_pixel}
-use Rattle.desk_model.proofs.Reach.{open_windows-same}
-use Rattle.desk_model.proofs.Telling.{IsTouched-told}
+use Rattle.machine_model.proofs.Pixels.{place_of_pixel}
+use Rattle.machine_model.proofs.Reach.{open_windows-same}
+use Rattle.machine_model.proofs.Telling.{IsTouched-told}
 use Rattle.cmd_words.specs.declared.commands.Command.{Command}
 use Rattle.desk_model.specs.DeskFacts.{IsDesk}
 use Rattle.desk_model.specs.Commands.{step}
-use Rattle.desk_model.proofs.Beat.{band_count-none}
-use Rattle.desk_model.proofs.Steps.{IsState-changed, IsState-ticked, shape-step_command}
+use Rattle.machine_model.proofs.Beat.{band_count-none}
+use Rattle.machine_model.proofs.Steps.{IsState-changed, IsState-ticked, shape-step_command}
 use Rattle.server_core.proofs.Sweeps.{SweptTo-count}
 use Rattle.server_core.proofs.Marks.{or_false}
 
@@ -117,7 +120,7 @@ obeyed_of_parts before after client command reply fine is steps tells f =
 
 -- a sweep of the whole map is a tick
 Ticked-from_sweep : (desk : Desk) (bytes : List ℕ) (dirt : List Bool) (bands queue left : ℕ) (new_bytes : List ℕ) (new_dirt : List Bool) → IsState (state_of desk bytes dirt) → SweptTo (length dirt) (colour_under (open_windows desk) desk.shape.width) (desk.shape.budget - bands) bytes dirt queue new_bytes new_dirt → bands ≡ 0 → left ≡ count_true dirt - queue → Ticked (state_of desk bytes dirt) (record { bands = bands; queue = queue; left = left }) (state_of desk new_bytes new_dirt)
-unfolding beat in_band colour
+unfolding beat in_band colour scene_colour open_windows
 Ticked-from_sweep desk bytes dirt bands queue left new_bytes new_dirt is s none e =
     record {
       desk = refl;
@@ -169,7 +172,7 @@ opened shape desk bytes dirt d e f =
 
 -- no window is open at opening
 pub open_windows-opening : (shape : Shape) (desk : Desk) → desk ≡ opening_desk shape → [] ≡ open_windows desk
-unfolding open_windows
+unfolding open_windows window_places
 open_windows-opening shape desk is = ap open_windows (sym is)
 
 -- one byte written at the pixel of the place k

@@ -4,7 +4,7 @@ use Rattle.std.proofs.Common.{◌≡◌, ℕ, ◌+◌, ◌<◌, ◌≤◌, inl, 
 use Rattle.std.proofs.lemmas.List.{length-set, get_or-set_same, get_or-set_other, get_or_past, take_all}
 use Rattle.std.proofs.lemmas.List.Sums.{count_by_more_yes, count_by_more_no, sum_by-set, sum_by-take-le}
 use Rattle.std.proofs.lemmas.Bool.{cases_eq, cond-true, cond-false}
-use Rattle.desk_model.specs.State.{count_true}
+use Rattle.machine_model.specs.State.{count_true}
 use Rattle.server_core.specs.Sweeping.{SweptTo, mark_at}
 
 -- a mark that stayed was not cleaned

@@ -3,19 +3,19 @@ use Rattle.std.specs.Prelude.{◌≡◌, ◌≢◌, ℕ, ◌-◌, ◌*◌, ◌�
 use Rattle.std.specs.List.{All}
 use Rattle.cmd_words.specs.declared.inputs.Drew.{Drew}
 use Rattle.kind_core.specs.declared.shapes.Shape.{Shape}
-use Rattle.desk_model.specs.Shapes.{IsShape}
+use Rattle.scene_model.specs.Shapes.{IsShape}
 use Rattle.desk_model.specs.Desk.{Desk}
-use Rattle.desk_model.specs.Picture.{colour, picture}
-use Rattle.desk_model.specs.Reach.{IsTouched, in_reach}
+use Rattle.desk_model.specs.Seen.{colour, picture}
+use Rattle.machine_model.specs.Reach.{IsTouched, in_reach}
 use Rattle.desk_model.specs.Beat.{beat, in_band}
-use Rattle.desk_model.specs.State.{State, IsState, opening, dirty_count}
-use Rattle.desk_model.specs.Events.{Event, Answer}
-use Rattle.desk_model.specs.Events.Event.{Tick}
-use Rattle.desk_model.specs.Events.Answer.{Drawn}
-use Rattle.desk_model.specs.Step.{Step, CanCome}
-use Rattle.desk_model.specs.Chosen.{lost_marks, TickedWith}
-use Rattle.desk_model.specs.Run.{Moment, Run, state_after, events_of}
-use Rattle.desk_model.specs.Laws.{KeepsBudget, IsUndisturbed, enough_ticks, IsDrawnAfresh, KeepsLaws}
+use Rattle.machine_model.specs.State.{State, IsState, opening, dirty_count}
+use Rattle.machine_model.specs.Events.{Event, Answer}
+use Rattle.machine_model.specs.Events.Event.{Tick}
+use Rattle.machine_model.specs.Events.Answer.{Drawn}
+use Rattle.machine_model.specs.Step.{Step, CanCome}
+use Rattle.machine_model.specs.Chosen.{lost_marks, TickedWith}
+use Rattle.machine_model.specs.Run.{Moment, Run, state_after, events_of}
+use Rattle.machine_model.specs.Laws.{KeepsBudget, IsUndisturbed, enough_ticks, IsDrawnAfresh, KeepsLaws}
 
 -- Between any two desks no pixel outside the reach has another colour.
 abbrev pub ColoursAgreeOutsideTheReach : Type 0

@@ -1,9 +1,9 @@
 -- Marking pixels dirty: where a window shows them, where one of several does, and what a change of the desk asks for.
 use Rattle.std.specs.Prelude.{◌≡◌, ℕ, ◌/◌, ◌%◌, ◌<◌, ◌≤◌, Bool, ◌&&◌, ◌||◌, if◌then◌else◌, List, length}
-use Rattle.desk_model.specs.declared.window.Window.{Window}
-use Rattle.desk_model.specs.Windows.{shows, shown_by_any}
-use Rattle.desk_model.specs.OpenWindows.{open_windows}
-use Rattle.desk_model.specs.State.{count_true}
+use Rattle.scene_model.specs.declared.window.Window.{Window}
+use Rattle.scene_model.specs.Windows.{shows, shown_by_any}
+use Rattle.desk_model.specs.Seen.{open_windows}
+use Rattle.machine_model.specs.State.{count_true}
 use Rattle.desk_core.specs.Standing.{Standing}
 use Rattle.server_core.specs.Sweeping.{mark_at}
 

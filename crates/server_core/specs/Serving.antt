@@ -3,10 +3,10 @@
 use Rattle.std.specs.Prelude.{◌≡◌, ℕ, Bool, List}
 use Rattle.canvas_core.specs.Screen.{Screen, IsScreen}
 use Rattle.kind_core.specs.declared.shapes.Shape.{Shape}
-use Rattle.desk_model.specs.declared.window.Window.{Window}
+use Rattle.scene_model.specs.declared.window.Window.{Window}
 use Rattle.desk_model.specs.Desk.{Desk}
-use Rattle.desk_model.specs.OpenWindows.{open_windows}
-use Rattle.desk_model.specs.State.{State, IsState, count_true}
+use Rattle.desk_model.specs.Seen.{open_windows}
+use Rattle.machine_model.specs.State.{State, IsState, count_true}
 
 pub record Serving : Type 0 where
   pub state : State

@@ -1,9 +1,9 @@
 -- A sweep from the front of the dirt map that cleans and draws, place by place.
 use Rattle.std.specs.Prelude.{◌≡◌, ℕ, ◌+◌, ◌/◌, ◌%◌, ◌<◌, ◌≤◌, min, Bool, true, false, not, ◌&&◌, if◌then◌else◌, List, length, take, slice_index_or}
-use Rattle.desk_model.specs.declared.window.Window.{Window}
-use Rattle.desk_model.specs.Windows.{top_at}
-use Rattle.desk_model.specs.Picture.{colour_through}
-use Rattle.desk_model.specs.State.{count_true}
+use Rattle.scene_model.specs.declared.window.Window.{Window}
+use Rattle.scene_model.specs.Windows.{top_at}
+use Rattle.scene_model.specs.Picture.{colour_through}
+use Rattle.machine_model.specs.State.{count_true}
 
 abbrev pub mark_at : List Bool → ℕ → Bool
 mark_at marks k = slice_index_or marks k false

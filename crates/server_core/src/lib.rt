@@ -10,7 +10,7 @@ mod places;
 mod server;
 mod sweeping;
 
-pub use cmd_words::{Command, Reply};
-pub use desk_model::{Drew, Shape};
+pub use cmd_words::{Command, Drew, Reply};
+pub use kind_core::Shape;
 pub use no_memory::NoMemory;
 pub use server::Server;

@@ -1,13 +1,13 @@
 //! What a change of the desk does to the dirt map: marking makes dirty.
 
 ghost use Rattle.std.specs.Prelude.{◌≡◌, ℕ, ◌/◌, ◌^◌, ◌<◌, ◌≤◌, pos, ◌<ℤ◌, ◌≤ℤ◌, length};
-ghost use Rattle.desk_model.specs.State.{count_true};
+ghost use Rattle.machine_model.specs.State.{count_true};
 ghost use Rattle.server_core.specs.Marking.{MarkedTo, MarkedAll, Followed};
 
 use crate::painting::is_shown;
 use crate::places::Places;
 use desk_core::Desk;
-use desk_model::Window;
+use scene_model::Window;
 
 /// Follows a call on the desk. Where it was changed, the windows' places are collected anew, and each pixel that
 /// one of them shows, before or after, becomes dirty in a map of rows of `width` pixels of which `dirty` are

@@ -1,10 +1,10 @@
 //! The colour of a pixel, worked out from the list of windows.
 
 ghost use Rattle.std.specs.Prelude.{◌≡◌};
-ghost use Rattle.desk_model.specs.Windows.{is_within, shows, top_at};
-ghost use Rattle.desk_model.specs.Picture.{window_look, colour_through};
+ghost use Rattle.scene_model.specs.Windows.{is_within, shows, top_at};
+ghost use Rattle.scene_model.specs.Picture.{window_look, colour_through};
 
-use desk_model::Window;
+use scene_model::Window;
 
 /// The palette number of the desk.
 const DESK: u8 = 2;
@@ -18,7 +18,7 @@ const TITLE: u8 = 5;
 const TITLE_ROWS: u64 = 12;
 
 /// The colour of the pixel (x, y) under these windows, the top one first.
-#[tactic(auto, unfolding(desk_model::specs::Picture::window_colour))]
+#[tactic(auto, unfolding(scene_model::specs::Picture::window_colour))]
 pub fn colour_at(windows: &[Window], x: u32, y: u32) -> u8
     ensures { result ≡ colour_through (top_at windows.now x y) x y }
 {
@@ -33,7 +33,7 @@ pub fn colour_at(windows: &[Window], x: u32, y: u32) -> u8
 }
 
 /// Whether the window's place holds the pixel (x, y).
-#[tactic(auto, unfolding(desk_model::specs::Windows::shows))]
+#[tactic(auto, unfolding(scene_model::specs::Windows::shows))]
 pub fn is_shown(window: &Window, x: u32, y: u32) -> bool
     ensures { result ≡ shows window.now x y }
 {
@@ -41,7 +41,7 @@ pub fn is_shown(window: &Window, x: u32, y: u32) -> bool
 }
 
 // The first window of the list, from the top, that shows the pixel.
-#[tactic(auto, using(std::proofs::lemmas::List::drop_more, std::proofs::lemmas::List::drop_all), unfolding(desk_model::specs::Windows::top_at))]
+#[tactic(auto, using(std::proofs::lemmas::List::drop_more, std::proofs::lemmas::List::drop_all), unfolding(scene_model::specs::Windows::top_at))]
 fn top_window(windows: &[Window], x: u32, y: u32) -> Option<Window>
     ensures { result ≡ top_at windows.now x y }
 {

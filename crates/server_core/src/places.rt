@@ -1,10 +1,10 @@
 //! The open windows' places, kept beside the desk so that a tick need not look them up.
 
 ghost use Rattle.std.specs.Prelude.{◌≡◌, ◌≤◌, [], length, take};
-ghost use Rattle.desk_model.specs.OpenWindows.{open_windows};
+ghost use Rattle.desk_model.specs.Seen.{open_windows};
 
 use desk_core::Desk;
-use desk_model::Window;
+use scene_model::Window;
 use std::marker::Model;
 
 /// How many windows can be open at once: 8 of each of 16 clients.
@@ -19,7 +19,7 @@ pub struct Places {
 
 impl Model for Places {
     ghost use Rattle.std.specs.Prelude.{List, take, ◌≤◌};
-    ghost use Rattle.desk_model.specs.declared.window.Window.{Window};
+    ghost use Rattle.scene_model.specs.declared.window.Window.{Window};
 
     ghost Value = { List Window };
 

@@ -1,21 +1,21 @@
 ghost use Rattle.std.specs.Prelude.{◌≡◌, ◌+◌, ◌-◌, ◌≤◌, true, [], length, IfOk};
-ghost use Rattle.desk_model.specs.Shapes.{IsShape};
-ghost use Rattle.desk_model.specs.Picture.{picture};
+ghost use Rattle.scene_model.specs.Shapes.{IsShape};
+ghost use Rattle.desk_model.specs.Seen.{picture};
 ghost use Rattle.desk_model.specs.Commands.{is_built};
-ghost use Rattle.desk_model.specs.State.{IsState, dirty_count, opening};
-ghost use Rattle.desk_model.specs.Events.Event.{Connect, Hello, Bye, Ask, Tick};
-ghost use Rattle.desk_model.specs.Events.Answer.{Replied, Drawn};
-ghost use Rattle.desk_model.specs.Step.{Step};
-ghost use Rattle.desk_model.specs.Chosen.{lost_marks, TickedWith};
+ghost use Rattle.machine_model.specs.State.{IsState, dirty_count, opening};
+ghost use Rattle.machine_model.specs.Events.Event.{Connect, Hello, Bye, Ask, Tick};
+ghost use Rattle.machine_model.specs.Events.Answer.{Replied, Drawn};
+ghost use Rattle.machine_model.specs.Step.{Step};
+ghost use Rattle.machine_model.specs.Chosen.{lost_marks, TickedWith};
 
 use crate::marking::follow;
 use crate::no_memory::NoMemory;
 use crate::places::Places;
 use crate::sweeping::sweep;
 use canvas_core::Canvas;
-use cmd_words::{Command, Reply};
+use cmd_words::{Command, Drew, Reply};
 use desk_core::Desk;
-use desk_model::{Drew, Shape};
+use kind_core::Shape;
 use std::alloc::Global;
 use std::marker::Model;
 

@@ -6,7 +6,7 @@ ghost use Rattle.server_core.specs.Sweeping.{colour_under, SweptTo};
 
 use crate::painting::colour_at;
 use canvas_core::Canvas;
-use desk_model::Window;
+use scene_model::Window;
 
 /// Goes over the map from its front and cleans dirty pixels, writing each with its colour, until `room` are
 /// written. How many it wrote.

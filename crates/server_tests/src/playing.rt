@@ -4,7 +4,7 @@
 //! - `dirty | NUMBER` or `live | NUMBER`: the dirty pixels, or the connected clients;
 //! - `pixel X Y | BYTE`: what the screen has there; or `plain | BYTE`: what it has in each pixel.
 ghost use Rattle.std.specs.Prelude.{◌≡◌, ◌≤◌};
-ghost use Rattle.desk_model.specs.Shapes.{IsShape};
+ghost use Rattle.scene_model.specs.Shapes.{IsShape};
 
 use arrayvec::ArrayString;
 use cmd_text::{Reply, parse, print_reply};

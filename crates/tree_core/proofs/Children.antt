@@ -5,19 +5,19 @@ use Rattle.std.specs.Option.{option_map_or, option_and_then}
 use Rattle.kind_core.specs.declared.kinds.Kind.{Kind}
 use Rattle.kind_core.specs.declared.kinds.Kind.TheVariants.{Window, Grid, Frame}
 use Rattle.kind_core.specs.declared.shapes.Cell.{Cell}
-use Rattle.desk_model.specs.Rows.{Row}
-use Rattle.desk_model.specs.Nodes.{id_named}
-use Rattle.desk_model.specs.Named.{row_named}
-use Rattle.desk_model.specs.Trees.{can_be_child, child_in, stands_at}
-use Rattle.desk_model.specs.Planted.{has_cell, takes_cell, is_cell, hangs_right}
-use Rattle.desk_model.specs.Places.{child_id}
-use Rattle.desk_model.specs.Widgets.{row_at, nodes}
-use Rattle.desk_model.proofs.Naming.{row_named-found, row_named-none, id_named-row, row_named-parts}
-use Rattle.desk_model.specs.Rows.{IsIndex}
+use Rattle.widget_model.specs.Rows.{Row}
+use Rattle.widget_model.specs.Nodes.{id_named}
+use Rattle.widget_model.specs.Named.{row_named}
+use Rattle.widget_model.specs.Trees.{can_be_child, child_in, stands_at}
+use Rattle.widget_model.specs.Planted.{has_cell, takes_cell, is_cell, hangs_right}
+use Rattle.widget_model.specs.Places.{child_id}
+use Rattle.widget_model.specs.Widgets.{row_at, nodes}
+use Rattle.widget_model.proofs.Naming.{row_named-found, row_named-none, id_named-row, row_named-parts}
+use Rattle.widget_model.specs.Rows.{IsIndex}
 use Rattle.tree_core.specs.Children.{cells_of, rows_in, widgets_in}
 use Rattle.tree_core.specs.Kept.{IsGrove}
 use Rattle.tree_core.proofs.Listed.{find_place, all_at, listed_number, numbered_place}
-use Rattle.desk_model.proofs.Cells.{child_in-stands, child_in-own}
+use Rattle.widget_model.proofs.Cells.{child_in-stands, child_in-own}
 
 -- the lower of two numbered rows hangs in the upper, in that column and row
 pub record HangsAt (es : List (ℕ × Row)) (below above column line : ℕ) : Type 0 where

@@ -4,19 +4,19 @@ use Rattle.std.proofs.lemmas.Bool.{true≢false, eqb-true, eqb-false, eq-eqb, an
 use Rattle.std.specs.List.{list_all, filter}
 use Rattle.std.specs.Map.{lookup}
 use Rattle.std.specs.Option.{option_map}
-use Rattle.desk_model.specs.Rows.{Row}
-use Rattle.desk_model.specs.Nodes.{Node, id_named, is_number_of, first_number}
-use Rattle.desk_model.specs.Planted.{IsPlanted}
-use Rattle.desk_model.specs.Widgets.{row_at, nodes, is_joined}
-use Rattle.desk_model.specs.Forest.{is_client, IsForest}
-use Rattle.desk_model.proofs.Naming.{rows-filter_others}
-use Rattle.desk_model.specs.Rows.{IsIndex}
+use Rattle.widget_model.specs.Rows.{Row}
+use Rattle.widget_model.specs.Nodes.{Node, id_named, is_number_of, first_number}
+use Rattle.widget_model.specs.Planted.{IsPlanted}
+use Rattle.widget_model.specs.Widgets.{row_at, nodes, is_joined}
+use Rattle.widget_model.specs.Forest.{is_client, IsForest}
+use Rattle.widget_model.proofs.Naming.{rows-filter_others}
+use Rattle.widget_model.specs.Rows.{IsIndex}
 use Rattle.row_store.specs.Places.{cell_place}
 use Rattle.tree_core.specs.Children.{rows_in}
 use Rattle.row_store.specs.Index.{same_key, IsIndexed}
 use Rattle.tree_core.specs.Kept.{IsGrove, IsTree}
 use Rattle.row_store.proofs.Options.{none_or_some}
-use Rattle.desk_model.proofs.Planting.{IsPlanted-others}
+use Rattle.widget_model.proofs.Planting.{IsPlanted-others}
 use Rattle.row_store.proofs.Taken.{kept, nodes-kept, id_named-numbered, id_named-kept, id_named-gone}
 use Rattle.tree_core.proofs.TakenLinks.{linked-kept, HasChildren-kept, row_at-kept}
 use Rattle.tree_core.proofs.TreeKept.{IsGrove-tree, nodes-all}

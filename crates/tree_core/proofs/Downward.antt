@@ -9,17 +9,17 @@ use Rattle.std.specs.Ordering.{ord_max, nat_cmp}
 use Rattle.std.specs.Str.{bytes_eq}
 use Rattle.std.specs.declared.cmp.Ordering.TheVariants.{Less, Equal, Greater}
 use Rattle.kind_core.specs.declared.shapes.Cell.{Cell}
-use Rattle.desk_model.specs.Rows.{Row}
-use Rattle.desk_model.specs.Trees.{is_child, height_in, greatest_child}
-use Rattle.desk_model.specs.Places.{child_id}
-use Rattle.desk_model.specs.Widgets.{row_at}
+use Rattle.widget_model.specs.Rows.{Row}
+use Rattle.widget_model.specs.Trees.{is_child, height_in, greatest_child}
+use Rattle.widget_model.specs.Places.{child_id}
+use Rattle.widget_model.specs.Widgets.{row_at}
 use Rattle.tree_core.specs.Children.{cells_of, rows_in, widgets_in, HasChildren}
 use Rattle.row_store.specs.Places.{cell_place}
-use Rattle.desk_model.specs.Rows.{IsIndex}
+use Rattle.widget_model.specs.Rows.{IsIndex}
 use Rattle.tree_core.specs.Kept.{IsGrove}
 use Rattle.tree_core.proofs.Listed.{listed_number, numbered_place, any_at, any_place}
 use Rattle.tree_core.proofs.Children.{child_id-hangs, hangs-child_id, spot-hangs, HangsUnder-HangsAt, own_number}
-use Rattle.desk_model.proofs.Levels.{greatest_child-each, greatest_child-most}
+use Rattle.widget_model.proofs.Levels.{greatest_child-each, greatest_child-most}
 
 -- a numbered row that is a child of another
 pub record IsChildRow (es : List (ℕ × Row)) (upper : Row) (below : ℕ) : Type 0 where

@@ -10,11 +10,11 @@ use Rattle.kind_core.specs.declared.kinds.Attr.{Attr}
 use Rattle.kind_core.specs.declared.kinds.Attr.TheVariants.{X, Y, W, H, Title, Text, Caret, Cols, Value, Max, Real, View, Vert}
 use Rattle.kind_core.specs.declared.values.Value as value
 use Rattle.kind_core.specs.Attributes.{domain_of, judged}
-use Rattle.desk_model.specs.Rows.{Row, all_attrs, attr_of, attr_place, with_attr, new_row, first_values, default_at}
-use Rattle.desk_model.specs.Nodes.{node_at}
-use Rattle.desk_model.specs.Widgets.{row_at, nodes, with_row}
-use Rattle.desk_model.specs.Forest.{HaveOwnNumbers}
-use Rattle.desk_model.specs.Fitting.{fits_attr, fits_table}
+use Rattle.widget_model.specs.Rows.{Row, all_attrs, attr_of, attr_place, with_attr, new_row, first_values, default_at}
+use Rattle.widget_model.specs.Nodes.{node_at}
+use Rattle.widget_model.specs.Widgets.{row_at, nodes, with_row}
+use Rattle.widget_model.specs.Forest.{HaveOwnNumbers}
+use Rattle.widget_model.specs.Fitting.{fits_attr, fits_table}
 use Rattle.tree_core.specs.Children.{rows_in}
 use Rattle.tree_core.proofs.Listed.{rows_in-push}
 use Rattle.tree_core.proofs.ForestLemmas.{with_row_absent, list_all-push}

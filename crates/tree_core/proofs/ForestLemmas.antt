@@ -11,11 +11,11 @@ use Rattle.std.specs.Option.{option_map}
 use Rattle.std.specs.Str.{bytes_eq}
 use Rattle.kind_core.specs.declared.kinds.Kind.{Kind}
 use Rattle.kind_core.specs.declared.kinds.Kind.TheVariants.{Window, Variable, VScreen}
-use Rattle.desk_model.specs.Rows.{Row, with_link}
-use Rattle.desk_model.specs.Links.{Tie, ties, is_variable, leads, all_lead, name_at}
-use Rattle.desk_model.specs.Nodes.{Node, node_of, is_named, id_named, kind_named, node_at, count_of, any_kind, counts_with, first_number, is_number_of}
-use Rattle.desk_model.specs.Widgets.{row_at, row_kind, row_client, with_row, nodes, is_joined}
-use Rattle.desk_model.specs.Forest.{HaveOwnNumbers, HaveOwnNames, is_client, IsForest}
+use Rattle.widget_model.specs.Rows.{Row, with_link}
+use Rattle.widget_model.specs.Links.{Tie, ties, is_variable, leads, all_lead, name_at}
+use Rattle.widget_model.specs.Nodes.{Node, node_of, is_named, id_named, kind_named, node_at, count_of, any_kind, counts_with, first_number, is_number_of}
+use Rattle.widget_model.specs.Widgets.{row_at, row_kind, row_client, with_row, nodes, is_joined}
+use Rattle.widget_model.specs.Forest.{HaveOwnNumbers, HaveOwnNames, is_client, IsForest}
 use Rattle.row_store.proofs.Index.{id_named-push}
 pub use Rattle.row_store.proofs.Nodes.{node_at-nodes, nodes-with_row}
 use Rattle.row_store.proofs.Nodes.{nodes-push, count-push}

@@ -4,10 +4,10 @@ use Rattle.std.proofs.lemmas.Bool.{and_parts, and_from}
 use Rattle.std.proofs.lemmas.List.Sums.{sum_by-cons}
 use Rattle.std.specs.List.{list_all}
 use Rattle.kind_core.specs.declared.kinds.Kind.{Kind}
-use Rattle.desk_model.specs.Rows.{Row}
-use Rattle.desk_model.specs.Nodes.{Node, is_number_of, count_of, any_kind, counts_with}
-use Rattle.desk_model.specs.Widgets.{nodes, is_joined}
-use Rattle.desk_model.specs.Forest.{IsForest, is_client}
+use Rattle.widget_model.specs.Rows.{Row}
+use Rattle.widget_model.specs.Nodes.{Node, is_number_of, count_of, any_kind, counts_with}
+use Rattle.widget_model.specs.Widgets.{nodes, is_joined}
+use Rattle.widget_model.specs.Forest.{IsForest, is_client}
 use Rattle.row_store.proofs.Taken.{kept, nodes-kept, own_numbers-kept, own_names-kept}
 
 pub list_all-kept : {X : Type 0} (p : ℕ × X → Bool) (test : ℕ → Bool) (es : List (ℕ × X)) → list_all p es ≡ true → list_all p (kept test es) ≡ true

@@ -4,14 +4,14 @@ use Rattle.std.proofs.lemmas.Bool.{true≢false, and_parts, and_from}
 use Rattle.std.specs.Option.{option_map, option_map_or, option_and_then}
 use Rattle.kind_core.specs.declared.kinds.Kind.{Kind}
 use Rattle.kind_core.specs.declared.shapes.Cell.{Cell}
-use Rattle.desk_model.specs.Rows.{Row, with_spot}
-use Rattle.desk_model.specs.Nodes.{Node, node_of}
-use Rattle.desk_model.specs.Named.{row_named, with_named}
-use Rattle.desk_model.specs.Trees.{hangs, has_children, can_be_child, child_in, depth_of, height_of, is_above, most_levels}
-use Rattle.desk_model.specs.Planted.{takes_cell, IsPlanted}
-use Rattle.desk_model.specs.Widgets.{row_at, with_row}
-use Rattle.desk_model.specs.Forest.{HaveOwnNumbers, HaveOwnNames}
-use Rattle.desk_model.proofs.Naming.{rows-with_row, id_named-row}
+use Rattle.widget_model.specs.Rows.{Row, with_spot}
+use Rattle.widget_model.specs.Nodes.{Node, node_of}
+use Rattle.widget_model.specs.Named.{row_named, with_named}
+use Rattle.widget_model.specs.Trees.{hangs, has_children, can_be_child, child_in, depth_of, height_of, is_above, most_levels}
+use Rattle.widget_model.specs.Planted.{takes_cell, IsPlanted}
+use Rattle.widget_model.specs.Widgets.{row_at, with_row}
+use Rattle.widget_model.specs.Forest.{HaveOwnNumbers, HaveOwnNames}
+use Rattle.widget_model.proofs.Naming.{rows-with_row, id_named-row}
 use Rattle.tree_core.specs.declared.refusal.AttachRefusal.TheVariants.{WrongKind, HasParent, Cycle, TooDeep, CellTaken}
 use Rattle.tree_core.specs.Children.{rows_in, widgets_in}
 use Rattle.tree_core.specs.Kept.{IsGrove}
@@ -19,8 +19,8 @@ use Rattle.tree_core.specs.Refusals.{attach_refusal, attach_answer}
 use Rattle.tree_core.proofs.Listed.{AreNamedApart-rows, row_named-row}
 use Rattle.row_store.proofs.Nodes.{nodes-with_row}
 use Rattle.row_store.proofs.Options.{is_none_of}
-use Rattle.desk_model.proofs.Planting.{LeavesPlace, IsPlanted-change, IsPlanted-attach, IsPlanted-detach}
-use Rattle.desk_model.proofs.Cells.{CanHang}
+use Rattle.widget_model.proofs.Planting.{LeavesPlace, IsPlanted-change, IsPlanted-attach, IsPlanted-detach}
+use Rattle.widget_model.proofs.Cells.{CanHang}
 
 -- a change of the numbered row is a change of the row so named
 pub rows_in-with_row : (es : List (ℕ × Row)) (id : ℕ) (change : Row → Row) (row : Row) → IsGrove es → row_at es id ≡ Some row → rows_in (with_row id change es) ≡ with_named row.client row.name change (rows_in es)

@@ -6,13 +6,13 @@ use Rattle.std.proofs.lemmas.Option.{get_or_from_slice_get}
 use Rattle.std.specs.Cmp.{nat_eq_equiv}
 use Rattle.std.specs.List.{find, list_any, list_all}
 use Rattle.std.specs.Option.{option_map}
-use Rattle.desk_model.specs.Rows.{Row}
-use Rattle.desk_model.specs.Nodes.{node_of, id_named, node_at}
-use Rattle.desk_model.specs.Named.{has_name, row_named}
-use Rattle.desk_model.specs.Widgets.{row_at, nodes, with_row, without_row}
-use Rattle.desk_model.specs.Forest.{HaveOwnNumbers, HaveOwnNames}
-use Rattle.desk_model.specs.DeskFacts.{AreNamedApart}
-use Rattle.desk_model.proofs.Naming.{row_named-found, id_named-row}
+use Rattle.widget_model.specs.Rows.{Row}
+use Rattle.widget_model.specs.Nodes.{node_of, id_named, node_at}
+use Rattle.widget_model.specs.Named.{has_name, row_named}
+use Rattle.widget_model.specs.Widgets.{row_at, nodes, with_row, without_row}
+use Rattle.widget_model.specs.Forest.{HaveOwnNumbers, HaveOwnNames}
+use Rattle.widget_model.specs.Named.{AreNamedApart}
+use Rattle.widget_model.proofs.Naming.{row_named-found, id_named-row}
 use Rattle.tree_core.specs.Children.{rows_in}
 
 -- what is found stands somewhere, and passes the test

@@ -6,11 +6,11 @@ use Rattle.std.proofs.lemmas.Bool.{true≢false, eqb-true, eq-eqb, cases_eq}
 use Rattle.std.proofs.lemmas.List.{get_or-set_same, get_or-set_other}
 use Rattle.std.specs.Option.{option_map}
 use Rattle.kind_core.specs.declared.shapes.Cell.{Cell}
-use Rattle.desk_model.specs.Rows.{Row, with_spot}
-use Rattle.desk_model.specs.Nodes.{Node, node_of}
-use Rattle.desk_model.specs.Places.{child_id}
-use Rattle.desk_model.specs.Widgets.{row_at, with_row}
-use Rattle.desk_model.specs.Rows.{IsIndex}
+use Rattle.widget_model.specs.Rows.{Row, with_spot}
+use Rattle.widget_model.specs.Nodes.{Node, node_of}
+use Rattle.widget_model.specs.Places.{child_id}
+use Rattle.widget_model.specs.Widgets.{row_at, with_row}
+use Rattle.widget_model.specs.Rows.{IsIndex}
 use Rattle.row_store.specs.Places.{cell_place}
 use Rattle.tree_core.specs.Children.{widgets_in, HasChildren}
 use Rattle.tree_core.specs.Kept.{IsGrove}

@@ -1,18 +1,18 @@
 -- What a new row, which hangs nowhere, leaves of how the others hang.
 use Rattle.std.proofs.Common.{◌≡◌, ℕ, Bool, true, false, nat_eq, List, [], ◌∷◌, ◌++◌, Option, Some, None, refl, sym, ap, ◌∙◌, subst}
 use Rattle.std.proofs.lemmas.Bool.{eqb-true, ne_eqb}
-use Rattle.desk_model.specs.Rows.{Row}
-use Rattle.desk_model.specs.Nodes.{id_named}
-use Rattle.desk_model.specs.Places.{child_id}
-use Rattle.desk_model.specs.Planted.{IsPlanted}
-use Rattle.desk_model.specs.Widgets.{row_at, nodes}
-use Rattle.desk_model.proofs.Naming.{row_named-none, rows-push}
+use Rattle.widget_model.specs.Rows.{Row}
+use Rattle.widget_model.specs.Nodes.{id_named}
+use Rattle.widget_model.specs.Places.{child_id}
+use Rattle.widget_model.specs.Planted.{IsPlanted}
+use Rattle.widget_model.specs.Widgets.{row_at, nodes}
+use Rattle.widget_model.proofs.Naming.{row_named-none, rows-push}
 use Rattle.tree_core.specs.Children.{rows_in, widgets_in, HasChildren}
 use Rattle.tree_core.specs.Kept.{IsGrove}
 use Rattle.tree_core.proofs.Listed.{row_at-push, row_at-last}
 use Rattle.tree_core.proofs.Children.{HangsAt, child_id-hangs, hangs-child_id, spot-hangs}
 use Rattle.row_store.proofs.Options.{option_same}
-use Rattle.desk_model.proofs.Planting.{IsPlanted-push}
+use Rattle.widget_model.proofs.Planting.{IsPlanted-push}
 
 pub planted-push : (es : List (ℕ × Row)) (id : ℕ) (row : Row) → row.spot ≡ None → id_named (nodes es) row.client row.name ≡ None → IsPlanted (rows_in es) → IsPlanted (rows_in (es ++ (id, row) ∷ []))
 planted-push es id row alone unnamed planted =

@@ -5,12 +5,12 @@ use Rattle.std.proofs.lemmas.Bool.{eqb-true, cases_lt}
 use Rattle.std.proofs.lemmas.List.{get_or_past}
 use Rattle.std.specs.Option.{option_and_then}
 use Rattle.kind_core.specs.declared.shapes.Cell.{Cell}
-use Rattle.desk_model.specs.Rows.{Row, with_spot}
-use Rattle.desk_model.specs.Nodes.{id_named}
-use Rattle.desk_model.specs.Trees.{root_of}
-use Rattle.desk_model.specs.Places.{parent_id, child_id, root_id}
-use Rattle.desk_model.specs.Widgets.{row_at, nodes, with_row}
-use Rattle.desk_model.specs.Rows.{IsIndex}
+use Rattle.widget_model.specs.Rows.{Row, with_spot}
+use Rattle.widget_model.specs.Nodes.{id_named}
+use Rattle.widget_model.specs.Trees.{root_of}
+use Rattle.widget_model.specs.Places.{parent_id, child_id, root_id}
+use Rattle.widget_model.specs.Widgets.{row_at, nodes, with_row}
+use Rattle.widget_model.specs.Rows.{IsIndex}
 use Rattle.row_store.specs.Places.{cell_place}
 use Rattle.tree_core.specs.Children.{rows_in, widgets_in, HasChildren}
 use Rattle.tree_core.specs.Kept.{IsGrove}

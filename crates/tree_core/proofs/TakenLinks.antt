@@ -3,14 +3,14 @@ use Rattle.std.proofs.Common.{◌≡◌, ℕ, zero, suc, Bool, true, false, cond
 use Rattle.std.proofs.lemmas.Bool.{true≢false, eq-eqb, ne_eqb, and_from}
 use Rattle.std.specs.List.{list_all}
 use Rattle.std.specs.Option.{option_and_then}
-use Rattle.desk_model.specs.Rows.{Row}
-use Rattle.desk_model.specs.Nodes.{Node, node_of, node_at, id_named, kind_named, is_named}
-use Rattle.desk_model.specs.Links.{ties, leads, all_lead, is_variable}
-use Rattle.desk_model.specs.Places.{child_id}
-use Rattle.desk_model.specs.Trees.{child_in}
-use Rattle.desk_model.specs.Widgets.{row_at, nodes}
-use Rattle.desk_model.specs.Forest.{HaveOwnNumbers, HaveOwnNames}
-use Rattle.desk_model.specs.Rows.{IsIndex}
+use Rattle.widget_model.specs.Rows.{Row}
+use Rattle.widget_model.specs.Nodes.{Node, node_of, node_at, id_named, kind_named, is_named}
+use Rattle.widget_model.specs.Links.{ties, leads, all_lead, is_variable}
+use Rattle.widget_model.specs.Places.{child_id}
+use Rattle.widget_model.specs.Trees.{child_in}
+use Rattle.widget_model.specs.Widgets.{row_at, nodes}
+use Rattle.widget_model.specs.Forest.{HaveOwnNumbers, HaveOwnNames}
+use Rattle.widget_model.specs.Rows.{IsIndex}
 use Rattle.row_store.specs.Places.{cell_place}
 use Rattle.tree_core.specs.Children.{rows_in, widgets_in, HasChildren}
 use Rattle.tree_core.specs.Kept.{IsGrove}

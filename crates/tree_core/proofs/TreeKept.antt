@@ -6,14 +6,14 @@ use Rattle.std.specs.Option.{option_map}
 use Rattle.kind_core.specs.declared.kinds.Kind.{Kind}
 use Rattle.kind_core.specs.declared.kinds.Kind.TheVariants.{Grid}
 use Rattle.kind_core.specs.declared.shapes.Cell.{Cell}
-use Rattle.desk_model.specs.Rows.{Row, with_link, with_spot, new_row}
-use Rattle.desk_model.specs.Nodes.{Node, node_of, node_at, is_number_of, first_number}
-use Rattle.desk_model.specs.Planted.{IsPlanted}
-use Rattle.desk_model.specs.Fitting.{fits_table}
-use Rattle.desk_model.specs.Links.{ties, leads, all_lead}
-use Rattle.desk_model.specs.Widgets.{Widgets, row_at, nodes, with_row, is_joined, IsLive, IsGrid}
-use Rattle.desk_model.specs.Forest.{IsForest, IsWidgets}
-use Rattle.desk_model.specs.Rows.{IsIndex}
+use Rattle.widget_model.specs.Rows.{Row, with_link, with_spot, new_row}
+use Rattle.widget_model.specs.Nodes.{Node, node_of, node_at, is_number_of, first_number}
+use Rattle.widget_model.specs.Planted.{IsPlanted}
+use Rattle.widget_model.specs.Fitting.{fits_table}
+use Rattle.widget_model.specs.Links.{ties, leads, all_lead}
+use Rattle.widget_model.specs.Widgets.{Widgets, row_at, nodes, with_row, is_joined, IsLive, IsGrid}
+use Rattle.widget_model.specs.Forest.{IsForest, IsWidgets}
+use Rattle.widget_model.specs.Rows.{IsIndex}
 use Rattle.row_store.specs.Places.{cell_place}
 use Rattle.tree_core.specs.Children.{rows_in, HasChildren}
 use Rattle.row_store.specs.Index.{IsIndexed}

@@ -8,22 +8,22 @@ use Rattle.std.specs.List.{list_all, list_any}
 use Rattle.std.specs.Option.{option_map_or}
 use Rattle.std.specs.Str.{bytes_eq}
 use Rattle.kind_core.specs.declared.shapes.Cell.{Cell}
-use Rattle.desk_model.specs.Rows.{Row}
-use Rattle.desk_model.specs.Nodes.{Node}
-use Rattle.desk_model.specs.Trees.{hangs, is_child, links_to, is_used}
-use Rattle.desk_model.specs.Planted.{IsPlanted}
-use Rattle.desk_model.specs.Fitting.{fits_table}
-use Rattle.desk_model.specs.Links.{ties, all_lead}
-use Rattle.desk_model.specs.Places.{child_id}
-use Rattle.desk_model.specs.Widgets.{row_at, nodes, without_row, is_joined}
-use Rattle.desk_model.specs.Forest.{is_client}
-use Rattle.desk_model.proofs.Naming.{rows-without_row, id_named-row}
+use Rattle.widget_model.specs.Rows.{Row}
+use Rattle.widget_model.specs.Nodes.{Node}
+use Rattle.widget_model.specs.Trees.{hangs, is_child, links_to, is_used}
+use Rattle.widget_model.specs.Planted.{IsPlanted}
+use Rattle.widget_model.specs.Fitting.{fits_table}
+use Rattle.widget_model.specs.Links.{ties, all_lead}
+use Rattle.widget_model.specs.Places.{child_id}
+use Rattle.widget_model.specs.Widgets.{row_at, nodes, without_row, is_joined}
+use Rattle.widget_model.specs.Forest.{is_client}
+use Rattle.widget_model.proofs.Naming.{rows-without_row, id_named-row}
 use Rattle.tree_core.specs.Children.{rows_in, widgets_in, HasChildren}
 use Rattle.row_store.specs.Index.{IsIndexed}
 use Rattle.tree_core.specs.Kept.{IsGrove, IsTree}
 use Rattle.tree_core.proofs.Listed.{any_at, numbered_place, row_named-row}
 use Rattle.tree_core.proofs.Children.{HangsAt, child_id-hangs, own_number}
-use Rattle.desk_model.proofs.Planting.{IsPlanted-remove}
+use Rattle.widget_model.proofs.Planting.{IsPlanted-remove}
 use Rattle.row_store.proofs.Taken.{kept, nodes-kept, own_numbers-kept, own_names-kept, without_row-kept}
 use Rattle.tree_core.proofs.ForestTaken.{list_all-kept, IsForest-kept}
 use Rattle.tree_core.proofs.TakenLinks.{linked-kept, HasChildren-kept}

@@ -3,16 +3,16 @@ use Rattle.std.proofs.Common.{◌≡◌, ℕ, true, List, Option, Some, None, is
 use Rattle.std.proofs.lemmas.Bool.{true≢false}
 use Rattle.std.specs.Option.{option_map, option_and_then}
 use Rattle.kind_core.specs.declared.shapes.Cell.{Cell}
-use Rattle.desk_model.specs.Rows.{Row}
-use Rattle.desk_model.specs.Nodes.{id_named}
-use Rattle.desk_model.specs.Named.{row_named}
-use Rattle.desk_model.specs.Trees.{parent_of, root_in}
-use Rattle.desk_model.specs.Widgets.{row_at, nodes}
-use Rattle.desk_model.proofs.Naming.{row_named-found, row_named-none}
+use Rattle.widget_model.specs.Rows.{Row}
+use Rattle.widget_model.specs.Nodes.{id_named}
+use Rattle.widget_model.specs.Named.{row_named}
+use Rattle.widget_model.specs.Trees.{parent_of, root_in}
+use Rattle.widget_model.specs.Widgets.{row_at, nodes}
+use Rattle.widget_model.proofs.Naming.{row_named-found, row_named-none}
 use Rattle.tree_core.specs.Children.{rows_in}
 use Rattle.tree_core.specs.Kept.{IsGrove}
 use Rattle.tree_core.proofs.Listed.{row_named-row}
-use Rattle.desk_model.proofs.Planting.{row_named-root}
+use Rattle.widget_model.proofs.Planting.{row_named-root}
 
 -- the parent of a name is what the row under the name's number says
 pub parent_of-found : (es : List (ℕ × Row)) (client : ℕ) (name : List ℕ) (id : ℕ) (row : Row) → IsGrove es → id_named (nodes es) client name ≡ Some id → row_at es id ≡ Some row → parent_of (rows_in es) client name ≡ option_map (λ (spot : List ℕ × Cell). spot.0) row.spot

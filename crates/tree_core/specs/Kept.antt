@@ -2,12 +2,12 @@
 -- counts of each client.
 use Rattle.std.specs.Prelude.{ℕ, ◌≡◌, ◌≤◌, ◌*◌, true, List, Option, length}
 use Rattle.std.specs.List.{list_all}
-use Rattle.desk_model.specs.Rows.{Row}
-use Rattle.desk_model.specs.Widgets.{nodes, is_joined}
-use Rattle.desk_model.specs.Links.{ties, all_lead}
-use Rattle.desk_model.specs.Forest.{HaveOwnNumbers, HaveOwnNames, IsForest}
-use Rattle.desk_model.specs.Planted.{IsPlanted}
-use Rattle.desk_model.specs.Fitting.{fits_table}
+use Rattle.widget_model.specs.Rows.{Row}
+use Rattle.widget_model.specs.Widgets.{nodes, is_joined}
+use Rattle.widget_model.specs.Links.{ties, all_lead}
+use Rattle.widget_model.specs.Forest.{HaveOwnNumbers, HaveOwnNames, IsForest}
+use Rattle.widget_model.specs.Planted.{IsPlanted}
+use Rattle.widget_model.specs.Fitting.{fits_table}
 use Rattle.row_store.specs.declared.count.Count.{Count}
 use Rattle.row_store.specs.Counts.{AreCounts}
 use Rattle.row_store.specs.Index.{IsIndexed}

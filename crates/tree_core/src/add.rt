@@ -1,8 +1,8 @@
 ghost use Rattle.std.specs.Prelude.{◌≡◌, ◌<◌, ◌≤◌, ◌++◌, ◌∷◌, [], None, true, is_ok, if◌then◌else◌};
 ghost use Rattle.std.specs.List.{list_all};
-ghost use Rattle.desk_model.specs.Rows.{new_row};
-ghost use Rattle.desk_model.specs.Nodes.{id_named, count_of, any_kind, counts_with, is_number_of};
-ghost use Rattle.desk_model.specs.Widgets.{row_at, nodes};
+ghost use Rattle.widget_model.specs.Rows.{new_row};
+ghost use Rattle.widget_model.specs.Nodes.{id_named, count_of, any_kind, counts_with, is_number_of};
+ghost use Rattle.widget_model.specs.Widgets.{row_at, nodes};
 ghost use Rattle.row_store.specs.Counts.{AreCounts};
 ghost use Rattle.row_store.specs.Index.{IsIndexed};
 ghost use Rattle.tree_core.specs.Refusals.{add_refusal};

@@ -1,8 +1,8 @@
 ghost use Rattle.std.specs.Prelude.{◌≡◌, ◌≤◌, Some, IsSome};
 ghost use Rattle.std.specs.Option.{option_map};
 ghost use Rattle.std.specs.List.{list_any};
-ghost use Rattle.desk_model.specs.Trees.{height_in, is_child};
-ghost use Rattle.desk_model.specs.Widgets.{row_at};
+ghost use Rattle.widget_model.specs.Trees.{height_in, is_child};
+ghost use Rattle.widget_model.specs.Widgets.{row_at};
 ghost use Rattle.tree_core.specs.Children.{cells_of, rows_in, HasChildren};
 ghost use Rattle.tree_core.specs.Kept.{IsGrove};
 

@@ -1,7 +1,7 @@
 ghost use Rattle.std.specs.Prelude.{◌≡◌, ◌≤◌, Some, IsSome};
-ghost use Rattle.desk_model.specs.Trees.{parent_of, depth_in, is_above_in, root_in, most_levels};
-ghost use Rattle.desk_model.specs.Places.{parent_id, root_id};
-ghost use Rattle.desk_model.specs.Widgets.{row_at, nodes};
+ghost use Rattle.widget_model.specs.Trees.{parent_of, depth_in, is_above_in, root_in, most_levels};
+ghost use Rattle.widget_model.specs.Places.{parent_id, root_id};
+ghost use Rattle.widget_model.specs.Widgets.{row_at, nodes};
 ghost use Rattle.tree_core.specs.Children.{rows_in, widgets_in};
 ghost use Rattle.row_store.specs.Index.{IsIndexed};
 ghost use Rattle.tree_core.specs.Kept.{IsGrove};
@@ -12,7 +12,7 @@ use row_store::{Names, Store, number_of};
 /// A tree has at most that many levels.
 const MOST_LEVELS: u32 = 12;
 
-#[tactic(auto, unfolding(desk_model::specs::Trees::most_levels))]
+#[tactic(auto, unfolding(widget_model::specs::Trees::most_levels))]
 pub(crate) fn most_levels() -> u32
     ensures most { result ≡ most_levels }
     ensures few { result ≤ 12 }

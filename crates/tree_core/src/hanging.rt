@@ -1,11 +1,11 @@
 ghost use Rattle.std.specs.Prelude.{◌≡◌, ◌<◌, Some, None, IsSome, length, true, false};
 ghost use Rattle.std.specs.Option.{option_map, option_map_or};
-ghost use Rattle.desk_model.specs.Rows.{with_spot};
-ghost use Rattle.desk_model.specs.Trees.{hangs, has_children, can_be_child};
-ghost use Rattle.desk_model.specs.Places.{child_id};
-ghost use Rattle.desk_model.specs.Planted.{takes_cell};
-ghost use Rattle.desk_model.specs.Links.{name_at};
-ghost use Rattle.desk_model.specs.Widgets.{row_at, row_kind, row_client, nodes, with_row};
+ghost use Rattle.widget_model.specs.Rows.{with_spot};
+ghost use Rattle.widget_model.specs.Trees.{hangs, has_children, can_be_child};
+ghost use Rattle.widget_model.specs.Places.{child_id};
+ghost use Rattle.widget_model.specs.Planted.{takes_cell};
+ghost use Rattle.widget_model.specs.Links.{name_at};
+ghost use Rattle.widget_model.specs.Widgets.{row_at, row_kind, row_client, nodes, with_row};
 ghost use Rattle.row_store.specs.Places.{cell_place};
 ghost use Rattle.tree_core.specs.Children.{widgets_in, HasChildren};
 ghost use Rattle.row_store.specs.Index.{IsIndexed};

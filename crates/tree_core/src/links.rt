@@ -1,8 +1,8 @@
 ghost use Rattle.std.specs.Prelude.{◌≡◌, IsSome, IfSome};
 ghost use Rattle.std.specs.Option.{option_and_then};
-ghost use Rattle.desk_model.specs.Nodes.{id_named};
-ghost use Rattle.desk_model.specs.Widgets.{row_at, nodes};
-ghost use Rattle.desk_model.specs.Links.{name_at};
+ghost use Rattle.widget_model.specs.Nodes.{id_named};
+ghost use Rattle.widget_model.specs.Widgets.{row_at, nodes};
+ghost use Rattle.widget_model.specs.Links.{name_at};
 ghost use Rattle.row_store.specs.Index.{IsIndexed};
 
 use crate::id::Id;

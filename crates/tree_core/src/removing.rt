@@ -1,8 +1,8 @@
 ghost use Rattle.std.specs.Prelude.{◌≡◌, Some, IsSome, not, nat_eq};
 ghost use Rattle.std.specs.Option.{option_map};
 ghost use Rattle.std.specs.List.{list_any, filter};
-ghost use Rattle.desk_model.specs.Trees.{links_to, is_used};
-ghost use Rattle.desk_model.specs.Widgets.{row_at};
+ghost use Rattle.widget_model.specs.Trees.{links_to, is_used};
+ghost use Rattle.widget_model.specs.Widgets.{row_at};
 ghost use Rattle.tree_core.specs.Children.{rows_in, HasChildren};
 ghost use Rattle.tree_core.specs.Kept.{IsGrove};
 

@@ -2,15 +2,15 @@ ghost use Rattle.std.specs.Prelude.{ℕ, ◌≡◌, ◌<◌, ◌≤◌, nat_eq, 
 ghost use Rattle.std.specs.Option.{option_map, option_map_or, option_and_then};
 ghost use Rattle.std.specs.Result.{result_err};
 ghost use Rattle.kind_core.specs.Attributes.{domain_of, judged};
-ghost use Rattle.desk_model.specs.Rows.{new_row, attr_of, with_attr, column_rule_of, with_column_rule, row_rule_of, with_row_rule, binding_of, with_binding, with_link, with_spot};
-ghost use Rattle.desk_model.specs.Nodes.{id_named, count_of, any_kind};
-ghost use Rattle.desk_model.specs.Widgets.{no_widgets, is_joined, row_at, nodes, rows_of, IsLive, IsGrid, KeepsLive, edited, with_new, removed, joined, departed, row_kind, row_client};
-ghost use Rattle.desk_model.specs.Links.{linked_id, name_at};
-ghost use Rattle.desk_model.specs.Forest.{IsWidgets};
-ghost use Rattle.desk_model.specs.Trees.{is_used};
-ghost use Rattle.desk_model.specs.Planted.{takes_cell};
-ghost use Rattle.desk_model.specs.Places.{parent_id, child_id, root_id};
-ghost use Rattle.desk_model.specs.Rows.{IsIndex};
+ghost use Rattle.widget_model.specs.Rows.{new_row, attr_of, with_attr, column_rule_of, with_column_rule, row_rule_of, with_row_rule, binding_of, with_binding, with_link, with_spot};
+ghost use Rattle.widget_model.specs.Nodes.{id_named, count_of, any_kind};
+ghost use Rattle.widget_model.specs.Widgets.{no_widgets, is_joined, row_at, nodes, rows_of, IsLive, IsGrid, KeepsLive, edited, with_new, removed, joined, departed, row_kind, row_client};
+ghost use Rattle.widget_model.specs.Links.{linked_id, name_at};
+ghost use Rattle.widget_model.specs.Forest.{IsWidgets};
+ghost use Rattle.widget_model.specs.Trees.{is_used};
+ghost use Rattle.widget_model.specs.Planted.{takes_cell};
+ghost use Rattle.widget_model.specs.Places.{parent_id, child_id, root_id};
+ghost use Rattle.widget_model.specs.Rows.{IsIndex};
 ghost use Rattle.tree_core.specs.Refusals.{add_refusal, AnswersRefusal, attach_answer};
 
 use crate::add::{add_refusal, free_number, put_counted};
@@ -37,7 +37,7 @@ pub struct Tree {
 }
 
 impl Model for Tree {
-    ghost use Rattle.desk_model.specs.Widgets.{Widgets};
+    ghost use Rattle.widget_model.specs.Widgets.{Widgets};
     ghost use Rattle.tree_core.specs.Kept.{IsCounted};
 
     ghost Value = { Widgets };

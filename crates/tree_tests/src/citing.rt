@@ -1,12 +1,12 @@
 //! What a caller may cite of the tree with no word on its fields.
 ghost use Rattle.std.specs.Prelude.{◌≡◌, true, false, IfSome};
 ghost use Rattle.std.specs.List.{list_all};
-ghost use Rattle.desk_model.specs.Fitting.{fits_table};
-ghost use Rattle.desk_model.specs.Forest.{HaveOwnNumbers, HaveOwnNames};
-ghost use Rattle.desk_model.specs.Links.{all_lead, ties};
-ghost use Rattle.desk_model.specs.Planted.{hangs_right, HaveOwnCells};
-ghost use Rattle.desk_model.specs.Trees.{ends_within, most_levels};
-ghost use Rattle.desk_model.specs.Widgets.{IsLive, is_joined, nodes, rows_of};
+ghost use Rattle.widget_model.specs.Fitting.{fits_table};
+ghost use Rattle.widget_model.specs.Forest.{HaveOwnNumbers, HaveOwnNames};
+ghost use Rattle.widget_model.specs.Links.{all_lead, ties};
+ghost use Rattle.widget_model.specs.Planted.{hangs_right, HaveOwnCells};
+ghost use Rattle.widget_model.specs.Trees.{ends_within, most_levels};
+ghost use Rattle.widget_model.specs.Widgets.{IsLive, is_joined, nodes, rows_of};
 
 use crate::playing::begin;
 use kind_core::{Name, name_from};

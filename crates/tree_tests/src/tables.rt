@@ -1,7 +1,7 @@
 //! The words of a row: names, kinds and numbers.
 ghost use Rattle.std.specs.Prelude.{IfOk};
-ghost use Rattle.desk_model.specs.Rows.{IsIndex};
-ghost use Rattle.desk_model.specs.Widgets.{IsLive};
+ghost use Rattle.widget_model.specs.Rows.{IsIndex};
+ghost use Rattle.widget_model.specs.Widgets.{IsLive};
 
 use kind_core::{Kind, Name, name_from};
 use std::str::SplitWhitespace;

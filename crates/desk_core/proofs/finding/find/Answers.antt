@@ -1,5 +1,5 @@
 use Rattle.std.proofs.Common.{sym}
-use Rattle.desk_model.proofs.Naming.{row_named-none}
+use Rattle.widget_model.proofs.Naming.{row_named-none}
 use Rattle.desk_core.proofs.Dids.{is_found}
 use Rattle.desk_core.proofs.finding.find.Goals as goal
 

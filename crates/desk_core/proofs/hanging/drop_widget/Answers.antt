@@ -2,10 +2,10 @@ use Rattle.std.proofs.Common.{◌≡◌, ◌||◌, Some, None, true, false, refl
 use Rattle.std.proofs.lemmas.Bool.{or_right}
 use Rattle.std.specs.Option.{option_map}
 use Rattle.cmd_words.specs.declared.replies.Refusal.TheVariants as told
-use Rattle.desk_model.specs.Trees.{is_used}
+use Rattle.widget_model.specs.Trees.{is_used}
 use Rattle.desk_model.specs.Desk.{is_open}
 use Rattle.desk_model.specs.Making.{step_drop}
-use Rattle.desk_model.specs.Widgets.{Widgets, rows_of}
+use Rattle.widget_model.specs.Widgets.{Widgets, rows_of}
 use Rattle.desk_core.specs.Standing.{desk_of}
 use Rattle.desk_core.specs.Did.{DidAll}
 use Rattle.desk_core.proofs.OpenSteps.{is_open-holds_key, refused_all}

@@ -2,10 +2,10 @@ use Rattle.std.proofs.Common.{Some, None, refl, sym, ◌∙◌}
 use Rattle.std.proofs.lemmas.Bool.{true≢false}
 use Rattle.cmd_words.specs.declared.replies.Reply.TheVariants.{Done}
 use Rattle.cmd_words.specs.declared.replies.Refusal.TheVariants.{NoSuchName, NotHere}
-use Rattle.desk_model.specs.Rows.{with_spot}
-use Rattle.desk_model.specs.Named.{row_named}
+use Rattle.widget_model.specs.Rows.{with_spot}
+use Rattle.widget_model.specs.Named.{row_named}
 use Rattle.desk_model.specs.Hanging.{step_lift}
-use Rattle.desk_model.specs.Widgets.{rows_of}
+use Rattle.widget_model.specs.Widgets.{rows_of}
 use Rattle.desk_core.specs.Did.{with_rows}
 use Rattle.desk_core.proofs.Dids.{refused_did, done_did}
 use Rattle.desk_core.proofs.LiftSteps.{step_lift-by, hangs_here, hangs_elsewhere, lift_differs}

@@ -5,14 +5,14 @@ use Rattle.kind_core.specs.declared.kinds.Kind.{Kind}
 use Rattle.kind_core.specs.declared.shapes.Cell.{Cell}
 use Rattle.cmd_words.specs.declared.replies.Reply.TheVariants.{Done, Refused}
 use Rattle.cmd_words.specs.declared.replies.Refusal.TheVariants.{NoSuchName, WrongKind}
-use Rattle.desk_model.specs.Rows.{Row, with_spot}
-use Rattle.desk_model.specs.Named.{row_named}
-use Rattle.desk_model.specs.Trees.{has_children, can_be_child}
-use Rattle.desk_model.specs.Planted.{takes_cell}
+use Rattle.widget_model.specs.Rows.{Row, with_spot}
+use Rattle.widget_model.specs.Named.{row_named}
+use Rattle.widget_model.specs.Trees.{has_children, can_be_child}
+use Rattle.widget_model.specs.Planted.{takes_cell}
 use Rattle.desk_model.specs.PlaceOptions.{places_refusal, cell_given}
 use Rattle.desk_model.specs.Hanging.{step_place}
-use Rattle.desk_model.specs.Widgets.{Widgets, rows_of, row_kind, edited}
-use Rattle.desk_model.specs.Links.{name_at}
+use Rattle.widget_model.specs.Widgets.{Widgets, rows_of, row_kind, edited}
+use Rattle.widget_model.specs.Links.{name_at}
 use Rattle.desk_core.specs.Did.{Did, with_rows}
 use Rattle.desk_core.specs.Told.{told_attach}
 use Rattle.desk_core.proofs.Dids.{refused_did, done_did, found-parts}

@@ -1,5 +1,5 @@
 use Rattle.std.proofs.Common.{Bool, cond, sym, ap, ◌∙◌}
-use Rattle.desk_model.specs.declared.pointer.Grab.TheVariants.{Nothing, Widget, Drag}
+use Rattle.scene_model.specs.declared.pointer.Grab.TheVariants.{Nothing, Widget, Drag}
 use Rattle.desk_model.specs.Ending.{is_in_window, grab_left}
 use Rattle.desk_core.specs.Standing.{desk_of}
 use Rattle.desk_core.proofs.holding.grab_left.Goals as goal

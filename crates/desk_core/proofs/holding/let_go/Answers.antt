@@ -1,5 +1,5 @@
 use Rattle.std.proofs.Common.{ℕ, List, Option, ap₂}
-use Rattle.desk_model.specs.declared.pointer.Grab.{Grab}
+use Rattle.scene_model.specs.declared.pointer.Grab.{Grab}
 use Rattle.desk_model.specs.Ending.{let_go}
 use Rattle.desk_model.specs.Desk.{Desk}
 use Rattle.desk_core.specs.Standing.{desk_of}

@@ -3,12 +3,12 @@ use Rattle.kind_core.specs.Events.{gives_event}
 use Rattle.kind_core.specs.declared.kinds.Kind.{Kind}
 use Rattle.cmd_words.specs.declared.replies.Reply.TheVariants.{Done}
 use Rattle.cmd_words.specs.declared.replies.Refusal.TheVariants.{NoSuchName, WrongKind}
-use Rattle.desk_model.specs.Rows.{Row, event_place, binding_of, with_binding}
+use Rattle.widget_model.specs.Rows.{Row, event_place, binding_of, with_binding}
 use Rattle.desk_model.specs.Linking.{step_bind}
 use Rattle.desk_core.proofs.Dids.{refused_did, done_did}
 use Rattle.desk_core.proofs.LinkSteps.{step_bind-by}
 use Rattle.desk_core.specs.Did.{with_rows}
-use Rattle.desk_model.specs.Widgets.{rows_of}
+use Rattle.widget_model.specs.Widgets.{rows_of}
 use Rattle.std.specs.Option.{option_eq}
 use Rattle.std.specs.Str.{bytes_eq}
 use Rattle.std.specs.Cmp.Lexicographic.{nat_list_eq_equiv}

@@ -3,14 +3,15 @@ use Rattle.std.proofs.lemmas.Bool.{true≢false, not-false, and_parts}
 use Rattle.std.specs.Option.{option_map}
 use Rattle.cmd_words.specs.declared.replies.Reply.TheVariants.{Done}
 use Rattle.cmd_words.specs.declared.replies.Refusal.TheVariants.{NoSuchName, WrongKind}
-use Rattle.desk_model.specs.Rows.{Row, with_link}
-use Rattle.desk_model.specs.Linking.{can_link, is_variable_kind, step_link}
+use Rattle.widget_model.specs.Rows.{Row, with_link}
+use Rattle.desk_model.specs.Linking.{step_link}
+use Rattle.widget_model.specs.Kinds.{can_link, is_variable_kind}
 use Rattle.desk_core.proofs.Dids.{refused_did, done_did, found-parts}
 use Rattle.desk_core.proofs.LinkSteps.{step_link-by, variable_kind}
 use Rattle.desk_core.specs.Did.{with_rows}
-use Rattle.desk_model.specs.Named.{row_named}
-use Rattle.desk_model.specs.Widgets.{rows_of, edited}
-use Rattle.desk_model.specs.Links.{name_at}
+use Rattle.widget_model.specs.Named.{row_named}
+use Rattle.widget_model.specs.Widgets.{rows_of, edited}
+use Rattle.widget_model.specs.Links.{name_at}
 use Rattle.desk_core.proofs.Tells.{tells_edit}
 use Rattle.desk_core.proofs.LinkTells.{link_was, link_is}
 use Rattle.desk_core.proofs.linking.link.Goals as goal

@@ -1,12 +1,13 @@
 use Rattle.std.proofs.Common.{◌≡◌, ℕ, List, Option, Some, None, is_some, true, false, refl, sym, ap, ◌∙◌}
 use Rattle.cmd_words.specs.declared.replies.Reply.TheVariants.{Done}
 use Rattle.cmd_words.specs.declared.replies.Refusal.TheVariants.{NoSuchName, WrongKind}
-use Rattle.desk_model.specs.Rows.{Row, with_link}
-use Rattle.desk_model.specs.Linking.{can_link, step_unlink}
+use Rattle.widget_model.specs.Rows.{Row, with_link}
+use Rattle.desk_model.specs.Linking.{step_unlink}
+use Rattle.widget_model.specs.Kinds.{can_link}
 use Rattle.desk_core.proofs.Dids.{refused_did, done_did}
 use Rattle.desk_core.proofs.LinkSteps.{step_unlink-by}
 use Rattle.desk_core.specs.Did.{with_rows}
-use Rattle.desk_model.specs.Widgets.{rows_of}
+use Rattle.widget_model.specs.Widgets.{rows_of}
 use Rattle.std.proofs.lemmas.Bool.{true≢false}
 use Rattle.tree_core.specs.declared.id.Id.{Id}
 use Rattle.desk_core.proofs.Tells.{tells_edit, is_some-map, is_some-none}

@@ -2,9 +2,9 @@ use Rattle.std.proofs.Common.{◌≡◌, Some, None, refl, sym, ap, ◌∙◌}
 use Rattle.std.specs.Option.{option_map}
 use Rattle.cmd_words.specs.declared.replies.Reply.{Reply}
 use Rattle.cmd_words.specs.declared.replies.Refusal.TheVariants.{NoSuchName, WrongKind}
-use Rattle.desk_model.specs.Rows.{Row, attr_of}
+use Rattle.widget_model.specs.Rows.{Row, attr_of}
 use Rattle.desk_model.specs.Making.{step_get}
-use Rattle.desk_model.specs.Widgets.{rows_of}
+use Rattle.widget_model.specs.Widgets.{rows_of}
 use Rattle.desk_core.specs.Did.{with_rows}
 use Rattle.desk_core.proofs.Dids.{same_did, refused_did}
 use Rattle.desk_core.proofs.MakeSteps.{step_get-by}

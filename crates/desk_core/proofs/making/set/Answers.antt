@@ -3,16 +3,16 @@ use Rattle.std.specs.Option.{option_map}
 use Rattle.kind_core.specs.declared.kinds.Kind.{Kind}
 use Rattle.cmd_words.specs.declared.replies.Reply.TheVariants.{Done}
 use Rattle.cmd_words.specs.declared.replies.Refusal.TheVariants.{NoSuchName}
-use Rattle.desk_model.specs.Rows.{Row}
+use Rattle.widget_model.specs.Rows.{Row}
 use Rattle.desk_model.specs.AttrOptions.{attrs_refusal, with_attrs}
 use Rattle.desk_model.specs.Making.{step_set}
-use Rattle.desk_model.specs.Widgets.{rows_of}
+use Rattle.widget_model.specs.Widgets.{rows_of}
 use Rattle.desk_core.specs.Did.{with_rows}
 use Rattle.desk_core.proofs.Dids.{refused_did, done_did}
 use Rattle.desk_core.proofs.AttrSteps.{node_of-with_attrs, fits_rules-with_attrs}
 use Rattle.desk_core.proofs.MakeSteps.{step_set-by}
 use Rattle.std.proofs.lemmas.Bool.{true≢false}
-use Rattle.desk_model.specs.Widgets.{Widgets, row_at}
+use Rattle.widget_model.specs.Widgets.{Widgets, row_at}
 use Rattle.desk_core.specs.Given.{values_given}
 use Rattle.tree_core.proofs.ForestLemmas.{live-with_row}
 use Rattle.desk_core.proofs.SetTells.{with_attrs-same}

@@ -1,9 +1,9 @@
 use Rattle.std.proofs.Common.{◌≡◌, [], None, take, refl, sym, ap, ◌∙◌}
 use Rattle.kind_core.specs.declared.kinds.Attr.{Attr}
 use Rattle.kind_core.specs.declared.values.Value as value
-use Rattle.desk_model.specs.Rows.{Row, with_attr}
+use Rattle.widget_model.specs.Rows.{Row, with_attr}
 use Rattle.desk_model.specs.AttrOptions.{attr_refusal, with_attrs}
-use Rattle.desk_model.specs.Widgets.{Widgets, row_at, row_kind, edited}
+use Rattle.widget_model.specs.Widgets.{Widgets, row_at, row_kind, edited}
 use Rattle.desk_core.proofs.Edits.{edited-same, row_kind-with_row}
 use Rattle.desk_core.proofs.AttrSteps.{first_refusal-none, never_refused, edited-with_attrs_more}
 use Rattle.desk_core.proofs.making.set_attrs.Goals as goal

@@ -1,8 +1,8 @@
 -- the options that were looked at are set
 use Rattle.std.proofs.Common.{◌≡◌, take, Some}
 use Rattle.desk_model.specs.AttrOptions.{with_attrs}
-use Rattle.desk_model.specs.Widgets.{row_kind, edited}
-use Rattle.desk_model.specs.Forest.{IsWidgets}
+use Rattle.widget_model.specs.Widgets.{row_kind, edited}
+use Rattle.widget_model.specs.Forest.{IsWidgets}
 use Rattle.desk_core.proofs.making.set_attrs.Given as goal
 
 abbrev pub invariant-loop-option : goal.invariant-loop-option

@@ -1,8 +1,8 @@
 -- the values of the options that were looked at
 use Rattle.std.proofs.Common.{◌≡◌, take, length, Some}
 use Rattle.std.specs.Option.{option_map}
-use Rattle.desk_model.specs.Rows.{Row}
-use Rattle.desk_model.specs.Widgets.{row_at}
+use Rattle.widget_model.specs.Rows.{Row}
+use Rattle.widget_model.specs.Widgets.{row_at}
 use Rattle.desk_core.specs.Given.{values_given}
 use Rattle.desk_core.proofs.making.values_of.Given as goal
 

@@ -1,7 +1,7 @@
 use Rattle.std.proofs.Common.{length, sym, ap, ◌∙◌, arith}
 use Rattle.std.specs.List.{list_all, filter}
 use Rattle.stack_core.proofs.Keys.{length-without}
-use Rattle.desk_model.specs.Widgets.{nodes}
+use Rattle.widget_model.specs.Widgets.{nodes}
 use Rattle.desk_core.specs.Standing.{names_window, is_others}
 use Rattle.desk_core.proofs.Leaving.{filter-without, filter-all, list_all-without, none_given}
 use Rattle.desk_core.proofs.opening.close_windows.Goals as goal

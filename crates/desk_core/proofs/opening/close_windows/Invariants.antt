@@ -2,7 +2,7 @@
 use Rattle.std.proofs.Common.{◌≡◌, true, length}
 use Rattle.std.specs.List.{list_all, filter}
 use Rattle.stack_core.specs.Stack.{IsStack}
-use Rattle.desk_model.specs.Widgets.{nodes}
+use Rattle.widget_model.specs.Widgets.{nodes}
 use Rattle.desk_core.specs.Standing.{names_window, is_others}
 use Rattle.desk_core.proofs.opening.close_windows.Given as goal
 

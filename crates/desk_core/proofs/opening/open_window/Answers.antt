@@ -1,6 +1,7 @@
 use Rattle.std.proofs.Common.{◌≡◌, length, Some, None, true, false, refl, sym, ap, ◌∙◌, arith}
 use Rattle.cmd_words.specs.declared.replies.Refusal.TheVariants.{NoSuchName, WrongKind, AlreadyOpen}
-use Rattle.desk_model.specs.Linking.{is_window_kind, step_open}
+use Rattle.desk_model.specs.Linking.{step_open}
+use Rattle.widget_model.specs.Kinds.{is_window_kind}
 use Rattle.desk_model.specs.Desk.{is_open}
 use Rattle.desk_core.specs.Standing.{desk_of}
 use Rattle.desk_core.proofs.OpenSteps.{room_to_open, is_open-holds_key, found-window, step_open-by, refused_all, opened_all}

@@ -1,7 +1,7 @@
 use Rattle.std.proofs.Common.{◌≡◌, not, true, refl, sym, ap, ◌∙◌}
 use Rattle.std.proofs.lemmas.Bool.{eq-eqb, ne_eqb}
 use Rattle.stack_core.proofs.Keys.{holds_key-at}
-use Rattle.desk_model.specs.Widgets.{nodes}
+use Rattle.widget_model.specs.Widgets.{nodes}
 use Rattle.desk_core.specs.Standing.{is_others}
 use Rattle.desk_core.proofs.WindowPlaces.{window_live}
 use Rattle.desk_core.proofs.Leaving.{list_all-further, list_all-past, owner_title}

@@ -1,7 +1,7 @@
 -- the windows that were looked at are others'
 use Rattle.std.proofs.Common.{◌≡◌, drop}
 use Rattle.std.specs.List.{list_all}
-use Rattle.desk_model.specs.Widgets.{nodes}
+use Rattle.widget_model.specs.Widgets.{nodes}
 use Rattle.desk_core.specs.Standing.{is_others}
 use Rattle.desk_core.proofs.opening.window_of.Given as goal
 

@@ -2,12 +2,12 @@ use Rattle.std.proofs.Common.{◌≡◌, ℕ, ◌-◌, ℤ, ◌&&◌, nat_eq, Li
 use Rattle.std.proofs.lemmas.Int.{to_z-of_z}
 use Rattle.std.proofs.lemmas.Bool.{leb-true, and_parts}
 use Rattle.kind_core.specs.declared.kinds.Kind.TheVariants.{Grid}
-use Rattle.desk_model.specs.Rows.{Row, column_rule_of, with_column_rule}
+use Rattle.widget_model.specs.Rows.{Row, column_rule_of, with_column_rule}
 use Rattle.desk_model.specs.Desk.{Desk}
 use Rattle.desk_model.specs.Hanging.{config_refusal, step_column}
-use Rattle.desk_model.specs.Widgets.{rows_of}
+use Rattle.widget_model.specs.Widgets.{rows_of}
 use Rattle.desk_core.specs.Did.{with_rows}
-use Rattle.desk_model.specs.Fitting.{fits_rule}
+use Rattle.widget_model.specs.Fitting.{fits_rule}
 use Rattle.desk_core.specs.Ruling.{IsRuled}
 use Rattle.desk_core.proofs.Dids.{refused_did}
 use Rattle.desk_core.proofs.RuleSteps.{step_column-by, rule_of_column_fits, column_did, still_grid}

@@ -1,5 +1,5 @@
-use Rattle.desk_model.specs.Events.Event.{Bye}
-use Rattle.desk_model.specs.Events.Answer.{Replied}
+use Rattle.machine_model.specs.Events.Event.{Bye}
+use Rattle.machine_model.specs.Events.Answer.{Replied}
 use Rattle.dope_run.specs.Text.{answer_text}
 use Rattle.dope_run.proofs.Obeyings.{obeyed_by_writing}
 use Rattle.dope_run.proofs.obeying.bye.Goals as goal

@@ -1,6 +1,6 @@
 use Rattle.std.proofs.Common.{refl}
-use Rattle.desk_model.specs.Events.Event.{CountDirty}
-use Rattle.desk_model.specs.Events.Answer.{Counted}
+use Rattle.machine_model.specs.Events.Event.{CountDirty}
+use Rattle.machine_model.specs.Events.Answer.{Counted}
 use Rattle.dope_run.specs.Text.{answer_text}
 use Rattle.dope_run.proofs.Obeyings.{obeyed_by_writing}
 use Rattle.dope_run.proofs.obeying.dirty.Goals as goal

@@ -1,8 +1,8 @@
 use Rattle.std.proofs.Common.{refl}
 use Rattle.cmd_words.specs.declared.replies.Reply.TheVariants.{Refused}
 use Rattle.cmd_words.specs.declared.replies.Refusal.TheVariants.{Syntax}
-use Rattle.desk_model.specs.Events.Event.{Misread}
-use Rattle.desk_model.specs.Events.Answer.{Replied}
+use Rattle.machine_model.specs.Events.Event.{Misread}
+use Rattle.machine_model.specs.Events.Answer.{Replied}
 use Rattle.dope_run.specs.Text.{answer_text}
 use Rattle.dope_run.proofs.Obeyings.{obeyed_by_writing}
 use Rattle.dope_run.proofs.obeying.misread.Goals as goal

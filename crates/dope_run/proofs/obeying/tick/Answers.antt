@@ -1,5 +1,5 @@
-use Rattle.desk_model.specs.Events.Event.{Tick}
-use Rattle.desk_model.specs.Events.Answer.{Drawn}
+use Rattle.machine_model.specs.Events.Event.{Tick}
+use Rattle.machine_model.specs.Events.Answer.{Drawn}
 use Rattle.dope_run.specs.Text.{answer_text}
 use Rattle.dope_run.proofs.Obeyings.{obeyed_by_writing}
 use Rattle.dope_run.proofs.obeying.tick.Goals as goal

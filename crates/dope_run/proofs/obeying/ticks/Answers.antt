@@ -2,8 +2,8 @@
 use Rattle.std.proofs.Common.{◌≡◌, ℕ, ◌+◌, ◌-◌, ◌<◌, [], ◌∷◌, ◌++◌, replicate, ap, ◌∙◌, arith, rules}
 use Rattle.std.proofs.lemmas.List.{replicate_more, replicate-append-replicate}
 use Rattle.std.proofs.lemmas.List.Elements.{All-replicate}
-use Rattle.desk_model.specs.Step.{CanCome}
-use Rattle.desk_model.specs.Events.Event.{Tick}
+use Rattle.machine_model.specs.Step.{CanCome}
+use Rattle.machine_model.specs.Events.Event.{Tick}
 use Rattle.dope_run.specs.declared.status.Status.TheVariants.{Done, WriteFault}
 use Rattle.dope_run.proofs.Obeyings.{obeyed_after, obeyed_more, obeyed_same}
 use Rattle.dope_run.proofs.obeying.ticks.Goals as goal

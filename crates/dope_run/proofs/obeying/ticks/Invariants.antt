@@ -1,7 +1,7 @@
 use Rattle.std.proofs.Common.{◌≡◌, replicate}
 use Rattle.outside_io.specs.Outbox.{output}
-use Rattle.desk_model.specs.State.{IsState}
-use Rattle.desk_model.specs.Events.Event.{Tick}
+use Rattle.machine_model.specs.State.{IsState}
+use Rattle.machine_model.specs.Events.Event.{Tick}
 use Rattle.dope_run.specs.declared.status.Status.TheVariants.{Done}
 use Rattle.dope_run.specs.Obeying.{Obeyed}
 use Rattle.dope_run.proofs.obeying.ticks.Given as goal

@@ -2,9 +2,9 @@ use Rattle.std.proofs.Common.{◌≡◌, ◌∷◌, ◌++◌, [], ℕ, List, Res
 use Rattle.std.proofs.lemmas.Bool.{true≢false}
 use Rattle.std.specs.Map.{lookup}
 use Rattle.indexmap.proofs.CallerLemmas.{insert_entry-new}
-use Rattle.desk_model.specs.Rows.{Row, new_row}
-use Rattle.desk_model.specs.Nodes.{Node, node_of}
-use Rattle.desk_model.specs.Widgets.{nodes}
+use Rattle.widget_model.specs.Rows.{Row, new_row}
+use Rattle.widget_model.specs.Nodes.{Node, node_of}
+use Rattle.widget_model.specs.Widgets.{nodes}
 use Rattle.row_store.specs.Index.{same_key, IsIndexed}
 use Rattle.row_store.proofs.Nodes.{nodes-push}
 use Rattle.row_store.proofs.Index.{IsIndexed-push}

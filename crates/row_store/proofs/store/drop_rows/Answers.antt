@@ -1,6 +1,6 @@
 use Rattle.std.proofs.Common.{◌≡◌, ◌≤◌, ◌*◌, ◌-◌, ℕ, List, false, None, is_some, sym, ap, ◌∙◌, arith}
-use Rattle.desk_model.specs.Rows.{Row}
-use Rattle.desk_model.specs.Widgets.{row_at, without_row}
+use Rattle.widget_model.specs.Rows.{Row}
+use Rattle.widget_model.specs.Widgets.{row_at, without_row}
 use Rattle.row_store.proofs.Options.{is_some-copied}
 use Rattle.row_store.proofs.Options.{is_none_of}
 use Rattle.row_store.proofs.TakenInTurn.{is_left, is_left-none, kept-all, kept-next, without_row-next}

@@ -1,7 +1,7 @@
 use Rattle.std.proofs.Common.{◌≡◌, ℕ, [], ◌∷◌, ◌++◌, Option, nat_eq, sym, ap, ◌∙◌, subst}
 use Rattle.slab.specs.Slab.{get as slab_get}
 use Rattle.indexmap.proofs.CallerLemmas.{insert_entry-new}
-use Rattle.desk_model.specs.Rows.{Row}
+use Rattle.widget_model.specs.Rows.{Row}
 use Rattle.row_store.specs.Shown.{shown, IsShown}
 use Rattle.row_store.proofs.ShownLemmas.{unlisted, shown-insert}
 use Rattle.row_store.proofs.store.put_last.Goals as goal

@@ -1,4 +1,4 @@
-use Rattle.desk_model.proofs.Beat.{colour-beat}
+use Rattle.machine_model.proofs.Beat.{colour-beat}
 use Rattle.server_core.proofs.laws.a_beat_changes_only_its_bands.Goals as goal
 
 pub returns : goal.returns

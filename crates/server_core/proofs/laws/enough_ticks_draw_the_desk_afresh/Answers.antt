@@ -1,4 +1,4 @@
-use Rattle.desk_model.proofs.Runs.{ComesRight-run}
+use Rattle.machine_model.proofs.Runs.{ComesRight-run}
 use Rattle.server_core.proofs.laws.enough_ticks_draw_the_desk_afresh.Goals as goal
 
 pub returns : goal.returns

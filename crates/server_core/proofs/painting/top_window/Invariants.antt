@@ -1,5 +1,5 @@
 use Rattle.std.proofs.Common.{◌≡◌, drop}
-use Rattle.desk_model.specs.Windows.{top_at}
+use Rattle.scene_model.specs.Windows.{top_at}
 use Rattle.server_core.proofs.painting.top_window.Given as goal
 
 abbrev pub invariant-loop-window : goal.invariant-loop-window

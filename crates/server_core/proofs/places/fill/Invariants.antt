@@ -1,5 +1,5 @@
 use Rattle.std.proofs.Common.{◌≡◌, ◌<◌, ◌≤◌, length, take}
-use Rattle.desk_model.specs.OpenWindows.{open_windows}
+use Rattle.desk_model.specs.Seen.{open_windows}
 use Rattle.server_core.proofs.places.fill.Given as goal
 
 abbrev pub invariant-loop-index : goal.invariant-loop-index

@@ -1,6 +1,6 @@
 use Rattle.std.proofs.Common.{◌≡◌, ℕ, ◌<◌, ◌≤◌, ◌+◌, ◌-◌, ◌*◌, ◌%◌, Bool, true, false, is_some, nat_le, refl, sym, ◌∙◌, subst, arith}
 use Rattle.std.proofs.lemmas.Bool.{leb-true, leb-false}
-use Rattle.desk_model.specs.Widgets.{nodes, row_at}
+use Rattle.widget_model.specs.Widgets.{nodes, row_at}
 use Rattle.tree_core.proofs.ForestLemmas.{one_is_free}
 use Rattle.row_store.proofs.Nodes.{row_live}
 use Rattle.tree_core.proofs.add.free_number.Goals as goal

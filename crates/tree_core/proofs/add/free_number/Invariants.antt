@@ -1,6 +1,6 @@
 -- the numbers that were tried are live
 use Rattle.std.proofs.Common.{◌≡◌, ◌<◌, ◌+◌, ◌%◌, ℕ, true, is_some}
-use Rattle.desk_model.specs.Widgets.{row_at}
+use Rattle.widget_model.specs.Widgets.{row_at}
 use Rattle.tree_core.proofs.add.free_number.Given as goal
 
 abbrev pub invariant-loop-k : goal.invariant-loop-k

@@ -1,7 +1,7 @@
 use Rattle.std.proofs.Common.{◌≡◌, ◌++◌, ◌∷◌, [], Some, ap, ◌∙◌, arith}
-use Rattle.desk_model.specs.Rows.{new_row}
-use Rattle.desk_model.specs.Nodes.{node_of}
-use Rattle.desk_model.specs.Widgets.{nodes}
+use Rattle.widget_model.specs.Rows.{new_row}
+use Rattle.widget_model.specs.Nodes.{node_of}
+use Rattle.widget_model.specs.Widgets.{nodes}
 use Rattle.row_store.specs.Counts.{gained, AreCounts}
 use Rattle.row_store.proofs.Nodes.{nodes-push}
 use Rattle.row_store.proofs.CountsLemmas.{AreCounts-gain, number_alike-count_of}

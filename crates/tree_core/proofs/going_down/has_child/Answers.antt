@@ -1,8 +1,8 @@
 use Rattle.std.proofs.Common.{◌≡◌, ◌<◌, Some, true, is_some, sym, ap, ◌∙◌, arith}
 use Rattle.std.specs.List.{list_any}
 use Rattle.std.specs.Option.{option_map}
-use Rattle.desk_model.specs.Rows.{Row}
-use Rattle.desk_model.specs.Trees.{is_child}
+use Rattle.widget_model.specs.Rows.{Row}
+use Rattle.widget_model.specs.Trees.{is_child}
 use Rattle.tree_core.specs.Children.{cells_of, rows_in}
 use Rattle.row_store.proofs.Options.{none_or_some}
 use Rattle.tree_core.proofs.Downward.{any-child, no-child}

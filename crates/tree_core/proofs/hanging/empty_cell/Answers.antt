@@ -1,6 +1,6 @@
 use Rattle.std.proofs.Common.{◌≡◌, None, is_some, sym, ap, ◌∙◌}
 use Rattle.std.proofs.lemmas.Bool.{true≢false}
-use Rattle.desk_model.specs.Places.{parent_id}
+use Rattle.widget_model.specs.Places.{parent_id}
 use Rattle.tree_core.specs.Children.{widgets_in}
 use Rattle.tree_core.proofs.Parents.{parent_id-there, TakesOut-parent, HasChildren-alone}
 use Rattle.tree_core.proofs.hanging.empty_cell.Goals as goal

@@ -1,4 +1,4 @@
-use Rattle.desk_model.specs.Widgets.{row_at}
+use Rattle.widget_model.specs.Widgets.{row_at}
 use Rattle.row_store.proofs.Options.{none_or_some}
 use Rattle.tree_core.proofs.Children.{takes_cell-index}
 use Rattle.tree_core.proofs.Groves.{MayHang-answer, MayHang-alone, IsGrove-hang}

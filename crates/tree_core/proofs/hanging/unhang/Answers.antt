@@ -1,4 +1,4 @@
-use Rattle.desk_model.specs.Widgets.{row_at}
+use Rattle.widget_model.specs.Widgets.{row_at}
 use Rattle.row_store.proofs.Options.{none_or_some}
 use Rattle.tree_core.proofs.Groves.{IsGrove-unhang}
 use Rattle.tree_core.proofs.hanging.unhang.Goals as goal

@@ -1,7 +1,7 @@
 -- no row that was looked at is linked
 use Rattle.std.proofs.Common.{◌≡◌, false, take}
 use Rattle.std.specs.List.{list_any}
-use Rattle.desk_model.specs.Trees.{links_to}
+use Rattle.widget_model.specs.Trees.{links_to}
 use Rattle.tree_core.specs.Children.{rows_in}
 use Rattle.tree_core.proofs.removing.is_linked.Given as goal
 

@@ -1,5 +1,5 @@
 use Rattle.std.proofs.Common.{ℕ, List, sym, ap, ◌∙◌, subst, lit<}
-use Rattle.desk_model.specs.Widgets.{is_joined}
+use Rattle.widget_model.specs.Widgets.{is_joined}
 use Rattle.desk_model.specs.DeskFacts.{AreConnectedOnce}
 use Rattle.desk_core.specs.Joined.{IsJoined}
 use Rattle.desk_core.proofs.Joins.{room_for_one, IsJoined-push}

@@ -1,13 +1,13 @@
 use Rattle.std.proofs.Common.{◌≡◌, ◌↔◌, IsTrue, ℕ, List, nat_lt, true, false, sym, ap, ◌∙◌, subst, arith}
 use Rattle.std.proofs.lemmas.Bool.{ltb-true, lt-ltb}
 use Rattle.cmd_words.specs.declared.replies.Reply.{Reply}
-use Rattle.desk_model.specs.Nodes.{any_kind}
-use Rattle.desk_model.specs.Named.{rows_counted}
+use Rattle.widget_model.specs.Nodes.{any_kind}
+use Rattle.widget_model.specs.Named.{rows_counted}
 use Rattle.desk_model.specs.DeskFacts.{IsDesk}
 use Rattle.desk_model.specs.Desk.{Desk}
 use Rattle.desk_model.specs.Clients.{step_bye, without_client}
 use Rattle.desk_model.specs.OwnPart.{LeavesOthers}
-use Rattle.desk_model.proofs.Naming.{count_of-nodes}
+use Rattle.widget_model.proofs.Naming.{count_of-nodes}
 use Rattle.desk_model.proofs.OwnPart.{byes_leave_others}
 use Rattle.desk_core.specs.Standing.{Standing, desk_of, IsStanding}
 use Rattle.desk_core.proofs.ByeTells.{tells_bye}

@@ -2,7 +2,7 @@ use Rattle.std.proofs.Common.{true, false, ap, ◌∙◌}
 use Rattle.std.proofs.lemmas.Bool.{and_from, le-leb}
 use Rattle.cmd_words.specs.declared.replies.Reply.TheVariants.{Refused}
 use Rattle.cmd_words.specs.declared.replies.Refusal.TheVariants.{Memory}
-use Rattle.desk_model.specs.Widgets.{Widgets}
+use Rattle.widget_model.specs.Widgets.{Widgets}
 use Rattle.desk_model.specs.Clients.{step_connect}
 use Rattle.desk_core.specs.Standing.{Standing, desk_of}
 use Rattle.desk_core.proofs.Endings.{connect-connected, connect-short}

@@ -2,7 +2,7 @@ use Rattle.std.proofs.Common.{false, true, Some, None, ap, ◌∙◌, ◌≡◌,
 use Rattle.std.proofs.lemmas.Int.{to_z_pos}
 use Rattle.cmd_words.specs.declared.replies.Reply.TheVariants.{Refused, Number}
 use Rattle.cmd_words.specs.declared.replies.Refusal.TheVariants.{Memory}
-use Rattle.desk_model.specs.Widgets.{Widgets}
+use Rattle.widget_model.specs.Widgets.{Widgets}
 use Rattle.desk_model.specs.Clients.{step_hello}
 use Rattle.desk_core.specs.Standing.{Standing, desk_of}
 use Rattle.desk_core.proofs.Endings.{hello-full, hello-short}

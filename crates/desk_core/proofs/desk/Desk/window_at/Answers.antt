@@ -1,7 +1,7 @@
 use Rattle.std.proofs.Common.{◌<◌, ◌≤◌, length, Some, slice_get, refl, sym, ap, ◌∙◌, subst, arith}
 use Rattle.std.specs.Option.{option_map}
-use Rattle.desk_model.specs.Widgets.{nodes}
-use Rattle.desk_model.specs.OpenWindows.{open_windows}
+use Rattle.widget_model.specs.Widgets.{nodes}
+use Rattle.desk_model.specs.Seen.{open_windows}
 use Rattle.desk_model.specs.DeskFacts.{IsDesk}
 use Rattle.desk_core.specs.Standing.{Standing}
 use Rattle.desk_core.proofs.WindowPlaces.{sides, window_live, open_windows-key, open_windows-past, index_within, index_past, length-windows_at}

@@ -1,5 +1,5 @@
 use Rattle.desk_model.specs.Clients.{step_bye}
-use Rattle.desk_model.proofs.Steps.{shape-step_bye}
+use Rattle.machine_model.proofs.Steps.{shape-step_bye}
 use Rattle.server_core.proofs.Parts.{step_of_parts}
 use Rattle.server_core.proofs.server.Server.bye.Goals as goal
 

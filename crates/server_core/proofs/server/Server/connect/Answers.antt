@@ -1,6 +1,6 @@
 use Rattle.std.proofs.lemmas.Bool.{and_from, le-leb}
 use Rattle.desk_model.specs.Clients.{step_connect}
-use Rattle.desk_model.proofs.Steps.{shape-step_connect}
+use Rattle.machine_model.proofs.Steps.{shape-step_connect}
 use Rattle.server_core.proofs.Parts.{step_of_parts}
 use Rattle.server_core.proofs.server.Server.connect.Goals as goal
 

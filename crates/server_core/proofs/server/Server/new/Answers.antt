@@ -1,8 +1,8 @@
 use Rattle.std.proofs.Common.{sym, ap, ◌∙◌}
 use Rattle.desk_model.specs.Desk.{Desk}
-use Rattle.desk_model.specs.State.{dirty_count}
-use Rattle.desk_model.proofs.Opening.{IsState-opening, dirty_count-opening}
-use Rattle.desk_model.proofs.Steps.{IsState-same}
+use Rattle.machine_model.specs.State.{dirty_count}
+use Rattle.machine_model.proofs.Opening.{IsState-opening, dirty_count-opening}
+use Rattle.machine_model.proofs.Steps.{IsState-same}
 use Rattle.server_core.proofs.Parts.{opened, open_windows-opening}
 use Rattle.server_core.proofs.server.Server.new.Goals as goal
 

@@ -1,6 +1,6 @@
 use Rattle.std.proofs.Common.{◌∙◌}
-use Rattle.desk_model.specs.State.{IsState}
-use Rattle.desk_model.proofs.Ticks.{TickedWith-lost_marks, clean-is_picture}
+use Rattle.machine_model.specs.State.{IsState}
+use Rattle.machine_model.proofs.Ticks.{TickedWith-lost_marks, clean-is_picture}
 use Rattle.server_core.proofs.Parts.{tick_of_parts}
 use Rattle.server_core.proofs.server.Server.tick.Goals as goal
 

@@ -1,6 +1,6 @@
 use Rattle.std.proofs.Common.{◌≡◌, ◌∷◌, ◌++◌, [], ℕ, List, is_ok, is_some, true, sym, ap, ◌∙◌, subst, arith}
-use Rattle.desk_model.specs.Rows.{Row, new_row}
-use Rattle.desk_model.specs.Widgets.{Widgets, nodes, is_joined, row_at}
+use Rattle.widget_model.specs.Rows.{Row, new_row}
+use Rattle.widget_model.specs.Widgets.{Widgets, nodes, is_joined, row_at}
 use Rattle.row_store.specs.Index.{IsIndexed}
 use Rattle.tree_core.specs.Kept.{IsTree}
 use Rattle.tree_core.proofs.ForestLemmas.{joined_in_range, no_refusal, maybe, live-maybe_push, live-last}

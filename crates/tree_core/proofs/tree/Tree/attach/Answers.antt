@@ -1,10 +1,10 @@
 use Rattle.std.proofs.Common.{◌≡◌, ℕ, List, Option, true, false, is_some, refl, sym, ap, ◌∙◌, subst}
 use Rattle.std.specs.Option.{option_map, option_map_or}
 use Rattle.kind_core.specs.declared.kinds.Kind.{Kind}
-use Rattle.desk_model.specs.Rows.{Row, with_spot}
-use Rattle.desk_model.specs.Links.{name_at}
-use Rattle.desk_model.specs.Planted.{takes_cell}
-use Rattle.desk_model.specs.Widgets.{Widgets, row_at, row_kind}
+use Rattle.widget_model.specs.Rows.{Row, with_spot}
+use Rattle.widget_model.specs.Links.{name_at}
+use Rattle.widget_model.specs.Planted.{takes_cell}
+use Rattle.widget_model.specs.Widgets.{Widgets, row_at, row_kind}
 use Rattle.tree_core.specs.Children.{HasChildren}
 use Rattle.tree_core.specs.Kept.{IsGrove}
 use Rattle.row_store.proofs.CountsLemmas.{AreCounts-with_row}

@@ -1,6 +1,6 @@
 use Rattle.std.proofs.Common.{◌≡◌, ℕ, List, None, true, is_some, refl, sym, subst}
-use Rattle.desk_model.specs.Rows.{Row, with_spot}
-use Rattle.desk_model.specs.Widgets.{Widgets, row_at}
+use Rattle.widget_model.specs.Rows.{Row, with_spot}
+use Rattle.widget_model.specs.Widgets.{Widgets, row_at}
 use Rattle.tree_core.specs.Children.{HasChildren}
 use Rattle.tree_core.specs.Kept.{IsGrove}
 use Rattle.row_store.proofs.CountsLemmas.{AreCounts-with_row}

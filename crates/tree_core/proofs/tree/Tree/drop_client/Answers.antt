@@ -1,8 +1,8 @@
 use Rattle.std.proofs.Common.{◌≡◌, ℕ, true, not, is_some, sym, ap, ◌∙◌, subst, arith}
 use Rattle.std.specs.List.{filter}
-use Rattle.desk_model.specs.Rows.{Row}
-use Rattle.desk_model.specs.Nodes.{is_number_of}
-use Rattle.desk_model.specs.Widgets.{Widgets, row_at, row_client, is_joined, departed, nodes}
+use Rattle.widget_model.specs.Rows.{Row}
+use Rattle.widget_model.specs.Nodes.{is_number_of}
+use Rattle.widget_model.specs.Widgets.{Widgets, row_at, row_client, is_joined, departed, nodes}
 use Rattle.row_store.specs.Counts.{AreCounts, forgotten}
 use Rattle.row_store.proofs.CountsLemmas.{AreCounts-forget}
 use Rattle.tree_core.proofs.ForestLemmas.{joined_in_range}

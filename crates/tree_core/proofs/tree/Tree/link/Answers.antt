@@ -1,8 +1,8 @@
 use Rattle.std.proofs.Common.{◌≡◌, ℕ, List, true, Option, Some, None, is_some, sym, ◌∙◌}
 use Rattle.std.specs.Option.{option_and_then}
-use Rattle.desk_model.specs.Rows.{Row}
-use Rattle.desk_model.specs.Nodes.{id_named}
-use Rattle.desk_model.specs.Widgets.{nodes, row_at}
+use Rattle.widget_model.specs.Rows.{Row}
+use Rattle.widget_model.specs.Nodes.{id_named}
+use Rattle.widget_model.specs.Widgets.{nodes, row_at}
 use Rattle.row_store.proofs.Nodes.{named-live, row_live}
 use Rattle.tree_core.proofs.tree.Tree.link.Goals as goal
 

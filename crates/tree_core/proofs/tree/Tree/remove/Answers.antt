@@ -1,10 +1,10 @@
 use Rattle.std.proofs.Common.{◌≡◌, ℕ, List, Bool, true, false, cond, Some, None, is_some, refl, sym, ap, ◌∙◌, subst}
 use Rattle.std.specs.Cmp.{nat_eq_equiv}
 use Rattle.std.specs.Option.{option_map}
-use Rattle.desk_model.specs.Rows.{Row}
-use Rattle.desk_model.specs.Nodes.{counts_with}
-use Rattle.desk_model.specs.Trees.{is_used}
-use Rattle.desk_model.specs.Widgets.{Widgets, row_at, nodes, without_row}
+use Rattle.widget_model.specs.Rows.{Row}
+use Rattle.widget_model.specs.Nodes.{counts_with}
+use Rattle.widget_model.specs.Trees.{is_used}
+use Rattle.widget_model.specs.Widgets.{Widgets, row_at, nodes, without_row}
 use Rattle.tree_core.specs.Children.{rows_in}
 use Rattle.row_store.specs.Counts.{AreCounts, lost}
 use Rattle.row_store.specs.Index.{IsIndexed}

@@ -1,8 +1,8 @@
 use Rattle.std.proofs.Common.{◌≡◌, true, is_some, Ok, refl, sym, ap, ◌∙◌, subst}
 use Rattle.kind_core.specs.declared.kinds.Kind.{Kind}
 use Rattle.kind_core.specs.Attributes.{domain_of, judged}
-use Rattle.desk_model.specs.Rows.{with_attr}
-use Rattle.desk_model.specs.Widgets.{Widgets, row_at}
+use Rattle.widget_model.specs.Rows.{with_attr}
+use Rattle.widget_model.specs.Widgets.{Widgets, row_at}
 use Rattle.row_store.proofs.CountsLemmas.{AreCounts-with_row}
 use Rattle.tree_core.proofs.ForestLemmas.{live-with_row}
 use Rattle.tree_core.proofs.Fits.{fits_table-with_attr}

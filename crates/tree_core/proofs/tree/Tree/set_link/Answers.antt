@@ -1,10 +1,10 @@
 use Rattle.std.proofs.Common.{◌≡◌, ℕ, List, true, Option, Some, None, IsSome, IfSome, is_some, refl, sym, ap, ◌∙◌, subst}
 use Rattle.std.specs.Option.{option_map, option_and_then}
 use Rattle.kind_core.specs.declared.kinds.Kind.TheVariants.{Variable}
-use Rattle.desk_model.specs.Rows.{Row}
-use Rattle.desk_model.specs.Widgets.{Widgets, nodes, row_at, row_kind, row_client}
-use Rattle.desk_model.specs.Links.{leads, name_at}
-use Rattle.desk_model.specs.Forest.{HaveOwnNames}
+use Rattle.widget_model.specs.Rows.{Row}
+use Rattle.widget_model.specs.Widgets.{Widgets, nodes, row_at, row_kind, row_client}
+use Rattle.widget_model.specs.Links.{leads, name_at}
+use Rattle.widget_model.specs.Forest.{HaveOwnNames}
 use Rattle.tree_core.specs.declared.id.Id.{Id}
 use Rattle.row_store.proofs.Options.{none_or_some}
 use Rattle.tree_core.specs.Kept.{IsTree}

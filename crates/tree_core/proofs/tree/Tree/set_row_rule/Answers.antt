@@ -1,6 +1,6 @@
 use Rattle.std.proofs.Common.{◌≡◌, true, is_some, refl, sym, subst}
-use Rattle.desk_model.specs.Rows.{with_row_rule}
-use Rattle.desk_model.specs.Widgets.{Widgets, row_at}
+use Rattle.widget_model.specs.Rows.{with_row_rule}
+use Rattle.widget_model.specs.Widgets.{Widgets, row_at}
 use Rattle.row_store.proofs.CountsLemmas.{AreCounts-with_row}
 use Rattle.tree_core.proofs.ForestLemmas.{live-with_row}
 use Rattle.tree_core.proofs.TreeKept.{IsTree-leaves, IsWidgets-tree, live_row, fits_at, grid_live}

@@ -1,0 +1,10 @@
+pub mod Marks
+pub mod Reach
+pub mod Opening
+pub mod Pixels
+pub mod Steps
+pub mod Telling
+pub mod Progress
+pub mod Ticks
+pub mod Runs
+pub mod Beat

@@ -1,0 +1,5 @@
+pub mod Shapes
+pub mod Windows
+pub mod Scene
+pub mod OpenWindows
+pub mod Picture

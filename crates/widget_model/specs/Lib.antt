@@ -1,0 +1,11 @@
+pub mod Kinds
+pub mod Rows
+pub mod Nodes
+pub mod Widgets
+pub mod Links
+pub mod Forest
+pub mod Named
+pub mod Trees
+pub mod Planted
+pub mod Fitting
+pub mod Places

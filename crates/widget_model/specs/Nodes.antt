@@ -1,0 +1,59 @@
+-- The node of a row is what names it: its client, name and kind. No call changes the node of a row.
+use Rattle.std.specs.Prelude.{ℕ, ◌+◌, ◌-◌, ◌*◌, Bool, true, false, ◌&&◌, nat_eq, nat_lt, nat_le, List, [], ◌∷◌, Option, Some, None, if◌then◌else◌}
+use Rattle.std.specs.List.{count_by}
+use Rattle.std.specs.Str.{bytes_eq}
+use Rattle.kind_core.specs.declared.kinds.Kind.{Kind}
+use Rattle.kind_core.specs.declared.kinds.Kind.TheVariants.{Window, VScreen}
+use Rattle.widget_model.specs.Rows.{Row}
+
+pub record Node : Type 0 where
+  pub client : ℕ
+  pub name : List ℕ
+  pub kind : Kind
+
+abbrev pub node_of : Row → Node
+node_of row = record { client = row.client; name = row.name; kind = row.kind }
+
+-- whether the node has this client and name
+abbrev pub is_named : ℕ → List ℕ → Node → Bool
+is_named client name node = nat_eq client node.client && bytes_eq name node.name
+
+-- the number of the node with this client and name
+abbrev pub id_named : List (ℕ × Node) → ℕ → List ℕ → Option ℕ
+id_named [] client name = None
+id_named (entry ∷ entries) client name = if is_named client name entry.1 then Some entry.0 else id_named entries client name
+
+-- the kind of the node with this client and name
+abbrev pub kind_named : List (ℕ × Node) → ℕ → List ℕ → Option Kind
+kind_named [] client name = None
+kind_named (entry ∷ entries) client name = if is_named client name entry.1 then Some entry.1.kind else kind_named entries client name
+
+-- the node with this number
+abbrev pub node_at : List (ℕ × Node) → ℕ → Option Node
+node_at [] id = None
+node_at (entry ∷ entries) id = if nat_eq id entry.0 then Some entry.1 else node_at entries id
+
+-- how many nodes of the client have a kind that passes the test
+abbrev pub count_of : ℕ → (Kind → Bool) → List (ℕ × Node) → ℕ
+count_of client test entries = count_by (λ entry. nat_eq client entry.1.client && test entry.1.kind) entries
+
+abbrev pub any_kind : Kind → Bool
+any_kind kind = true
+
+-- Windows are counted together, and so are VScreens.
+abbrev pub counts_with : Kind → Kind → Bool
+counts_with Window Window = true
+counts_with VScreen VScreen = true
+counts_with _ _ = false
+
+-- All kinds are counted, or those that are counted with the given one.
+abbrev pub counted : Option Kind → Kind → Bool
+counted None kind = true
+counted (Some kind) other = counts_with kind other
+
+-- The numbers of a client are 128 of its own, so that all numbers are below 2,048.
+abbrev pub first_number : ℕ → ℕ
+first_number client = 128 * (client - 1)
+
+abbrev pub is_number_of : ℕ → ℕ → Bool
+is_number_of client id = nat_le 1 client && (nat_le (first_number client) id && nat_lt id (first_number client + 128))
