@@ -3,5 +3,3 @@
 
 #[cfg(test)]
 mod rows_lent;
-#[cfg(test)]
-mod tables;

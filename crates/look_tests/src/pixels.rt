@@ -26,16 +26,23 @@ fn number(word: Option<&str>) -> u32 {
     }
 }
 
-/// The look shows these colours in a widget of `w` by `h`. A line has a column, a row and the colour there.
+/// The look shows a colour at a pixel of a widget of `w` by `h`: the line has its column, its row and its colour.
+fn shows_one(rt: &impl Abort, look: &Look<'_>, w: u32, h: u32, line: &str)
+    requires { (y : ℕ) → IsDrawable y (seen look.now) }
+{
+    let mut words = line.split_whitespace();
+    let u = number(words.next());
+    let v = number(words.next());
+    let colour = number(words.next());
+    assert_eq!(rt; u32::from(pixel(rt, look, w, h, u, v)), colour, "at {line}");
+}
+
+/// The look shows these colours in a widget of `w` by `h`, a pixel a line.
 pub fn shows(rt: &impl Abort, look: &Look<'_>, w: u32, h: u32, table: &str)
     requires { (y : ℕ) → IsDrawable y (seen look.now) }
 {
     for line in table.lines() {
-        let mut words = line.split_whitespace();
-        let u = number(words.next());
-        let v = number(words.next());
-        let colour = number(words.next());
-        assert_eq!(rt; u32::from(pixel(rt, look, w, h, u, v)), colour, "at {line}");
+        shows_one(rt, look, w, h, line);
     }
 }
 
