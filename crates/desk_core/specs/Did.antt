@@ -1,3 +1,4 @@
+-- Inner words of the proofs.
 -- What a command did.
 use Rattle.std.specs.Prelude.{ℕ, ◌≡◌, ◌↔◌, IsTrue, Bool, true, is_some, List, Some}
 use Rattle.std.specs.List.{list_all}

@@ -1,3 +1,4 @@
+-- Inner words of the proofs.
 -- What finding a client's widget answers.
 use Rattle.std.specs.Prelude.{ℕ, ◌≡◌, List, Option, Some, None}
 use Rattle.widget_model.specs.Widgets.{Widgets, rows_of}

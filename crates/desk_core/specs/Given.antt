@@ -1,3 +1,4 @@
+-- Inner words of the proofs.
 -- The values that a row has for the attributes of some options.
 use Rattle.std.specs.Prelude.{List, Option, map}
 use Rattle.kind_core.specs.declared.kinds.Attr.{Attr}

@@ -1,3 +1,4 @@
+-- Inner words of the proofs.
 -- The clients that are connected: each is 1 to 16, and none is there twice.
 use Rattle.std.specs.Prelude.{ℕ, ◌≡◌, true, List}
 use Rattle.std.specs.List.{list_all}

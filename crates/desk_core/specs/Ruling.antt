@@ -1,3 +1,4 @@
+-- Inner words of the proofs.
 -- What ruling a Grid's column or row is allowed to do, and what is answered where it isn't.
 use Rattle.std.specs.Prelude.{ℕ, ℤ, ◌≡◌, List, Some, None, Result, Ok, Err, unsigned_abs}
 use Rattle.kind_core.specs.declared.kinds.Kind.TheVariants.{Grid}

@@ -1,3 +1,4 @@
+-- Inner words of the proofs.
 -- How a client is told what the tree of widgets refuses.
 use Rattle.cmd_words.specs.declared.replies.Refusal.{Refusal}
 use Rattle.cmd_words.specs.declared.replies.Refusal.TheVariants.{Memory, NameTaken, WrongKind, Full, HasParent, Cycle, TooDeep, CellTaken}

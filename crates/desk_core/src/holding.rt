@@ -8,8 +8,8 @@ ghost use Rattle.desk_core.specs.Standing.{IsStanding, desk_of};
 use crate::finding::find;
 use crate::opening::is_open;
 use crate::setting::Setting;
-use scene_model::Grab;
 use kind_core::Name;
+use scene_model::Grab;
 use stack_core::Stack;
 use tree_core::Tree;
 

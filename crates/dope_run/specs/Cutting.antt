@@ -1,3 +1,4 @@
+-- Inner words of the proofs.
 -- How a run ends that was cut off at a line.
 use Rattle.dope_run.specs.declared.cut.Cut.{Cut}
 use Rattle.dope_run.specs.declared.cut.Cut.TheVariants.{Unread, Unwritten}

@@ -1,3 +1,4 @@
+-- Inner words of the proofs.
 -- How a line's events are carried out: a run of the machine over them, whose text is put out as it goes.
 use Rattle.std.specs.Prelude.{◌≡◌, ◌≤◌, List, ℕ, length, take}
 use Rattle.outside_io.specs.Outbox.{Output, Puts, PutsFront}

@@ -5,8 +5,8 @@ ghost use Rattle.dope_run.specs.Text.{reply_line, drew_line, dirty_line, pixel_l
 use arrayvec::ArrayString;
 use cmd_text::{Reply, print_reply};
 use cmd_words::Drew;
-use kind_core::Shape;
 use itoa::Buffer;
+use kind_core::Shape;
 
 /// A line of output, with its line feed.
 pub type Line = ArrayString<64>;

@@ -1,3 +1,4 @@
+-- Inner words of the proofs.
 -- Marking pixels dirty: where a window shows them, where one of several does, and what a change of the desk asks for.
 use Rattle.std.specs.Prelude.{◌≡◌, ℕ, ◌/◌, ◌%◌, ◌<◌, ◌≤◌, Bool, ◌&&◌, ◌||◌, if◌then◌else◌, List, length}
 use Rattle.scene_model.specs.declared.window.Window.{Window}

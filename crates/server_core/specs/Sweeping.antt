@@ -1,3 +1,4 @@
+-- Inner words of the proofs.
 -- A sweep from the front of the dirt map that cleans and draws, place by place.
 use Rattle.std.specs.Prelude.{◌≡◌, ℕ, ◌+◌, ◌/◌, ◌%◌, ◌<◌, ◌≤◌, min, Bool, true, false, not, ◌&&◌, if◌then◌else◌, List, length, take, slice_index_or}
 use Rattle.scene_model.specs.declared.window.Window.{Window}
