@@ -1,4 +1,4 @@
--- How a line's events are carried out: a run of the machine over them, whose text is put out as it goes.
+-- Inner words of the proofs: how a line's events are carried out: a run of the machine over them, whose text is put out as it goes.
 use Rattle.std.specs.Prelude.{◌≡◌, ◌≤◌, List, ℕ, length, take}
 use Rattle.outside_io.specs.Outbox.{Output, Puts, PutsFront}
 use Rattle.desk_model.specs.State.{State}

@@ -1,4 +1,4 @@
--- How a player of a script goes through bytes: which whole lines they make, which run they ask for, what was
+-- Inner words of the proofs: how a player of a script goes through bytes: which whole lines they make, which run they ask for, what was
 -- put out of it, and how far the player has come.
 use Rattle.std.specs.Prelude.{◌≡◌, ◌≢◌, ◌⊎◌, ℕ, ◌+◌, ◌<◌, false, List, [], ◌∷◌, ◌++◌, length, take, slice_index, Option, None}
 use Rattle.std.specs.Io.KnownBytes.{Consumes}
