@@ -1,5 +1,4 @@
--- Inner words of the proofs.
--- How a run ends that was cut off at a line.
+-- Inner words of the proofs: how a run ends that was cut off at a line.
 use Rattle.dope_run.specs.declared.cut.Cut.{Cut}
 use Rattle.dope_run.specs.declared.cut.Cut.TheVariants.{Unread, Unwritten}
 use Rattle.dope_run.specs.declared.status.Status.{Status}

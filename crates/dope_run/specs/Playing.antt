@@ -1,12 +1,11 @@
--- Inner words of the proofs.
--- How a player of a script goes through bytes: which whole lines they make, which run they ask for, what was
+-- Inner words of the proofs: how a player of a script goes through bytes: which whole lines they make, which run they ask for, what was
 -- put out of it, and how far the player has come.
 use Rattle.std.specs.Prelude.{◌≡◌, ◌≢◌, ◌⊎◌, ℕ, ◌+◌, ◌<◌, false, List, [], ◌∷◌, ◌++◌, length, take, slice_index, Option, None}
 use Rattle.std.specs.Io.KnownBytes.{Consumes}
 use Rattle.outside_io.specs.Outbox.{Output, flushed}
 use Rattle.kind_core.specs.declared.shapes.Shape.{Shape}
-use Rattle.machine_model.specs.State.{IsState, opening}
-use Rattle.machine_model.specs.Run.{Moment}
+use Rattle.desk_model.specs.State.{IsState, opening}
+use Rattle.desk_model.specs.Run.{Moment}
 use Rattle.dope_run.specs.declared.status.Status.{Status}
 use Rattle.dope_run.specs.declared.status.Status.TheVariants.{Done, WriteFault, BadScript}
 use Rattle.dope_run.specs.declared.cut.Cut.{Cut}
