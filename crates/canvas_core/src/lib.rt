@@ -1,4 +1,5 @@
-//! The screen: one byte for each pixel, row after row, with a count of the bytes that were written.
+//! The screen: one byte for each pixel, row after row, with counts of the bytes and of the spans that
+//! were written.
 #![tactic(auto)]
 
 mod canvas;

@@ -2,19 +2,46 @@
 //! law. docs/MACHINE.md reads them in prose.
 
 ghost use Rattle.desk_model.specs.OwnPart.{CommandsLeaveOthers, ConnectsLeaveOthers, ByesLeaveOthers, AnswersDependOnOwnPart, ConnectsDependOnOwnPart, ByesDependOnOwnPart};
+ghost use Rattle.desk_model.specs.Keeping.{OpeningIsADesk, ConnectsKeepDesks, HellosKeepDesks, ByesKeepDesks, CommandsKeepDesks};
+
+/// What holds of a desk holds at opening.
+pub fn the_opening_desk_is_a_desk()
+    ensures { OpeningIsADesk }
+{}
+
+/// A client that connects, 1 to 16, leaves a desk of which all that holds of a desk holds.
+pub fn a_connect_keeps_what_holds()
+    ensures { ConnectsKeepDesks }
+{}
+
+/// A client that says hello does the same.
+pub fn a_hello_keeps_what_holds()
+    ensures { HellosKeepDesks }
+{}
+
+/// A client that says bye does the same.
+pub fn a_bye_keeps_what_holds()
+    ensures { ByesKeepDesks }
+{}
+
+/// Each command does the same, whatever it is and however it is answered.
+pub fn a_command_keeps_what_holds()
+    ensures { CommandsKeepDesks }
+{}
 
 /// What a client's command does leaves every other client's part as it was: whether it is connected, its rows,
-/// its open windows in their order, its admissions and its events; and the shape and the pointer.
+/// its open windows in their order, its admissions and its events; and the shape, and the pointer but for what it
+/// holds of the client's own widgets.
 pub fn a_command_leaves_the_others_parts()
     ensures { CommandsLeaveOthers }
 {}
 
-/// A client that connects leaves every other client's part, the shape and the pointer as they were.
+/// A client that connects leaves every other client's part and the shape as they were, and the pointer as above.
 pub fn a_connect_leaves_the_others_parts()
     ensures { ConnectsLeaveOthers }
 {}
 
-/// A client that says bye leaves every other client's part, the shape and the pointer as they were.
+/// A client that says bye leaves every other client's part and the shape as they were, and the pointer as above.
 pub fn a_bye_leaves_the_others_parts()
     ensures { ByesLeaveOthers }
 {}

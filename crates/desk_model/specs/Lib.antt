@@ -14,3 +14,4 @@ pub mod Clients
 pub mod Commands
 pub mod DeskFacts
 pub mod OwnPart
+pub mod Keeping

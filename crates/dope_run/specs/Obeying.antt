@@ -1,9 +1,9 @@
 -- Inner words of the proofs: how a line's events are carried out: a run of the machine over them, whose text is put out as it goes.
 use Rattle.std.specs.Prelude.{◌≡◌, ◌≤◌, List, ℕ, length, take}
 use Rattle.outside_io.specs.Outbox.{Output, Puts, PutsFront}
-use Rattle.desk_model.specs.State.{State}
-use Rattle.desk_model.specs.Events.{Event}
-use Rattle.desk_model.specs.Run.{Moment, Run, events_of, state_after}
+use Rattle.machine_model.specs.State.{State}
+use Rattle.machine_model.specs.Events.{Event}
+use Rattle.machine_model.specs.Run.{Moment, Run, events_of, state_after}
 use Rattle.dope_run.specs.declared.status.Status.{Status}
 use Rattle.dope_run.specs.declared.status.Status.TheVariants.{WriteFault}
 use Rattle.dope_run.specs.Text.{text_of}

@@ -4,8 +4,8 @@ use Rattle.std.specs.Prelude.{◌≡◌, ◌≢◌, ◌⊎◌, ℕ, ◌+◌, ◌
 use Rattle.std.specs.Io.KnownBytes.{Consumes}
 use Rattle.outside_io.specs.Outbox.{Output, flushed}
 use Rattle.kind_core.specs.declared.shapes.Shape.{Shape}
-use Rattle.desk_model.specs.State.{IsState, opening}
-use Rattle.desk_model.specs.Run.{Moment}
+use Rattle.machine_model.specs.State.{IsState, opening}
+use Rattle.machine_model.specs.Run.{Moment}
 use Rattle.dope_run.specs.declared.status.Status.{Status}
 use Rattle.dope_run.specs.declared.status.Status.TheVariants.{Done, WriteFault, BadScript}
 use Rattle.dope_run.specs.declared.cut.Cut.{Cut}
