@@ -1,14 +1,15 @@
 -- How a run ends, from what its player did.
-use Rattle.std.proofs.Common.{◌≡◌, ◌≢◌, ℕ, ◌+◌, ◌≤◌, List, [], ◌∷◌, ◌++◌, length, take, Option, Some, refl, sym, ap, subst, ◌∙◌, inl, inr, arith, lit≤, append-nil, append_assoc, length-append}
+use Rattle.std.proofs.Common.{◌≡◌, ◌≢◌, ℕ, ◌+◌, ◌≤◌, List, [], ◌∷◌, ◌++◌, length, take, drop, Option, Some, refl, sym, ap, subst, ◌∙◌, inl, inr, arith, lit≤, append-nil, append_assoc, length-append}
 use Rattle.std.specs.Io.KnownBytes.{Consumes, Keeps, IsAtEnd}
+use Rattle.std.proofs.lemmas.List.{take-append-drop}
 use Rattle.outside_io.specs.Outbox.{Output, Puts, PutsFront, flushed}
 use Rattle.outside_io.proofs.Told.{Consumes-none, Consumes-append, Consumes-keeps}
 use Rattle.outside_io.proofs.Gathered.{Puts-none, PutsFront-longer}
 use Rattle.kind_core.specs.declared.shapes.Shape.{Shape}
 use Rattle.machine_model.proofs.Opening.{shape-opening}
 use Rattle.machine_model.specs.State.{State, IsState, opening}
-use Rattle.machine_model.specs.Run.{Moment, state_after}
-use Rattle.machine_model.proofs.Runs.{IsState-run, KeepsLaws-run}
+use Rattle.machine_model.specs.Run.{Moment, Run, state_after}
+use Rattle.machine_model.proofs.Runs.{Run-parts, IsState-run, KeepsLaws-run}
 use Rattle.machine_model.proofs.Progress.{some_run}
 use Rattle.dope_run.proofs.Coming.{events-come}
 use Rattle.dope_run.specs.declared.cut.Cut.{Cut}
@@ -29,6 +30,19 @@ use Rattle.dope_run.proofs.Feedings.{IsLine-nil, fed_none, fed_after, moments-fe
 use Rattle.std.proofs.Math.Seq.{take-append_seam}
 use Rattle.dope_run.proofs.Framings.{lines_of}
 
+-- the state in which the server is left is one of the run's, so it is valid
+IsState-left : (status : Status) (state from : State) (least : ℕ) (moments : List Moment) → IsState from → Run from moments → IsLeft status state from least moments → IsState state
+IsState-left WriteFault state from least moments valid run left =
+    let whole : Run from (take left.count moments ++ drop left.count moments) = subst (Run from) (sym (take-append-drop left.count moments)) run in
+    let front = (Run-parts from (take left.count moments) (drop left.count moments) whole).0 in
+    subst IsState (sym left.reached) (IsState-run from (take left.count moments) valid front)
+IsState-left Done state from least moments valid run left = subst IsState (sym left) (IsState-run from moments valid run)
+IsState-left ReadFault state from least moments valid run left = subst IsState (sym left) (IsState-run from moments valid run)
+IsState-left Usage state from least moments valid run left = subst IsState (sym left) (IsState-run from moments valid run)
+IsState-left (BadScript line) state from least moments valid run left = subst IsState (sym left) (IsState-run from moments valid run)
+IsState-left NoMemory state from least moments valid run left = subst IsState (sym left) (IsState-run from moments valid run)
+IsState-left TooMuch state from least moments valid run left = subst IsState (sym left) (IsState-run from moments valid run)
+
 -- what is known of a run, put together
 ended : (shape : Shape) (status : Status) (source_old source_new sink_old sink_new : Option (List ℕ)) (state : State) (taken : List ℕ) (items : List Item) (moments : List Moment) → IsState (opening shape) → Consumes source_old source_new taken → Covers status taken source_new items → Plays (opening shape) items moments → (read : LastRead (opening shape) taken moments) → Gains status sink_old sink_new (text_of (take read.count moments)) (text_of moments) → IsLeft status state (opening shape) read.count moments → Ended shape status source_old source_new sink_old sink_new state
 ended shape status source_old source_new sink_old sink_new state taken items moments valid consumes covers plays read gains leaves = record {
@@ -41,6 +55,7 @@ ended shape status source_old source_new sink_old sink_new state taken items mom
   read = read;
   gains = gains;
   leaves = leaves;
+  valid = IsState-left status state (opening shape) read.count moments valid plays.run leaves;
   laws = KeepsLaws-run (opening shape) moments valid plays.run;
 }
 

@@ -3,7 +3,7 @@ use Rattle.std.specs.Prelude.{◌≡◌, ℕ, ◌+◌, ◌≤◌, ◌⊎◌, Lis
 use Rattle.std.specs.List.{All}
 use Rattle.std.specs.Io.KnownBytes.{Appends, Consumes, IsAtEnd}
 use Rattle.kind_core.specs.declared.shapes.Shape.{Shape}
-use Rattle.machine_model.specs.State.{State, opening}
+use Rattle.machine_model.specs.State.{State, IsState, opening}
 use Rattle.machine_model.specs.Run.{Moment, Run, events_of, state_after}
 use Rattle.machine_model.specs.Laws.{KeepsLaws}
 use Rattle.dope_run.specs.declared.status.Status.{Status}
@@ -85,8 +85,8 @@ IsLeft WriteFault state from least moments = IsPast state from least moments
 IsLeft _ state from least moments = state ≡ state_after from moments
 
 -- A run of a server of this shape that ended so: what it took from the source, which lines of it were played,
--- what was taken by the last read alone, what the sink gained, in which state the server is, and the laws that the
--- run kept.
+-- what was taken by the last read alone, what the sink gained, in which state the server is, that all that holds of a
+-- state holds of it, and the laws that the run kept.
 pub record Ended (shape : Shape) (status : Status) (source_old source_new sink_old sink_new : Option (List ℕ)) (state : State) : Type 0 where
   pub taken : List ℕ
   pub items : List Item
@@ -97,6 +97,7 @@ pub record Ended (shape : Shape) (status : Status) (source_old source_new sink_o
   pub read : LastRead (opening shape) taken moments
   pub gains : Gains status sink_old sink_new (text_of (take read.count moments)) (text_of moments)
   pub leaves : IsLeft status state (opening shape) read.count moments
+  pub valid : IsState state
   pub laws : KeepsLaws (opening shape) moments
 
 -- The run was refused before anything was read, or it was played.
