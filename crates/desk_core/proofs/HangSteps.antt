@@ -12,7 +12,7 @@ use Rattle.cmd_words.specs.declared.replies.Refusal.TheVariants.{WrongKind, BadV
 use Rattle.tree_core.specs.declared.refusal.AttachRefusal.{AttachRefusal}
 use Rattle.tree_core.specs.declared.refusal.AttachRefusal.TheVariants as attach
 use Rattle.tree_core.specs.Refusals.{attach_refusal, attach_answer}
-use Rattle.widget_model.specs.Rows.{Row, with_spot}
+use Rattle.widget_model.specs.Rows.{Row, with_attached}
 use Rattle.widget_model.specs.Widgets.{Widgets, rows_of}
 use Rattle.widget_model.specs.Named.{row_named, is_kind_of}
 use Rattle.widget_model.specs.Trees.{hangs, has_children, can_be_child, child_in, depth_of, height_of, is_above, most_levels}
@@ -134,5 +134,5 @@ place_answer w client parent child options key key' kind kind' upper lower cell 
     (last_refusals-attach (rows_of w) client parent child upper.row lower.row (cell_given options) right one.0 one.1 two.0 two.1 ∙ ap (option_map told_attach) (attach_refusal-is w client parent child options key key' kind kind' upper lower cell answer is answered))
 
 -- where the child was hung it isn't as it was
-pub spot_differs : (row : Row) (parent : List ℕ) (cell : Cell) → hangs row ≡ false → with_spot (Some (parent, cell)) row ≡ row → ⊥
-spot_differs row parent cell free same = true≢false (ap hangs same ∙ free)
+pub attached_differs : (row : Row) (parent : List ℕ) (cell : Cell) → hangs row ≡ false → with_attached (Some (parent, cell)) row ≡ row → ⊥
+attached_differs row parent cell free same = true≢false (ap hangs same ∙ free)

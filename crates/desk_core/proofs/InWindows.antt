@@ -11,7 +11,7 @@ use Rattle.widget_model.specs.Rows.{Row}
 use Rattle.widget_model.specs.Nodes.{id_named}
 use Rattle.widget_model.specs.Named.{row_named, is_kind_of}
 use Rattle.widget_model.specs.Trees.{parent_of, root_in, root_of, most_levels}
-use Rattle.widget_model.specs.Places.{root_id}
+use Rattle.widget_model.specs.Relatives.{root_id}
 use Rattle.widget_model.specs.Widgets.{Widgets, nodes, rows_of, row_at}
 use Rattle.widget_model.specs.Kinds.{is_window_kind}
 use Rattle.desk_model.specs.Desk.{is_window}

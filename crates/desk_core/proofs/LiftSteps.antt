@@ -7,10 +7,10 @@ use Rattle.std.specs.Str.{bytes_eq}
 use Rattle.kind_core.specs.declared.kinds.Kind.{Kind}
 use Rattle.kind_core.specs.declared.shapes.Cell.{Cell}
 use Rattle.cmd_words.specs.declared.replies.Refusal.TheVariants.{NotHere}
-use Rattle.widget_model.specs.Rows.{Row, with_spot}
+use Rattle.widget_model.specs.Rows.{Row, with_attached}
 use Rattle.widget_model.specs.Nodes.{id_named}
 use Rattle.widget_model.specs.Named.{row_named}
-use Rattle.widget_model.specs.Places.{parent_id}
+use Rattle.widget_model.specs.Relatives.{parent_id}
 use Rattle.widget_model.specs.Widgets.{Widgets, nodes, rows_of, row_at}
 use Rattle.widget_model.specs.Forest.{IsWidgets}
 use Rattle.desk_model.specs.Desk.{Desk}
@@ -20,19 +20,19 @@ use Rattle.widget_model.proofs.Naming.{row_named-found, row_named-parts}
 use Rattle.desk_core.specs.Did.{IsFound}
 use Rattle.desk_core.proofs.Dids.{found-parts}
 
-pub step_lift-by : (desk : Desk) (client : ℕ) (parent child : List ℕ) (upper lower : Option Row) → row_named desk.rows client parent ≡ upper → row_named desk.rows client child ≡ lower → step_lift desk client parent child ≡ outcome desk (first_refusal (unless_there upper ∷ unless_there lower ∷ when (not (option_map_or (bytes_eq parent) (option_and_then (λ row. option_map (λ spot. spot.0) row.spot) lower) false)) NotHere ∷ [])) (lift_effect desk client child)
+pub step_lift-by : (desk : Desk) (client : ℕ) (parent child : List ℕ) (upper lower : Option Row) → row_named desk.rows client parent ≡ upper → row_named desk.rows client child ≡ lower → step_lift desk client parent child ≡ outcome desk (first_refusal (unless_there upper ∷ unless_there lower ∷ when (not (option_map_or (bytes_eq parent) (option_and_then (λ row. option_map (λ attached. attached.0) row.attached) lower) false)) NotHere ∷ [])) (lift_effect desk client child)
 unfolding step_lift
 step_lift-by desk client parent child upper lower h k = rw (h, k) refl
 
 abbrev parent_name : Row → Option (List ℕ)
-parent_name row = option_map (λ spot. spot.0) row.spot
+parent_name row = option_map (λ attached. attached.0) row.attached
 
 row_parent : (w : Widgets) (key : ℕ) (row : Row) → row_at w.entries key ≡ Some row → parent_id w key ≡ option_and_then (id_named (nodes w.entries) row.client) (parent_name row)
-row_parent w key row there = rw there (by row.spot)
+row_parent w key row there = rw there (by row.attached)
   where
-    by : (o : Option (List ℕ × Cell)) → option_and_then (λ (spot : List ℕ × Cell). id_named (nodes w.entries) row.client spot.0) o ≡ option_and_then (id_named (nodes w.entries) row.client) (option_map (λ (spot : List ℕ × Cell). spot.0) o)
+    by : (o : Option (List ℕ × Cell)) → option_and_then (λ (attached : List ℕ × Cell). id_named (nodes w.entries) row.client attached.0) o ≡ option_and_then (id_named (nodes w.entries) row.client) (option_map (λ (attached : List ℕ × Cell). attached.0) o)
     by None = refl
-    by (Some spot) = refl
+    by (Some attached) = refl
 
 parent_was : (w : Widgets) (client : ℕ) (parent child : List ℕ) (key key' : ℕ) (kind kind' : Kind) → IsFound w client parent key kind → (lower : IsFound w client child key' kind') → parent_name lower.row ≡ Some parent → parent_id w key' ≡ Some key
 parent_was w client parent child key key' kind kind' upper lower name =
@@ -66,5 +66,5 @@ hangs_elsewhere w client parent child key key' kind kind' upper lower other = by
     by (Some u) p = same u p (bytes_eq parent u) refl
 
 -- what was taken out isn't as it was
-pub lift_differs : (row : Row) (parent : List ℕ) → option_map_or (bytes_eq parent) (parent_name row) false ≡ true → with_spot None row ≡ row → ⊥
+pub lift_differs : (row : Row) (parent : List ℕ) → option_map_or (bytes_eq parent) (parent_name row) false ≡ true → with_attached None row ≡ row → ⊥
 lift_differs row parent here same = true≢false (sym here ∙ ap (λ (r : Row). option_map_or (bytes_eq parent) (parent_name r) false) (sym same))

@@ -11,7 +11,7 @@ use Rattle.std.proofs.lemmas.Slice.Eq.{bytes_eq-Decides}
 use Rattle.kind_core.specs.declared.kinds.Attr.{Attr}
 use Rattle.kind_core.specs.declared.values.Value as value
 use Rattle.kind_core.specs.declared.values.Value.TheVariants.{Number, Words}
-use Rattle.widget_model.specs.Rows.{Row, attr_place, attr_of, with_attr}
+use Rattle.widget_model.specs.Rows.{Row, attr_slot, attr_of, with_attr}
 use Rattle.desk_model.specs.AttrOptions.{with_attrs}
 use Rattle.desk_core.specs.Given.{values_given}
 
@@ -34,30 +34,30 @@ same_but_values (o ∷ os) row = same_but_values os (with_attr o.0 o.1 row)
 
 length-with_attrs : (options : List (Attr × value.Value)) (row : Row) → length (with_attrs options row).values ≡ length row.values
 length-with_attrs [] row = refl
-length-with_attrs (o ∷ os) row = length-with_attrs os (with_attr o.0 o.1 row) ∙ length-set row.values (attr_place o.0) (Some o.1)
+length-with_attrs (o ∷ os) row = length-with_attrs os (with_attr o.0 o.1 row) ∙ length-set row.values (attr_slot o.0) (Some o.1)
 
 is_given : ℕ → Attr × value.Value → Bool
-is_given k o = nat_eq (attr_place o.0) k
+is_given k o = nat_eq (attr_slot o.0) k
 
 -- a value that no option gives stays
 untouched : (options : List (Attr × value.Value)) (row : Row) (k : ℕ) → list_any (is_given k) options ≡ false → get_or (with_attrs options row).values k None ≡ get_or row.values k None
 unfolding is_given
 untouched [] row k h = refl
 untouched (o ∷ os) row k h =
-    let parts = or_parts (nat_eq (attr_place o.0) k) (list_any (is_given k) os) h in
-    let other : k ≡ attr_place o.0 → ⊥ = λ e. eqb-false (attr_place o.0) k parts.0 (sym e) in
-    untouched os (with_attr o.0 o.1 row) k parts.1 ∙ get_or-set_other row.values (attr_place o.0) k (Some o.1) None other
+    let parts = or_parts (nat_eq (attr_slot o.0) k) (list_any (is_given k) os) h in
+    let other : k ≡ attr_slot o.0 → ⊥ = λ e. eqb-false (attr_slot o.0) k parts.0 (sym e) in
+    untouched os (with_attr o.0 o.1 row) k parts.1 ∙ get_or-set_other row.values (attr_slot o.0) k (Some o.1) None other
 
 -- one that is given is among those that were read
 read_same : (options : List (Attr × value.Value)) (one other : Row) (k : ℕ) → values_given one options ≡ values_given other options → list_any (is_given k) options ≡ true → get_or one.values k None ≡ get_or other.values k None
 unfolding is_given
 read_same [] one other k same given = absurd (true≢false (sym given))
-read_same (o ∷ os) one other k same given = by (read_same os one other k) (nat_eq (attr_place o.0) k) refl given same
+read_same (o ∷ os) one other k same given = by (read_same os one other k) (nat_eq (attr_slot o.0) k) refl given same
   where
-    by : (values_given one os ≡ values_given other os → list_any (is_given k) os ≡ true → get_or one.values k None ≡ get_or other.values k None) → (b : Bool) → nat_eq (attr_place o.0) k ≡ b → (b || list_any (is_given k) os) ≡ true → attr_of one o.0 ∷ values_given one os ≡ attr_of other o.0 ∷ values_given other os → get_or one.values k None ≡ get_or other.values k None
+    by : (values_given one os ≡ values_given other os → list_any (is_given k) os ≡ true → get_or one.values k None ≡ get_or other.values k None) → (b : Bool) → nat_eq (attr_slot o.0) k ≡ b → (b || list_any (is_given k) os) ≡ true → attr_of one o.0 ∷ values_given one os ≡ attr_of other o.0 ∷ values_given other os → get_or one.values k None ≡ get_or other.values k None
     by rest true q h e =
         let here : attr_of one o.0 ≡ attr_of other o.0 = cc in
-        let place = eqb-true (attr_place o.0) k q in
+        let place = eqb-true (attr_slot o.0) k q in
         rw (← place) here
     by rest false q h e = let later : values_given one os ≡ values_given other os = cc in rest later h
 

@@ -8,7 +8,7 @@ use Rattle.cmd_words.specs.declared.commands.ConfigOption.{ConfigOption}
 use Rattle.cmd_words.specs.declared.replies.Refusal.{Refusal}
 use Rattle.cmd_words.specs.declared.replies.Refusal.TheVariants.{NotHere}
 use Rattle.kind_core.specs.declared.shapes.Cell.{Cell}
-use Rattle.widget_model.specs.Rows.{Row, with_spot}
+use Rattle.widget_model.specs.Rows.{Row, with_attached}
 use Rattle.widget_model.specs.Named.{row_named, with_named, is_kind_of}
 use Rattle.widget_model.specs.Trees.{hangs, has_children, can_be_child, parent_of, child_in, depth_of, height_of, is_above, most_levels}
 use Rattle.widget_model.specs.Planted.{IsPlanted}
@@ -25,8 +25,8 @@ use Rattle.desk_model.proofs.Refusals.{passed, when-none, unless_there-none, is_
 use Rattle.desk_model.proofs.RulesFit.{fits_rules-with_column, fits_rules-with_line, has_places-with_column, has_places-with_line}
 use Rattle.desk_model.proofs.GivenCells.{takes_cell-given}
 
-Suits-with_spot : (rows : List Row) (client : ℕ) (name : List ℕ) (row : Row) (spot : Option (List ℕ × Cell)) → IsPlanted (with_named client name (with_spot spot) rows) → Suits rows client name row (with_spot spot)
-Suits-with_spot rows client name row spot planted =
+Suits-with_attached : (rows : List Row) (client : ℕ) (name : List ℕ) (row : Row) (attached : Option (List ℕ × Cell)) → IsPlanted (with_named client name (with_attached attached) rows) → Suits rows client name row (with_attached attached)
+Suits-with_attached rows client name row attached planted =
     record {
       leaves = record { client = λ row. refl; name = λ row. refl; kind = λ row. refl };
       planted = planted;
@@ -83,7 +83,7 @@ IsSound-place desk client parent child options sound = IsSound-outcome desk (pla
     done none =
         let place = IsPlace-from desk client parent child options none in
         let planted = IsPlanted-attach desk.rows client parent child (cell_given options) place.upper place.lower sound.rows.names place.can sound.rows.planted in
-        IsSound-with_named desk client child place.lower (with_spot (Some (parent, cell_given options))) sound place.can.lower_there (Suits-with_spot desk.rows client child place.lower (Some (parent, cell_given options)) planted)
+        IsSound-with_named desk client child place.lower (with_attached (Some (parent, cell_given options))) sound place.can.lower_there (Suits-with_attached desk.rows client child place.lower (Some (parent, cell_given options)) planted)
 
 pub IsSound-lift : (desk : Desk) (client : ℕ) (parent child : List ℕ) → IsSound desk → IsSound (step_lift desk client parent child).1
 unfolding step_lift
@@ -95,7 +95,7 @@ IsSound-lift desk client parent child sound = IsSound-outcome desk (lift_refusal
         let one = passed (unless_there (row_named desk.rows client parent)) (unless_there (row_named desk.rows client child) ∷ last ∷ []) none in
         let two = passed (unless_there (row_named desk.rows client child)) (last ∷ []) one.1 in
         let found = unless_there-none (row_named desk.rows client child) two.0 in
-        IsSound-with_named desk client child found.0 (with_spot None) sound found.1 (Suits-with_spot desk.rows client child found.0 None (IsPlanted-detach desk.rows client child sound.rows.planted))
+        IsSound-with_named desk client child found.0 (with_attached None) sound found.1 (Suits-with_attached desk.rows client child found.0 None (IsPlanted-detach desk.rows client child sound.rows.planted))
 
 -- what `columnconfig` and `rowconfig` ask, where they refuse nothing
 record IsRuling (desk : Desk) (client : ℕ) (name : List ℕ) (options : List (ConfigOption × ℤ)) : Type 0 where
@@ -123,7 +123,7 @@ IsSound-column desk client name index options sound = IsSound-outcome desk (conf
         IsSound-with_named desk client name ruling.row change sound ruling.found
         (record {
           leaves = record { client = λ row. refl; name = λ row. refl; kind = λ row. refl };
-          planted = IsPlanted-change desk.rows client name change (record { client = λ row. refl; name = λ row. refl; kind = λ row. refl; spot = λ row. refl }) sound.rows.planted;
+          planted = IsPlanted-change desk.rows client name change (record { client = λ row. refl; name = λ row. refl; kind = λ row. refl; attached = λ row. refl }) sound.rows.planted;
           linked = λ h. h;
           linked_by_kind = λ h. h;
           fitting = λ h. h;
@@ -142,7 +142,7 @@ IsSound-line desk client name index options sound = IsSound-outcome desk (config
         IsSound-with_named desk client name ruling.row change sound ruling.found
         (record {
           leaves = record { client = λ row. refl; name = λ row. refl; kind = λ row. refl };
-          planted = IsPlanted-change desk.rows client name change (record { client = λ row. refl; name = λ row. refl; kind = λ row. refl; spot = λ row. refl }) sound.rows.planted;
+          planted = IsPlanted-change desk.rows client name change (record { client = λ row. refl; name = λ row. refl; kind = λ row. refl; attached = λ row. refl }) sound.rows.planted;
           linked = λ h. h;
           linked_by_kind = λ h. h;
           fitting = λ h. h;

@@ -23,7 +23,7 @@ Suits-with_link : (rows : List Row) (client : ℕ) (name : List ℕ) (row : Row)
 Suits-with_link rows client name row link planted leads suits =
     record {
       leaves = record { client = λ row. refl; name = λ row. refl; kind = λ row. refl };
-      planted = IsPlanted-change rows client name (with_link link) (record { client = λ row. refl; name = λ row. refl; kind = λ row. refl; spot = λ row. refl }) planted;
+      planted = IsPlanted-change rows client name (with_link link) (record { client = λ row. refl; name = λ row. refl; kind = λ row. refl; attached = λ row. refl }) planted;
       linked = λ h. leads;
       linked_by_kind = λ h. suits;
       fitting = λ h. h;
@@ -71,7 +71,7 @@ IsSound-bind desk client name event tag sound = IsSound-outcome desk (bind_refus
         IsSound-with_named desk client name found.0 (with_binding event tag) sound found.1
         (record {
           leaves = record { client = λ row. refl; name = λ row. refl; kind = λ row. refl };
-          planted = IsPlanted-change desk.rows client name (with_binding event tag) (record { client = λ row. refl; name = λ row. refl; kind = λ row. refl; spot = λ row. refl }) sound.rows.planted;
+          planted = IsPlanted-change desk.rows client name (with_binding event tag) (record { client = λ row. refl; name = λ row. refl; kind = λ row. refl; attached = λ row. refl }) sound.rows.planted;
           linked = λ h. h;
           linked_by_kind = λ h. h;
           fitting = λ h. h;

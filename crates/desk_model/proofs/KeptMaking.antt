@@ -57,7 +57,7 @@ Suits-with_attrs : (rows : List Row) (client : ℕ) (name : List ℕ) (options :
 Suits-with_attrs rows client name options row planted none =
     record {
       leaves = record { client = client_is; name = name_is; kind = kind_is };
-      planted = IsPlanted-change rows client name (with_attrs options) (record { client = client_is; name = name_is; kind = kind_is; spot = λ row. same-with_attrs (λ (row : Row). row.spot) (λ attr v row. refl) options row }) planted;
+      planted = IsPlanted-change rows client name (with_attrs options) (record { client = client_is; name = name_is; kind = kind_is; attached = λ row. same-with_attrs (λ (row : Row). row.attached) (λ attr v row. refl) options row }) planted;
       linked = λ h. same-with_attrs (links_right rows) (λ attr v row. refl) options row ∙ h;
       linked_by_kind = λ h. same-with_attrs links_by_kind (λ attr v row. refl) options row ∙ h;
       fitting = fits_table-with_attrs options row none;

@@ -26,7 +26,7 @@ pub record IsNew (clients : List ℕ) (rows : List Row) (row : Row) : Type 0 whe
   pub free : row_named rows row.client row.name ≡ None
   pub few : rows_counted row.client any_kind rows < 128
   pub few_alike : rows_counted row.client (counts_with row.kind) rows < 8
-  pub loose : row.spot ≡ None
+  pub loose : row.attached ≡ None
   pub unlinked : row.link ≡ None
   pub fitting : fits_table row ≡ true
   pub rules : fits_rules row ≡ true

@@ -135,7 +135,7 @@ IsSound-remove desk client name row sound found unused shut =
     others owner other = not (nat_eq client owner && bytes_eq name other)
 
     unlinked : list_any (links_to row.client row.name) desk.rows ≡ false
-    unlinked = (or_parts (list_any (is_child row.client row.name) desk.rows) _ (or_parts (hangs row) _ unused).1).1
+    unlinked = (or_parts (list_any (links_to row.client row.name) desk.rows) _ (or_parts (list_any (is_child row.client row.name) desk.rows) _ (or_parts (hangs row) _ unused).1).1).0
 
     links : (i : ℕ) (other : Row) (target : List ℕ) → slice_get desk.rows i ≡ Some other → others other.client other.name ≡ true → other.link ≡ Some target → others other.client target ≡ true
     links i other target there stays is =

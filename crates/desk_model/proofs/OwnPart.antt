@@ -18,11 +18,9 @@ use Rattle.cmd_words.specs.declared.replies.Reply.{Reply}
 use Rattle.cmd_words.specs.declared.replies.Reply.TheVariants.{Done}
 use Rattle.cmd_words.specs.declared.replies.Refusal.{Refusal}
 use Rattle.cmd_words.specs.declared.replies.Refusal.TheVariants.{Memory, NotConnected, Connected}
-use Rattle.widget_model.specs.Rows.{Row, new_row, with_spot, with_link, with_binding}
+use Rattle.widget_model.specs.Rows.{Row, new_row, with_attached, with_link, with_binding}
 use Rattle.widget_model.specs.Named.{rows_of_others, with_named, without_named}
-use Rattle.scene_model.specs.declared.pointer.Pointer.{Pointer}
-use Rattle.scene_model.specs.declared.pointer.Grab.{Grab}
-use Rattle.scene_model.specs.declared.pointer.Grab.TheVariants.{Nothing, Widget, Drag}
+use Rattle.scene_model.specs.Pointer.{Pointer, Grab, no_grab, on_widget, drags}
 use Rattle.desk_model.specs.Desk.{Desk, Admission, Ring, is_connected, is_open}
 use Rattle.desk_model.specs.Refusing.{when, first_refusal, outcome}
 use Rattle.desk_model.specs.AttrOptions.{with_attrs}
@@ -102,13 +100,13 @@ LeavesApart-place : (desk : Desk) (client : ℕ) (parent child : List ℕ) (opti
 unfolding step_place
 LeavesApart-place desk client parent child options =
     LeavesApart-outcome client desk (place_refusals desk client parent child options) (place_effect desk client parent child options)
-    (LeavesApart-with_named client child (with_spot (Some (parent, cell_given options))) desk (λ row. refl))
+    (LeavesApart-with_named client child (with_attached (Some (parent, cell_given options))) desk (λ row. refl))
 
 LeavesApart-lift : (desk : Desk) (client : ℕ) (parent child : List ℕ) → LeavesApart client desk (step_lift desk client parent child).1
 unfolding step_lift
 LeavesApart-lift desk client parent child =
     LeavesApart-outcome client desk (lift_refusal desk client parent child) (lift_effect desk client child)
-    (LeavesApart-with_named client child (with_spot None) desk (λ row. refl))
+    (LeavesApart-with_named client child (with_attached None) desk (λ row. refl))
 
 LeavesApart-column : (desk : Desk) (client : ℕ) (name : List ℕ) (index : ℤ) (options : List (ConfigOption × ℤ)) → LeavesApart client desk (step_column desk client name index options).1
 unfolding step_column
@@ -196,7 +194,7 @@ LeavesApart-without_client client desk = record {
 }
 
 -- another client's widget is in a window as it was
-is_in_window-others : (client other : ℕ) (name : List ℕ) (old new : Desk) → nat_eq client other ≡ false → LeavesApart client old new → is_in_window new other name ≡ is_in_window old other name
+is_in_window-others : (client other : ℕ) (name : List ℕ) (old new : Desk) → nat_eq client other ≡ false → LeavesApart client old new → is_in_window new (other, name) ≡ is_in_window old (other, name)
 is_in_window-others client other name old new differ leaves =
     let others : (x : ℕ) → nat_eq other x ≡ true → not (nat_eq client x) ≡ true = λ x e. rw (← eqb-true other x e, differ) refl in
     let rows : own_rows other new.rows ≡ own_rows other old.rows =
@@ -211,26 +209,26 @@ is_in_window-others client other name old new differ leaves =
     ∙ list_any-agree (λ (window : ℕ × List ℕ). nat_eq other window.0) (λ (window : ℕ × List ℕ). bytes_eq (root_of old.rows other name) window.1) new.windows old.windows windows
 
 -- a grab and a focus stay, or were on the client's own widgets
-grab-left : (client : ℕ) (old new : Desk) (grab : Grab) → LeavesApart client old new → grab_left (is_in_window old) grab ≡ grab → (grab_left (is_in_window new) grab ≡ grab) ⊎ (IsGrabOf client grab × (grab_left (is_in_window new) grab ≡ Nothing))
-grab-left client old new Nothing leaves held = inl refl
-grab-left client old new (Widget owner name) leaves held = by (nat_eq client owner) refl (is_in_window new owner name) refl
+grab-left : (client : ℕ) (old new : Desk) (grab : Grab) → LeavesApart client old new → grab_left (is_in_window old) grab ≡ grab → (grab_left (is_in_window new) grab ≡ grab) ⊎ (IsGrabOf client grab × (grab_left (is_in_window new) grab ≡ no_grab))
+grab-left client old new no_grab leaves held = inl refl
+grab-left client old new (on_widget key) leaves held = by (nat_eq client key.0) refl (is_in_window new key) refl
   where
-    by : (own : Bool) → nat_eq client owner ≡ own → (stays : Bool) → is_in_window new owner name ≡ stays → (cond stays (Widget owner name) Nothing ≡ Widget owner name) ⊎ ((owner ≡ client) × (cond stays (Widget owner name) Nothing ≡ Nothing))
+    by : (own : Bool) → nat_eq client key.0 ≡ own → (stays : Bool) → is_in_window new key ≡ stays → (cond stays (on_widget key) no_grab ≡ on_widget key) ⊎ ((key.0 ≡ client) × (cond stays (on_widget key) no_grab ≡ no_grab))
     by own mine true e = inl refl
-    by true mine false e = inr (sym (eqb-true client owner mine), refl)
-    by false mine false e = inl (ap (λ stays. cond stays (Widget owner name) Nothing) (sym e ∙ is_in_window-others client owner name old new mine leaves) ∙ held)
-grab-left client old new (Drag owner name dx dy) leaves held = by (nat_eq client owner) refl (is_in_window new owner name) refl
+    by true mine false e = inr (sym (eqb-true client key.0 mine), refl)
+    by false mine false e = inl (ap (λ stays. cond stays (on_widget key) no_grab) (sym e ∙ is_in_window-others client key.0 key.1 old new mine leaves) ∙ held)
+grab-left client old new (drags window dx dy) leaves held = by (nat_eq client window.0) refl (is_in_window new window) refl
   where
-    by : (own : Bool) → nat_eq client owner ≡ own → (stays : Bool) → is_in_window new owner name ≡ stays → (cond stays (Drag owner name dx dy) Nothing ≡ Drag owner name dx dy) ⊎ ((owner ≡ client) × (cond stays (Drag owner name dx dy) Nothing ≡ Nothing))
+    by : (own : Bool) → nat_eq client window.0 ≡ own → (stays : Bool) → is_in_window new window ≡ stays → (cond stays (drags window dx dy) no_grab ≡ drags window dx dy) ⊎ ((window.0 ≡ client) × (cond stays (drags window dx dy) no_grab ≡ no_grab))
     by own mine true e = inl refl
-    by true mine false e = inr (sym (eqb-true client owner mine), refl)
-    by false mine false e = inl (ap (λ stays. cond stays (Drag owner name dx dy) Nothing) (sym e ∙ is_in_window-others client owner name old new mine leaves) ∙ held)
+    by true mine false e = inr (sym (eqb-true client window.0 mine), refl)
+    by false mine false e = inl (ap (λ stays. cond stays (drags window dx dy) no_grab) (sym e ∙ is_in_window-others client window.0 window.1 old new mine leaves) ∙ held)
 
 focus-left : (client : ℕ) (old new : Desk) (focus : Option (ℕ × List ℕ)) → LeavesApart client old new → focus_left (is_in_window old) focus ≡ focus → (focus_left (is_in_window new) focus ≡ focus) ⊎ (IsFocusOf client focus × (focus_left (is_in_window new) focus ≡ None))
 focus-left client old new None leaves held = inl refl
-focus-left client old new (Some widget) leaves held = by (nat_eq client widget.0) refl (is_in_window new widget.0 widget.1) refl
+focus-left client old new (Some widget) leaves held = by (nat_eq client widget.0) refl (is_in_window new widget) refl
   where
-    by : (own : Bool) → nat_eq client widget.0 ≡ own → (stays : Bool) → is_in_window new widget.0 widget.1 ≡ stays → (cond stays (Some widget) None ≡ Some widget) ⊎ ((widget.0 ≡ client) × (cond stays (Some widget) None ≡ None))
+    by : (own : Bool) → nat_eq client widget.0 ≡ own → (stays : Bool) → is_in_window new widget ≡ stays → (cond stays (Some widget) None ≡ Some widget) ⊎ ((widget.0 ≡ client) × (cond stays (Some widget) None ≡ None))
     by own mine true e = inl refl
     by true mine false e = inr (sym (eqb-true client widget.0 mine), refl)
     by false mine false e = inl (ap (λ stays. cond stays (Some widget) None) (sym e ∙ is_in_window-others client widget.0 widget.1 old new mine leaves) ∙ held)

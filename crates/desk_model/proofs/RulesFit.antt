@@ -6,7 +6,7 @@ use Rattle.std.specs.List.{list_all}
 use Rattle.kind_core.specs.declared.kinds.EventKind.{EventKind}
 use Rattle.cmd_words.specs.declared.commands.ConfigOption.{ConfigOption}
 use Rattle.cmd_words.specs.declared.commands.ConfigOption.TheVariants.{Size, Weight}
-use Rattle.widget_model.specs.Rows.{Row, column_rule_of, row_rule_of, event_place, with_binding}
+use Rattle.widget_model.specs.Rows.{Row, column_rule_of, row_rule_of, event_slot, with_binding}
 use Rattle.widget_model.specs.Fitting.{fits_rule, fits_rules}
 use Rattle.desk_model.specs.ConfigOptions.{config_refusal, configs_refusal, with_config, with_configs}
 use Rattle.desk_model.specs.Hanging.{with_column, with_line}
@@ -60,4 +60,4 @@ has_places-with_line options index row =
 
 pub has_places-with_binding : (event : EventKind) (tag : Option (List ℕ)) (row : Row) → has_places (with_binding event tag row) ≡ has_places row
 has_places-with_binding event tag row =
-    ap (λ (n : ℕ). nat_eq (length row.column_rules) 16 && (nat_eq (length row.row_rules) 16 && nat_eq n 7)) (length-set row.bindings (event_place event) tag)
+    ap (λ (n : ℕ). nat_eq (length row.column_rules) 16 && (nat_eq (length row.row_rules) 16 && nat_eq n 7)) (length-set row.bindings (event_slot event) tag)

@@ -5,8 +5,7 @@ use Rattle.std.specs.List.{list_all}
 use Rattle.kind_core.specs.declared.kinds.Kind.{Kind}
 use Rattle.cmd_words.specs.declared.replies.Reply.{Reply}
 use Rattle.cmd_words.specs.declared.replies.Refusal.{Refusal}
-use Rattle.scene_model.specs.declared.pointer.Grab.{Grab}
-use Rattle.scene_model.specs.declared.pointer.Grab.TheVariants.{Nothing, Widget, Drag}
+use Rattle.scene_model.specs.Pointer.{Grab, no_grab, on_widget, drags}
 use Rattle.scene_model.specs.Shapes.{IsShape}
 use Rattle.widget_model.specs.Rows.{Row}
 use Rattle.widget_model.specs.Nodes.{any_kind, counts_with}
@@ -94,24 +93,24 @@ IsDesk-sound desk sound held =
     }
 
 -- What stays of a grab or a focus stays of it again.
-grab_left-again : (stays : ℕ → List ℕ → Bool) (grab : Grab) → grab_left stays (grab_left stays grab) ≡ grab_left stays grab
-grab_left-again stays Nothing = refl
-grab_left-again stays (Widget client name) = by (stays client name) refl
+grab_left-again : (stays : ℕ × List ℕ → Bool) (grab : Grab) → grab_left stays (grab_left stays grab) ≡ grab_left stays grab
+grab_left-again stays no_grab = refl
+grab_left-again stays (on_widget key) = by (stays key) refl
   where
-    by : (b : Bool) → stays client name ≡ b → grab_left stays (cond b (Widget client name) Nothing) ≡ cond b (Widget client name) Nothing
+    by : (b : Bool) → stays key ≡ b → grab_left stays (cond b (on_widget key) no_grab) ≡ cond b (on_widget key) no_grab
     by true here = rw here refl
     by false here = refl
-grab_left-again stays (Drag client name dx dy) = by (stays client name) refl
+grab_left-again stays (drags window dx dy) = by (stays window) refl
   where
-    by : (b : Bool) → stays client name ≡ b → grab_left stays (cond b (Drag client name dx dy) Nothing) ≡ cond b (Drag client name dx dy) Nothing
+    by : (b : Bool) → stays window ≡ b → grab_left stays (cond b (drags window dx dy) no_grab) ≡ cond b (drags window dx dy) no_grab
     by true here = rw here refl
     by false here = refl
 
-focus_left-again : (stays : ℕ → List ℕ → Bool) (focus : Option (ℕ × List ℕ)) → focus_left stays (focus_left stays focus) ≡ focus_left stays focus
+focus_left-again : (stays : ℕ × List ℕ → Bool) (focus : Option (ℕ × List ℕ)) → focus_left stays (focus_left stays focus) ≡ focus_left stays focus
 focus_left-again stays None = refl
-focus_left-again stays (Some widget) = by (stays widget.0 widget.1) refl
+focus_left-again stays (Some widget) = by (stays widget) refl
   where
-    by : (b : Bool) → stays widget.0 widget.1 ≡ b → focus_left stays (cond b (Some widget) None) ≡ cond b (Some widget) None
+    by : (b : Bool) → stays widget ≡ b → focus_left stays (cond b (Some widget) None) ≡ cond b (Some widget) None
     by true here = rw here refl
     by false here = refl
 

@@ -12,7 +12,7 @@ use Rattle.kind_core.specs.declared.values.Value as value
 use Rattle.kind_core.specs.declared.values.AttrRefusal.{AttrRefusal}
 use Rattle.kind_core.specs.declared.values.AttrRefusal.TheVariants.{NotOfKind, OutOfRange}
 use Rattle.kind_core.specs.Attributes.{domain_of, judged}
-use Rattle.widget_model.specs.Rows.{Row, all_attrs, attr_of, attr_place, with_attr, new_row, first_values, default_at}
+use Rattle.widget_model.specs.Rows.{Row, all_attrs, attr_of, attr_slot, with_attr, new_row, first_values, default_at}
 use Rattle.widget_model.specs.Fitting.{fits_attr, fits_table}
 use Rattle.desk_model.specs.AttrOptions.{told, attr_refusal, attrs_refusal, with_attrs}
 use Rattle.widget_model.proofs.Hanging.{all_at, all_from}
@@ -37,7 +37,7 @@ attr_at n =
     cond (nat_eq n 0) X (cond (nat_eq n 1) Y (cond (nat_eq n 2) W (cond (nat_eq n 3) H (cond (nat_eq n 4) Title (cond (nat_eq n 5) Text (cond (nat_eq n 6) Caret
     (cond (nat_eq n 7) Cols (cond (nat_eq n 8) Value (cond (nat_eq n 9) Max (cond (nat_eq n 10) Real (cond (nat_eq n 11) View Vert)))))))))))
 
-attr_at-place : (attr : Attr) → attr_at (attr_place attr) ≡ attr
+attr_at-place : (attr : Attr) → attr_at (attr_slot attr) ≡ attr
 unfolding attr_at
 attr_at-place X = refl
 attr_at-place Y = refl
@@ -53,27 +53,27 @@ attr_at-place Real = refl
 attr_at-place View = refl
 attr_at-place Vert = refl
 
-attr_place-within : (attr : Attr) → attr_place attr < 13
-attr_place-within X = omega arith
-attr_place-within Y = omega arith
-attr_place-within W = omega arith
-attr_place-within H = omega arith
-attr_place-within Title = omega arith
-attr_place-within Text = omega arith
-attr_place-within Caret = omega arith
-attr_place-within Cols = omega arith
-attr_place-within Value = omega arith
-attr_place-within Max = omega arith
-attr_place-within Real = omega arith
-attr_place-within View = omega arith
-attr_place-within Vert = omega arith
+attr_slot-within : (attr : Attr) → attr_slot attr < 13
+attr_slot-within X = omega arith
+attr_slot-within Y = omega arith
+attr_slot-within W = omega arith
+attr_slot-within H = omega arith
+attr_slot-within Title = omega arith
+attr_slot-within Text = omega arith
+attr_slot-within Caret = omega arith
+attr_slot-within Cols = omega arith
+attr_slot-within Value = omega arith
+attr_slot-within Max = omega arith
+attr_slot-within Real = omega arith
+attr_slot-within View = omega arith
+attr_slot-within Vert = omega arith
 
 -- a value that the table takes
 pub fits_table-with_attr : (row : Row) (attr : Attr) (v : value.Value) → judged (domain_of row.kind attr) v ≡ Ok tt → fits_table row ≡ true → fits_table (with_attr attr v row) ≡ true
 fits_table-with_attr row attr v taken h =
-    and_from (nat_eq (length (set row.values (attr_place attr) (Some v))) 13) (list_all after all_attrs)
-    (eq-eqb (length (set row.values (attr_place attr) (Some v))) 13 (length-set row.values (attr_place attr) (Some v) ∙ len))
-    (all_from after all_attrs (λ i other there. by other (all_at before all_attrs i other parts.1 there) (cases_eq (attr_place other) (attr_place attr))))
+    and_from (nat_eq (length (set row.values (attr_slot attr) (Some v))) 13) (list_all after all_attrs)
+    (eq-eqb (length (set row.values (attr_slot attr) (Some v))) 13 (length-set row.values (attr_slot attr) (Some v) ∙ len))
+    (all_from after all_attrs (λ i other there. by other (all_at before all_attrs i other parts.1 there) (cases_eq (attr_slot other) (attr_slot attr))))
   where
     before : Attr → Bool
     before other = fits_attr row.kind other (attr_of row other)
@@ -87,13 +87,13 @@ fits_table-with_attr row attr v taken h =
     len : length row.values ≡ 13
     len = eqb-true (length row.values) 13 parts.0
 
-    by : (other : Attr) → before other ≡ true → (attr_place other ≡ attr_place attr) ⊎ (attr_place other ≡ attr_place attr → ⊥) → after other ≡ true
+    by : (other : Attr) → before other ≡ true → (attr_slot other ≡ attr_slot attr) ⊎ (attr_slot other ≡ attr_slot attr → ⊥) → after other ≡ true
     by other k (inl same) =
         let one : other ≡ attr = sym (attr_at-place other) ∙ ap attr_at same ∙ attr_at-place attr in
-        let within : attr_place attr < length row.values = omega (arith, attr_place-within attr, len) in
-        let here : attr_of (with_attr attr v row) other ≡ Some v = ap (λ (n : ℕ). get_or (set row.values (attr_place attr) (Some v)) n None) same ∙ get_or-set_same row.values (attr_place attr) (Some v) None within in
+        let within : attr_slot attr < length row.values = omega (arith, attr_slot-within attr, len) in
+        let here : attr_of (with_attr attr v row) other ≡ Some v = ap (λ (n : ℕ). get_or (set row.values (attr_slot attr) (Some v)) n None) same ∙ get_or-set_same row.values (attr_slot attr) (Some v) None within in
         ap (fits_attr row.kind other) here ∙ ap (λ (a : Attr). fits_attr row.kind a (Some v)) one ∙ ap is_ok taken
-    by other k (inr apart) = ap (fits_attr row.kind other) (get_or-set_other row.values (attr_place attr) (attr_place other) (Some v) None apart) ∙ k
+    by other k (inr apart) = ap (fits_attr row.kind other) (get_or-set_other row.values (attr_slot attr) (attr_slot other) (Some v) None apart) ∙ k
 
 -- An option that isn't refused is one that the table takes.
 told-none : (answer : Result (Unit {0}) AttrRefusal) → told answer ≡ None → answer ≡ Ok tt

@@ -10,7 +10,7 @@ use Rattle.cmd_words.specs.declared.replies.Reply.{Reply}
 use Rattle.cmd_words.specs.declared.replies.Reply.TheVariants.{Done}
 use Rattle.cmd_words.specs.declared.replies.Refusal.{Refusal}
 use Rattle.cmd_words.specs.declared.replies.Refusal.TheVariants.{WrongKind, HasParent, Cycle, TooDeep, CellTaken, NotHere}
-use Rattle.widget_model.specs.Rows.{Row, with_spot, column_rule_of, row_rule_of, with_column_rule, with_row_rule}
+use Rattle.widget_model.specs.Rows.{Row, with_attached, column_rule_of, row_rule_of, with_column_rule, with_row_rule}
 use Rattle.widget_model.specs.Named.{row_named, with_named, is_kind_of}
 use Rattle.widget_model.specs.Trees.{hangs, has_children, can_be_child, parent_of, child_in, depth_of, height_of, is_above, most_levels}
 use Rattle.desk_model.specs.Desk.{Desk}
@@ -37,7 +37,7 @@ place_refusals desk client parent child options =
 
 abbrev pub place_effect : Desk → ℕ → List ℕ → List ℕ → List (PlaceOption × ℤ) → Reply × Desk
 place_effect desk client parent child options =
-    (Done, record desk { rows = with_named client child (with_spot (Some (parent, cell_given options))) desk.rows })
+    (Done, record desk { rows = with_named client child (with_attached (Some (parent, cell_given options))) desk.rows })
 
 unfoldable pub step_place : Desk → ℕ → List ℕ → List ℕ → List (PlaceOption × ℤ) → Reply × Desk
 step_place desk client parent child options = outcome desk (place_refusals desk client parent child options) (place_effect desk client parent child options)
@@ -52,7 +52,7 @@ lift_refusal desk client parent child =
     ∷ [])
 
 abbrev pub lift_effect : Desk → ℕ → List ℕ → Reply × Desk
-lift_effect desk client child = (Done, record desk { rows = with_named client child (with_spot None) desk.rows })
+lift_effect desk client child = (Done, record desk { rows = with_named client child (with_attached None) desk.rows })
 
 unfoldable pub step_lift : Desk → ℕ → List ℕ → List ℕ → Reply × Desk
 step_lift desk client parent child = outcome desk (lift_refusal desk client parent child) (lift_effect desk client child)

@@ -4,9 +4,7 @@ use Rattle.std.specs.Option.{option_map}
 use Rattle.std.specs.List.{filter}
 use Rattle.cmd_words.specs.declared.commands.Command.{Command}
 use Rattle.cmd_words.specs.declared.replies.Reply.{Reply}
-use Rattle.scene_model.specs.declared.pointer.Pointer.{Pointer}
-use Rattle.scene_model.specs.declared.pointer.Grab.{Grab}
-use Rattle.scene_model.specs.declared.pointer.Grab.TheVariants.{Nothing, Widget, Drag}
+use Rattle.scene_model.specs.Pointer.{Pointer, Grab, no_grab, on_widget, drags}
 use Rattle.widget_model.specs.Rows.{Row}
 use Rattle.widget_model.specs.Named.{own_rows, rows_of_others}
 use Rattle.desk_model.specs.Desk.{Desk, is_connected}
@@ -23,9 +21,9 @@ windows_of_others client windows = filter (λ window. not (nat_eq client window.
 
 -- whether the grab, or the focus, is on a widget of the client
 abbrev pub IsGrabOf : ℕ → Grab → Type 0
-IsGrabOf client Nothing = ⊥
-IsGrabOf client (Widget owner name) = owner ≡ client
-IsGrabOf client (Drag owner name dx dy) = owner ≡ client
+IsGrabOf client no_grab = ⊥
+IsGrabOf client (on_widget key) = key.0 ≡ client
+IsGrabOf client (drags window dx dy) = window.0 ≡ client
 
 abbrev pub IsFocusOf : ℕ → Option (ℕ × List ℕ) → Type 0
 IsFocusOf client None = ⊥
@@ -37,7 +35,7 @@ pub record LeavesPointer (client : ℕ) (old new : Pointer) : Type 0 where
   pub x : new.x ≡ old.x
   pub y : new.y ≡ old.y
   pub down : new.down ≡ old.down
-  pub grab : (new.grab ≡ old.grab) ⊎ (IsGrabOf client old.grab × (new.grab ≡ Nothing))
+  pub grab : (new.grab ≡ old.grab) ⊎ (IsGrabOf client old.grab × (new.grab ≡ no_grab))
   pub focus : (new.focus ≡ old.focus) ⊎ (IsFocusOf client old.focus × (new.focus ≡ None))
 
 -- What is not the client's is as it was: who else is connected, the others' rows, the order of their windows, their

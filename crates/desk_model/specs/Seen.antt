@@ -8,7 +8,7 @@ use Rattle.scene_model.specs.Picture.{scene_colour, scene_picture}
 use Rattle.desk_model.specs.Desk.{Desk}
 
 abbrev pub scene_of : Desk → Scene
-scene_of desk = record { shape = desk.shape; rows = desk.rows; windows = desk.windows; pointer = desk.pointer }
+scene_of desk = record { width = desk.shape.width; height = desk.shape.height; rows = desk.rows; windows = desk.windows; pointer = desk.pointer }
 
 -- the places of the open windows, from top to bottom
 unfoldable pub open_windows : Desk → List Window

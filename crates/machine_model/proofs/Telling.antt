@@ -8,6 +8,7 @@ use Rattle.kind_core.specs.declared.kinds.Kind.TheVariants.{Window, Grid, Frame,
 use Rattle.kind_core.specs.declared.values.Value as value
 use Rattle.kind_core.specs.declared.values.Value.TheVariants.{Number, Words}
 use Rattle.kind_core.specs.declared.shapes.Cell.{Cell}
+use Rattle.vscreen_core.specs.FilmState.{FilmState}
 use Rattle.widget_model.specs.Rows.{Row}
 use Rattle.desk_model.specs.Desk.{Desk}
 use Rattle.machine_model.specs.Reach.{IsTouched}
@@ -102,11 +103,18 @@ coded_cell =
 coded_rules : Coded (List (ℕ × ℕ))
 coded_rules = coded_list (coded× coded_ℕ coded_ℕ)
 
+coded_film : Coded FilmState
+coded_film =
+    code_by ((ℕ × ℕ) × ((List ℕ × (List ℕ × List ℕ)) × (ℕ × ℕ))) (coded× (coded× coded_ℕ coded_ℕ) (coded× (coded× coded_name (coded× coded_name coded_name)) (coded× coded_ℕ coded_ℕ)))
+    (λ f. ((f.width, f.height), ((f.newest, (f.current, f.shown)), (f.period, f.phase))))
+    (λ p. record { width = p.0.0; height = p.0.1; newest = p.1.0.0; current = p.1.0.1.0; shown = p.1.0.1.1; period = p.1.1.0; phase = p.1.1.1 })
+    (λ f. refl)
+
 -- a row as pairs of its fields
 abbrev Fields : Type 0
 Fields =
     (ℕ × (List ℕ × Kind))
-    × ((List (Option value.Value) × Option (List ℕ × Cell)) × ((List (ℕ × ℕ) × List (ℕ × ℕ)) × (Option (List ℕ) × List (Option (List ℕ)))))
+    × ((List (Option value.Value) × Option (List ℕ × Cell)) × ((List (ℕ × ℕ) × List (ℕ × ℕ)) × (Option (List ℕ) × (List (Option (List ℕ)) × Option FilmState))))
 
 coded_fields : Coded Fields
 coded_fields =
@@ -114,23 +122,24 @@ coded_fields =
     (coded× coded_ℕ (coded× coded_name coded_kind))
     (coded×
     (coded× (coded_list (coded_option coded_value)) (coded_option (coded× coded_name coded_cell)))
-    (coded× (coded× coded_rules coded_rules) (coded× (coded_option coded_name) (coded_list (coded_option coded_name)))))
+    (coded× (coded× coded_rules coded_rules) (coded× (coded_option coded_name) (coded× (coded_list (coded_option coded_name)) (coded_option coded_film)))))
 
 coded_row : Coded Row
 coded_row =
     code_by Fields coded_fields
-    (λ r. ((r.client, (r.name, r.kind)), ((r.values, r.spot), ((r.column_rules, r.row_rules), (r.link, r.bindings)))))
+    (λ r. ((r.client, (r.name, r.kind)), ((r.values, r.attached), ((r.column_rules, r.row_rules), (r.link, (r.bindings, r.film))))))
     (λ p.
     record {
       client = p.0.0;
       name = p.0.1.0;
       kind = p.0.1.1;
       values = p.1.0.0;
-      spot = p.1.0.1;
+      attached = p.1.0.1;
       column_rules = p.1.1.0.0;
       row_rules = p.1.1.0.1;
       link = p.1.1.1.0;
-      bindings = p.1.1.1.1;
+      bindings = p.1.1.1.1.0;
+      film = p.1.1.1.1.1;
     })
     (λ r. refl)
 

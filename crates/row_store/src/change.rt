@@ -14,5 +14,5 @@ pub enum Change {
     /// The event is bound to that tag, or to none.
     Binding { event: EventKind, tag: Option<Name> },
     /// It hangs in the widget of that name, in that cell, or in none.
-    Spot { spot: Option<(Name, Cell)> },
+    Attached { attached: Option<(Name, Cell)> },
 }

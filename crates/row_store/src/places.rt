@@ -1,11 +1,11 @@
 ghost use Rattle.std.specs.Prelude.{◌≡◌, ◌<◌};
-ghost use Rattle.widget_model.specs.Rows.{attr_place, event_place};
+ghost use Rattle.widget_model.specs.Rows.{attr_slot, event_slot};
 
 use kind_core::{Attr, EventKind};
 
 /// The place of an attribute among a row's values, from 0.
-pub fn attr_place(attr: Attr) -> usize
-    ensures place { result ≡ attr_place attr }
+pub fn attr_slot(attr: Attr) -> usize
+    ensures place { result ≡ attr_slot attr }
     ensures within { result < 13 }
 {
     match attr {
@@ -26,8 +26,8 @@ pub fn attr_place(attr: Attr) -> usize
 }
 
 /// The place of a kind of event among a row's bindings, from 0.
-pub fn event_place(event: EventKind) -> usize
-    ensures place { result ≡ event_place event }
+pub fn event_slot(event: EventKind) -> usize
+    ensures place { result ≡ event_slot event }
     ensures within { result < 7 }
 {
     match event {

@@ -3,7 +3,7 @@ ghost use Rattle.widget_model.specs.Rows.{new_row, first_values, default_at, att
 ghost use Rattle.row_store.specs.Changes.{changed_by, CanBeMade};
 
 use crate::change::Change;
-use crate::places::{attr_place, event_place};
+use crate::places::{attr_slot, event_slot};
 use kind_core::{Attr, Cell, EventKind, Kind, Name, Value, default_of};
 use std::marker::Model;
 
@@ -15,7 +15,7 @@ pub struct Row {
     name: Name,
     kind: Kind,
     values: [Option<Value>; 13],
-    spot: Option<(Name, Cell)>,
+    attached: Option<(Name, Cell)>,
     column_rules: [(u32, u32); 16],
     row_rules: [(u32, u32); 16],
     link: Option<Name>,
@@ -27,7 +27,7 @@ impl Model for Row {
 
     ghost Value = { Seen };
 
-    ghost view = { λ r. record { client = r.client; name = r.name; kind = r.kind; values = r.values; spot = r.spot; column_rules = r.column_rules; row_rules = r.row_rules; link = r.link; bindings = r.bindings } };
+    ghost view = { λ r. record { client = r.client; name = r.name; kind = r.kind; values = r.values; attached = r.attached; column_rules = r.column_rules; row_rules = r.row_rules; link = r.link; bindings = r.bindings } };
 }
 
 /// The default of the kind's attribute.
@@ -72,7 +72,7 @@ impl Row {
             name,
             kind,
             values: first_values(kind),
-            spot: None,
+            attached: None,
             column_rules: [(0, 0); 16],
             row_rules: [(0, 0); 16],
             link: None,
@@ -105,14 +105,14 @@ impl Row {
     pub fn attr(&self, attr: Attr) -> Option<Value>
         ensures { result ≡ attr_of self.now attr }
     {
-        self.values[attr_place(attr)]
+        self.values[attr_slot(attr)]
     }
 
     /// The name of the widget in which it hangs, and the cell there; None exactly where it hangs in none.
-    pub fn spot(&self) -> Option<(Name, Cell)>
-        ensures { result ≡ self.now.spot }
+    pub fn attached(&self) -> Option<(Name, Cell)>
+        ensures { result ≡ self.now.attached }
     {
-        self.spot
+        self.attached
     }
 
     /// The size in pixels and the weight of the column, 1 to 16; (0, 0) where none was given.
@@ -142,7 +142,7 @@ impl Row {
     pub fn binding(&self, event: EventKind) -> Option<Name>
         ensures { result ≡ binding_of self.now event }
     {
-        self.bindings[event_place(event)]
+        self.bindings[event_slot(event)]
     }
 
     /// Makes the change, and changes nothing else of the row. A rule's column or row is 1 to 16.
@@ -151,12 +151,12 @@ impl Row {
         ensures { self.new ≡ changed_by change self.old }
     {
         match change {
-            Change::Attribute { attr, value } => self.values[attr_place(attr)] = Some(value),
+            Change::Attribute { attr, value } => self.values[attr_slot(attr)] = Some(value),
             Change::ColumnRule { index, rule } => self.column_rules[index as usize - 1] = rule,
             Change::RowRule { index, rule } => self.row_rules[index as usize - 1] = rule,
             Change::Link { variable } => self.link = variable,
-            Change::Binding { event, tag } => self.bindings[event_place(event)] = tag,
-            Change::Spot { spot } => self.spot = spot,
+            Change::Binding { event, tag } => self.bindings[event_slot(event)] = tag,
+            Change::Attached { attached } => self.attached = attached,
         }
     }
 }

@@ -1,5 +1,14 @@
 pub mod Shapes
-pub mod Windows
+pub mod Pointer
 pub mod Scene
+pub mod Spans
+pub mod Values
+pub mod Tracks
+pub mod Least
+pub mod Placing
+pub mod Showing
+pub mod LookOf
+pub mod Colours
+pub mod Windows
 pub mod OpenWindows
 pub mod Picture

@@ -1,9 +1,8 @@
 -- The colour of each pixel of a scene, and its picture: the scene drawn afresh. Colours are palette numbers:
 -- 2 the desk, 3 a window's ground, 4 lines, 5 a title's ground.
-use Rattle.std.specs.Prelude.{ℕ, ◌-◌, ◌/◌, ◌%◌, Bool, ◌||◌, ◌==◌, nat_lt, if◌then◌else◌, Option, Some, None, List, map}
+use Rattle.std.specs.Prelude.{ℕ, ◌-◌, ◌*◌, ◌/◌, ◌%◌, Bool, ◌||◌, ◌==◌, nat_lt, if◌then◌else◌, Option, Some, None, List, map}
 use Rattle.std.specs.List.{range_with_len}
 use Rattle.scene_model.specs.declared.window.Window.{Window}
-use Rattle.scene_model.specs.Shapes.{area}
 use Rattle.scene_model.specs.Scene.{Scene}
 use Rattle.scene_model.specs.Windows.{top_at, local}
 use Rattle.scene_model.specs.OpenWindows.{window_places}
@@ -30,8 +29,8 @@ scene_colour scene x y = colour_through (top_at (window_places scene) x y) x y
 
 -- The colour of the k-th byte of the screen, which is the pixel (k mod width, k / width).
 abbrev pub colour_of_byte : Scene → ℕ → ℕ
-colour_of_byte scene k = scene_colour scene (k % scene.shape.width) (k / scene.shape.width)
+colour_of_byte scene k = scene_colour scene (k % scene.width) (k / scene.width)
 
 -- the whole scene drawn afresh, row after row from the top
 unfoldable pub scene_picture : Scene → List ℕ
-scene_picture scene = map (colour_of_byte scene) (range_with_len 0 (area scene.shape))
+scene_picture scene = map (colour_of_byte scene) (range_with_len 0 (scene.width * scene.height))

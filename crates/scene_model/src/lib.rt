@@ -2,9 +2,9 @@
 //! in their contracts; the only code is plain data. docs/MACHINE.md reads them in prose.
 #![tactic(auto)]
 
-mod pointer;
+mod axis;
 mod window;
 
+pub use axis::{Axis, Span};
 pub use kind_core::Shape;
-pub use pointer::{Grab, Pointer};
 pub use window::Window;

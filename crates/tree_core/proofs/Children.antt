@@ -10,7 +10,7 @@ use Rattle.widget_model.specs.Nodes.{id_named}
 use Rattle.widget_model.specs.Named.{row_named}
 use Rattle.widget_model.specs.Trees.{can_be_child, child_in, stands_at}
 use Rattle.widget_model.specs.Planted.{has_cell, takes_cell, is_cell, hangs_right}
-use Rattle.widget_model.specs.Places.{child_id}
+use Rattle.widget_model.specs.Relatives.{child_id}
 use Rattle.widget_model.specs.Widgets.{row_at, nodes}
 use Rattle.widget_model.proofs.Naming.{row_named-found, row_named-none, id_named-row, row_named-parts}
 use Rattle.widget_model.specs.Rows.{IsIndex}
@@ -27,7 +27,7 @@ pub record HangsAt (es : List (ℕ × Row)) (below above column line : ℕ) : Ty
   pub lower_there : row_at es below ≡ Some lower
   pub owner : lower.client ≡ upper.client
   pub cell : Cell
-  pub spot : lower.spot ≡ Some (upper.name, cell)
+  pub attached : lower.attached ≡ Some (upper.name, cell)
   pub column_is : cell.column ≡ column
   pub line_is : cell.row ≡ line
 
@@ -58,7 +58,7 @@ child_id-hangs es below above column line grove h = by (row_at es above) refl h
           lower_there = ap (row_at es) (sym same) ∙ number.1;
           owner = stands.owner;
           cell = stands.cell;
-          spot = stands.spot;
+          attached = stands.attached;
           column_is = stands.column_is;
           line_is = stands.line_is;
         }
@@ -71,7 +71,7 @@ child_id-hangs es below above column line grove h = by (row_at es above) refl h
 pub child_in-hangs : (es : List (ℕ × Row)) (below above column line : ℕ) → IsGrove es → (h : HangsAt es below above column line) → child_in (rows_in es) h.upper.client h.upper.name column line ≡ Some h.lower
 child_in-hangs es below above column line grove h =
     let place = numbered_place es below h.lower h.lower_there in
-    let own = child_in-own (rows_in es) place.0 h.lower h.upper.name h.cell grove.planted.own_cells place.1 h.spot in
+    let own = child_in-own (rows_in es) place.0 h.lower h.upper.name h.cell grove.planted.own_cells place.1 h.attached in
     rw (← h.owner, ← h.column_is, ← h.line_is) own
 
 pub hangs-child_id : (es : List (ℕ × Row)) (below above column line : ℕ) → IsGrove es → HangsAt es below above column line → child_id (widgets_in es) above column line ≡ Some below
@@ -143,11 +143,11 @@ pub record HangsUnder (es : List (ℕ × Row)) (lower : Row) (name : List ℕ) (
   pub numbered : id_named (nodes es) lower.client name ≡ Some number
   pub cell_is : IsCellOf upper.kind cell
 
-pub spot-hangs : (es : List (ℕ × Row)) (id : ℕ) (lower : Row) (name : List ℕ) (cell : Cell) → IsGrove es → row_at es id ≡ Some lower → lower.spot ≡ Some (name, cell) → HangsUnder es lower name cell
-spot-hangs es id lower name cell grove there spot =
+pub attached-hangs : (es : List (ℕ × Row)) (id : ℕ) (lower : Row) (name : List ℕ) (cell : Cell) → IsGrove es → row_at es id ≡ Some lower → lower.attached ≡ Some (name, cell) → HangsUnder es lower name cell
+attached-hangs es id lower name cell grove there attached =
     let place = numbered_place es id lower there in
     let right : hangs_right (rows_in es) lower ≡ true = all_at (hangs_right (rows_in es)) (rows_in es) place.0 lower grove.planted.hang place.1 in
-    let test : (can_be_child lower.kind && option_map_or (λ (parent : Row). has_cell parent.kind cell) (row_named (rows_in es) lower.client name) false) ≡ true = rw spot at right in
+    let test : (can_be_child lower.kind && option_map_or (λ (parent : Row). has_cell parent.kind cell) (row_named (rows_in es) lower.client name) false) ≡ true = rw attached at right in
     let parts = and_parts (can_be_child lower.kind) (option_map_or (λ (parent : Row). has_cell parent.kind cell) (row_named (rows_in es) lower.client name) false) test in
     by (row_named (rows_in es) lower.client name) refl (id_named (nodes es) lower.client name) refl parts.1
   where
@@ -167,8 +167,8 @@ spot-hangs es id lower name cell grove there spot =
         }
 
 -- so it hangs there
-pub HangsUnder-HangsAt : (es : List (ℕ × Row)) (id : ℕ) (lower : Row) (name : List ℕ) (cell : Cell) → row_at es id ≡ Some lower → lower.spot ≡ Some (name, cell) → (h : HangsUnder es lower name cell) → HangsAt es id h.number cell.column cell.row
-HangsUnder-HangsAt es id lower name cell there spot h =
+pub HangsUnder-HangsAt : (es : List (ℕ × Row)) (id : ℕ) (lower : Row) (name : List ℕ) (cell : Cell) → row_at es id ≡ Some lower → lower.attached ≡ Some (name, cell) → (h : HangsUnder es lower name cell) → HangsAt es id h.number cell.column cell.row
+HangsUnder-HangsAt es id lower name cell there attached h =
     record {
       upper = h.upper;
       lower = lower;
@@ -176,7 +176,7 @@ HangsUnder-HangsAt es id lower name cell there spot h =
       lower_there = there;
       owner = h.owner;
       cell = cell;
-      spot = spot ∙ ap (λ (n : List ℕ). Some (n, cell)) (sym h.named);
+      attached = attached ∙ ap (λ (n : List ℕ). Some (n, cell)) (sym h.named);
       column_is = refl;
       line_is = refl;
     }
@@ -189,5 +189,5 @@ child_id-outside es above column line grove outside = by (child_id (widgets_in e
     by None q = refl
     by (Some below) q =
         let h = child_id-hangs es below above column line grove q in
-        let cell = (spot-hangs es below h.lower h.upper.name h.cell grove h.lower_there h.spot).cell_is in
+        let cell = (attached-hangs es below h.lower h.upper.name h.cell grove h.lower_there h.attached).cell_is in
         absurd (outside (rw (← h.column_is) cell.column) (rw (← h.line_is) cell.line))

@@ -11,14 +11,14 @@ use Rattle.std.specs.declared.cmp.Ordering.TheVariants.{Less, Equal, Greater}
 use Rattle.kind_core.specs.declared.shapes.Cell.{Cell}
 use Rattle.widget_model.specs.Rows.{Row}
 use Rattle.widget_model.specs.Trees.{is_child, height_in, greatest_child}
-use Rattle.widget_model.specs.Places.{child_id}
+use Rattle.widget_model.specs.Relatives.{child_id}
 use Rattle.widget_model.specs.Widgets.{row_at}
 use Rattle.tree_core.specs.Children.{cells_of, rows_in, widgets_in, HasChildren}
 use Rattle.row_store.specs.Places.{cell_place}
 use Rattle.widget_model.specs.Rows.{IsIndex}
 use Rattle.tree_core.specs.Kept.{IsGrove}
 use Rattle.tree_core.proofs.Listed.{listed_number, numbered_place, any_at, any_place}
-use Rattle.tree_core.proofs.Children.{child_id-hangs, hangs-child_id, spot-hangs, HangsUnder-HangsAt, own_number}
+use Rattle.tree_core.proofs.Children.{child_id-hangs, hangs-child_id, attached-hangs, HangsUnder-HangsAt, own_number}
 use Rattle.widget_model.proofs.Levels.{greatest_child-each, greatest_child-most}
 
 -- a numbered row that is a child of another
@@ -42,7 +42,7 @@ cell-child es cells above index below upper grove children there less found =
     let h = child_id-hangs es below above column line grove number in
     let same : h.upper ≡ upper = let one : Some h.upper ≡ Some upper = sym h.upper_there ∙ there in cc in
     let owner : h.lower.client ≡ upper.client = h.owner ∙ ap (λ (row : Row). row.client) same in
-    let spot : h.lower.spot ≡ Some (upper.name, h.cell) = h.spot ∙ ap (λ (row : Row). Some (row.name, h.cell)) same in
+    let attached : h.lower.attached ≡ Some (upper.name, h.cell) = h.attached ∙ ap (λ (row : Row). Some (row.name, h.cell)) same in
     let at = numbered_place es below h.lower h.lower_there in
     record {
       lower = h.lower;
@@ -50,7 +50,7 @@ cell-child es cells above index below upper grove children there less found =
       place = at.0;
       placed = at.1;
       owner = owner;
-      is = and_from (nat_eq upper.client h.lower.client) (option_map_or (λ (s : List ℕ × Cell). bytes_eq upper.name s.0) h.lower.spot false) (eq-eqb upper.client h.lower.client (sym owner)) (ap (λ (s : Option (List ℕ × Cell)). option_map_or (λ (s : List ℕ × Cell). bytes_eq upper.name s.0) s false) spot ∙ nat_list_eq_equiv.refl upper.name);
+      is = and_from (nat_eq upper.client h.lower.client) (option_map_or (λ (s : List ℕ × Cell). bytes_eq upper.name s.0) h.lower.attached false) (eq-eqb upper.client h.lower.client (sym owner)) (ap (λ (s : Option (List ℕ × Cell)). option_map_or (λ (s : List ℕ × Cell). bytes_eq upper.name s.0) s false) attached ∙ nat_list_eq_equiv.refl upper.name);
     }
 
 -- and each child's number is in one of the cells
@@ -61,26 +61,26 @@ pub record IsInCell (es : List (ℕ × Row)) (cells : List (Option ℕ)) (above 
   pub there : get_or cells (above * 256 + index) None ≡ Some below
   pub lower_there : row_at es below ≡ Some lower
 
--- a child's spot names its parent
-child-spot : (lower : Row) (client : ℕ) (name : List ℕ) → is_child client name lower ≡ true → (cell : Cell) × (lower.spot ≡ Some (name, cell)) × (lower.client ≡ client)
-child-spot lower client name h =
-    let parts = and_parts (nat_eq client lower.client) (option_map_or (λ (s : List ℕ × Cell). bytes_eq name s.0) lower.spot false) h in
-    by lower.spot refl (sym (eqb-true client lower.client parts.0)) parts.1
+-- a child's attached names its parent
+child-attached : (lower : Row) (client : ℕ) (name : List ℕ) → is_child client name lower ≡ true → (cell : Cell) × (lower.attached ≡ Some (name, cell)) × (lower.client ≡ client)
+child-attached lower client name h =
+    let parts = and_parts (nat_eq client lower.client) (option_map_or (λ (s : List ℕ × Cell). bytes_eq name s.0) lower.attached false) h in
+    by lower.attached refl (sym (eqb-true client lower.client parts.0)) parts.1
   where
-    by : (spot : Option (List ℕ × Cell)) → lower.spot ≡ spot → lower.client ≡ client → option_map_or (λ (s : List ℕ × Cell). bytes_eq name s.0) spot false ≡ true → (cell : Cell) × (lower.spot ≡ Some (name, cell)) × (lower.client ≡ client)
+    by : (attached : Option (List ℕ × Cell)) → lower.attached ≡ attached → lower.client ≡ client → option_map_or (λ (s : List ℕ × Cell). bytes_eq name s.0) attached false ≡ true → (cell : Cell) × (lower.attached ≡ Some (name, cell)) × (lower.client ≡ client)
     by None q owner k = absurd (true≢false (sym k))
     by (Some s) q owner k = (s.1, q ∙ ap (λ (n : List ℕ). Some (n, s.1)) (sym ((bytes_eq-Decides name s.0).0 k)), owner)
 
 pub child-cell : (es : List (ℕ × Row)) (cells : List (Option ℕ)) (above place : ℕ) (upper lower : Row) → IsGrove es → HasChildren es cells → row_at es above ≡ Some upper → slice_get (rows_in es) place ≡ Some lower → is_child upper.client upper.name lower ≡ true → IsInCell es cells above upper lower
 child-cell es cells above place upper lower grove children there placed is =
     let number = listed_number es place lower grove.own_numbers placed in
-    let spot = child-spot lower upper.client upper.name is in
-    let h = spot-hangs es number.0 lower upper.name spot.0 grove number.1 spot.1 in
-    let same : above ≡ h.number = own_number es above h.number upper h.upper grove there h.upper_there (sym spot.2 ∙ h.owner) (sym h.named) in
+    let attached = child-attached lower upper.client upper.name is in
+    let h = attached-hangs es number.0 lower upper.name attached.0 grove number.1 attached.1 in
+    let same : above ≡ h.number = own_number es above h.number upper h.upper grove there h.upper_there (sym attached.2 ∙ h.owner) (sym h.named) in
     let one : upper ≡ h.upper = let q : Some upper ≡ Some h.upper = sym there ∙ ap (row_at es) same ∙ h.upper_there in cc in
-    let index : ℕ = (spot.0.column - 1) * 16 + (spot.0.row - 1) in
-    let found = children.each h.number spot.0.column spot.0.row h.cell_is.column h.cell_is.line ∙ hangs-child_id es number.0 h.number spot.0.column spot.0.row grove (HangsUnder-HangsAt es number.0 lower upper.name spot.0 number.1 spot.1 h) in
-    let at : above * 256 + index ≡ cell_place h.number spot.0.column spot.0.row = rw same (omega arith) in
+    let index : ℕ = (attached.0.column - 1) * 16 + (attached.0.row - 1) in
+    let found = children.each h.number attached.0.column attached.0.row h.cell_is.column h.cell_is.line ∙ hangs-child_id es number.0 h.number attached.0.column attached.0.row grove (HangsUnder-HangsAt es number.0 lower upper.name attached.0 number.1 attached.1 h) in
+    let at : above * 256 + index ≡ cell_place h.number attached.0.column attached.0.row = rw same (omega arith) in
     record {
       index = index;
       below = number.0;
@@ -170,6 +170,6 @@ IsGreatest-height es cells most above greatest upper grove children there h =
     each place lower placed is =
         let cell = child-cell es cells above place upper lower grove children there placed is in
         let no_less = h.no_less cell.index cell.below lower cell.within cell.there cell.lower_there in
-        let owner = (child-spot lower upper.client upper.name is).2 in
+        let owner = (child-attached lower upper.client upper.name is).2 in
         let client : height_in most (rows_in es) lower.client lower.name ≡ height_in most (rows_in es) upper.client lower.name = ap (λ (n : ℕ). height_in most (rows_in es) n lower.name) owner in
         omega (arith, no_less, client)

@@ -4,7 +4,7 @@ use Rattle.std.proofs.lemmas.Bool.{true≢false, and_parts, and_from}
 use Rattle.std.specs.Option.{option_map, option_map_or, option_and_then}
 use Rattle.kind_core.specs.declared.kinds.Kind.{Kind}
 use Rattle.kind_core.specs.declared.shapes.Cell.{Cell}
-use Rattle.widget_model.specs.Rows.{Row, with_spot}
+use Rattle.widget_model.specs.Rows.{Row, with_attached}
 use Rattle.widget_model.specs.Nodes.{Node, node_of}
 use Rattle.widget_model.specs.Named.{row_named, with_named}
 use Rattle.widget_model.specs.Trees.{hangs, has_children, can_be_child, child_in, depth_of, height_of, is_above, most_levels}
@@ -40,13 +40,13 @@ IsGrove-with_row es id change row same grove there planted =
     }
 
 -- and the place of each row
-pub IsGrove-leaves : (es : List (ℕ × Row)) (id : ℕ) (change : Row → Row) (row : Row) → ((row : Row) → node_of (change row) ≡ node_of row) → ((row : Row) → (change row).spot ≡ row.spot) → IsGrove es → row_at es id ≡ Some row → IsGrove (with_row id change es)
+pub IsGrove-leaves : (es : List (ℕ × Row)) (id : ℕ) (change : Row → Row) (row : Row) → ((row : Row) → node_of (change row) ≡ node_of row) → ((row : Row) → (change row).attached ≡ row.attached) → IsGrove es → row_at es id ≡ Some row → IsGrove (with_row id change es)
 IsGrove-leaves es id change row same still grove there =
-    let leaves : LeavesPlace change = record { client = λ r. ap (λ (n : Node). n.client) (same r); name = λ r. ap (λ (n : Node). n.name) (same r); kind = λ r. ap (λ (n : Node). n.kind) (same r); spot = still } in
+    let leaves : LeavesPlace change = record { client = λ r. ap (λ (n : Node). n.client) (same r); name = λ r. ap (λ (n : Node). n.name) (same r); kind = λ r. ap (λ (n : Node). n.kind) (same r); attached = still } in
     IsGrove-with_row es id change row same grove there (IsPlanted-change (rows_in es) row.client row.name change leaves grove.planted)
 
-pub IsGrove-unhang : (es : List (ℕ × Row)) (id : ℕ) (row : Row) → IsGrove es → row_at es id ≡ Some row → IsGrove (with_row id (with_spot None) es)
-IsGrove-unhang es id row grove there = IsGrove-with_row es id (with_spot None) row (λ row. refl) grove there (IsPlanted-detach (rows_in es) row.client row.name grove.planted)
+pub IsGrove-unhang : (es : List (ℕ × Row)) (id : ℕ) (row : Row) → IsGrove es → row_at es id ≡ Some row → IsGrove (with_row id (with_attached None) es)
+IsGrove-unhang es id row grove there = IsGrove-with_row es id (with_attached None) row (λ row. refl) grove there (IsPlanted-detach (rows_in es) row.client row.name grove.planted)
 
 -- the tests behind a refusal, where there is none
 pub no_attach_refusal : (rows : List Row) (upper lower : Row) (cell : Cell) → lower.client ≡ upper.client → takes_cell upper.kind cell ≡ true → row_named rows upper.client upper.name ≡ Some upper → row_named rows lower.client lower.name ≡ Some lower → attach_refusal rows upper lower cell ≡ None → CanHang rows upper.client upper.name lower.name cell upper lower
@@ -106,17 +106,17 @@ MayHang-CanHang es parent child cell upper lower grove may =
     (row_named-row es child lower grove.own_numbers grove.own_names may.lower_there)
     may.allowed
 
-pub IsGrove-hang : (es : List (ℕ × Row)) (parent child : ℕ) (cell : Cell) (upper lower : Row) → IsGrove es → MayHang es parent child cell upper lower → IsGrove (with_row child (with_spot (Some (upper.name, cell))) es)
+pub IsGrove-hang : (es : List (ℕ × Row)) (parent child : ℕ) (cell : Cell) (upper lower : Row) → IsGrove es → MayHang es parent child cell upper lower → IsGrove (with_row child (with_attached (Some (upper.name, cell))) es)
 IsGrove-hang es parent child cell upper lower grove may =
     let can = MayHang-CanHang es parent child cell upper lower grove may in
-    let P : ℕ → Type 0 = λ client. IsPlanted (with_named client lower.name (with_spot (Some (upper.name, cell))) (rows_in es)) in
-    IsGrove-with_row es child (with_spot (Some (upper.name, cell))) lower (λ row. refl) grove may.lower_there
+    let P : ℕ → Type 0 = λ client. IsPlanted (with_named client lower.name (with_attached (Some (upper.name, cell))) (rows_in es)) in
+    IsGrove-with_row es child (with_attached (Some (upper.name, cell))) lower (λ row. refl) grove may.lower_there
     (subst P (sym may.owner) (IsPlanted-attach (rows_in es) upper.client upper.name lower.name cell upper lower (AreNamedApart-rows es grove.own_names) can grove.planted))
 
 -- a child that may be hung hangs nowhere
-pub MayHang-alone : (es : List (ℕ × Row)) (parent child : ℕ) (cell : Cell) (upper lower : Row) → IsGrove es → MayHang es parent child cell upper lower → lower.spot ≡ None
-MayHang-alone es parent child cell upper lower grove may = by lower.spot (MayHang-CanHang es parent child cell upper lower grove may).stands_alone
+pub MayHang-alone : (es : List (ℕ × Row)) (parent child : ℕ) (cell : Cell) (upper lower : Row) → IsGrove es → MayHang es parent child cell upper lower → lower.attached ≡ None
+MayHang-alone es parent child cell upper lower grove may = by lower.attached (MayHang-CanHang es parent child cell upper lower grove may).stands_alone
   where
-    by : (spot : Option (List ℕ × Cell)) → option_map_or (λ (s : List ℕ × Cell). true) spot false ≡ false → spot ≡ None
+    by : (attached : Option (List ℕ × Cell)) → option_map_or (λ (s : List ℕ × Cell). true) attached false ≡ false → attached ≡ None
     by None h = refl
     by (Some s) h = absurd (true≢false h)

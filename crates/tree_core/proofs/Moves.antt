@@ -6,9 +6,9 @@ use Rattle.std.proofs.lemmas.Bool.{true≢false, eqb-true, eq-eqb, cases_eq}
 use Rattle.std.proofs.lemmas.List.{get_or-set_same, get_or-set_other}
 use Rattle.std.specs.Option.{option_map}
 use Rattle.kind_core.specs.declared.shapes.Cell.{Cell}
-use Rattle.widget_model.specs.Rows.{Row, with_spot}
+use Rattle.widget_model.specs.Rows.{Row, with_attached}
 use Rattle.widget_model.specs.Nodes.{Node, node_of}
-use Rattle.widget_model.specs.Places.{child_id}
+use Rattle.widget_model.specs.Relatives.{child_id}
 use Rattle.widget_model.specs.Widgets.{row_at, with_row}
 use Rattle.widget_model.specs.Rows.{IsIndex}
 use Rattle.row_store.specs.Places.{cell_place}
@@ -22,9 +22,9 @@ use Rattle.row_store.proofs.Options.{option_same}
 pub cell_place-same : (id other column other_column line other_line : ℕ) → IsIndex column → IsIndex other_column → IsIndex line → IsIndex other_line → cell_place id column line ≡ cell_place other other_column other_line → (id ≡ other) × (column ≡ other_column) × (line ≡ other_line)
 cell_place-same id other column other_column line other_line c oc l ol same = (omega (arith, c, oc, l, ol, same), omega (arith, c, oc, l, ol, same), omega (arith, c, oc, l, ol, same))
 
--- one spot has one name and one cell
-spot-parts : (x y : List ℕ × Cell) → Some x ≡ Some y → (x.0 ≡ y.0) × (x.1 ≡ y.1)
-spot-parts x y h =
+-- one attached has one name and one cell
+attached-parts : (x y : List ℕ × Cell) → Some x ≡ Some y → (x.0 ≡ y.0) × (x.1 ≡ y.1)
+attached-parts x y h =
     let pair : x ≡ y = cc in
     (ap (λ (p : List ℕ × Cell). p.0) pair, ap (λ (p : List ℕ × Cell). p.1) pair)
 
@@ -54,7 +54,7 @@ row_at-was es id change other row there = by (row_at es other) refl (sym (row_at
 
 -- the row under a number hangs as it did
 IsStill : List (ℕ × Row) → ℕ → (Row → Row) → ℕ → Type 0
-IsStill es id change other = (row : Row) → row_at es other ≡ Some row → (changed id change other row).spot ≡ row.spot
+IsStill es id change other = (row : Row) → row_at es other ≡ Some row → (changed id change other row).attached ≡ row.attached
 
 module _ (es : List (ℕ × Row)) (id : ℕ) (change : Row → Row) (same : (row : Row) → node_of (change row) ≡ node_of row) where
   HangsAt-with_row : (below above column line : ℕ) → IsStill es id change below → HangsAt es below above column line → HangsAt (with_row id change es) below above column line
@@ -67,7 +67,7 @@ module _ (es : List (ℕ × Row)) (id : ℕ) (change : Row → Row) (same : (row
         lower_there = row_at-changed es id change below h.lower h.lower_there;
         owner = ap (λ (n : Node). n.client) (changed-node id change below h.lower same) ∙ h.owner ∙ sym (ap (λ (n : Node). n.client) (changed-node id change above h.upper same));
         cell = h.cell;
-        spot = still h.lower h.lower_there ∙ h.spot ∙ ap (λ (n : List ℕ). Some (n, h.cell)) (sym (ap (λ (n : Node). n.name) (changed-node id change above h.upper same)));
+        attached = still h.lower h.lower_there ∙ h.attached ∙ ap (λ (n : List ℕ). Some (n, h.cell)) (sym (ap (λ (n : Node). n.name) (changed-node id change above h.upper same)));
         column_is = h.column_is;
         line_is = h.line_is;
       }
@@ -86,7 +86,7 @@ module _ (es : List (ℕ × Row)) (id : ℕ) (change : Row → Row) (same : (row
         lower_there = lower.1;
         owner = ap (λ (n : Node). n.client) (sym lower_node) ∙ h.owner ∙ ap (λ (n : Node). n.client) upper_node;
         cell = h.cell;
-        spot = sym (still lower.0 lower.1) ∙ ap (λ (row : Row). row.spot) (sym lower.2) ∙ h.spot ∙ ap (λ (n : List ℕ). Some (n, h.cell)) (ap (λ (n : Node). n.name) upper_node);
+        attached = sym (still lower.0 lower.1) ∙ ap (λ (row : Row). row.attached) (sym lower.2) ∙ h.attached ∙ ap (λ (n : List ℕ). Some (n, h.cell)) (ap (λ (n : Node). n.name) upper_node);
         column_is = h.column_is;
         line_is = h.line_is;
       }
@@ -99,7 +99,7 @@ module _ (es : List (ℕ × Row)) (id : ℕ) (change : Row → Row) (same : (row
       (λ below k. hangs-child_id es below above column line old (HangsAt-was below above column line (there below k) (child_id-hangs (with_row id change es) below above column line new k)))
 
   -- a change that leaves where all rows hang leaves the table
-  pub HasChildren-still : (cells : List (Option ℕ)) → IsGrove es → IsGrove (with_row id change es) → ((below : ℕ) (row : Row) → row_at es below ≡ Some row → (cond (nat_eq id below) (change row) row).spot ≡ row.spot) → HasChildren es cells → HasChildren (with_row id change es) cells
+  pub HasChildren-still : (cells : List (Option ℕ)) → IsGrove es → IsGrove (with_row id change es) → ((below : ℕ) (row : Row) → row_at es below ≡ Some row → (cond (nat_eq id below) (change row) row).attached ≡ row.attached) → HasChildren es cells → HasChildren (with_row id change es) cells
   unfolding IsStill changed
   HasChildren-still cells old new still h =
       record { each = λ above column line c l. h.each above column line c l ∙ child_id-same above column line old new (λ below k. still below) (λ below k. still below) }
@@ -121,23 +121,23 @@ changed_row es id change other row new same there found =
     was.2 ∙ changed-self id change other was.0 same ∙ ap change one
 
 module _ (es : List (ℕ × Row)) (cells : List (Option ℕ)) (above below : ℕ) (upper lower : Row) (cell : Cell) (old : IsGrove es) (h : HasChildren es cells) (upper_there : row_at es above ≡ Some upper) (lower_there : row_at es below ≡ Some lower) (owner : lower.client ≡ upper.client) (column_in : IsIndex cell.column) (line_in : IsIndex cell.row) (within : cell_place above cell.column cell.row < length cells) where
-  module _ (alone : lower.spot ≡ None) (new : IsGrove (with_row below (with_spot (Some (upper.name, cell))) es)) where
-    hung-HangsAt : HangsAt (with_row below (with_spot (Some (upper.name, cell))) es) below above cell.column cell.row
+  module _ (alone : lower.attached ≡ None) (new : IsGrove (with_row below (with_attached (Some (upper.name, cell))) es)) where
+    hung-HangsAt : HangsAt (with_row below (with_attached (Some (upper.name, cell))) es) below above cell.column cell.row
     hung-HangsAt =
         record {
-          upper = changed below (with_spot (Some (upper.name, cell))) above upper;
-          lower = with_spot (Some (upper.name, cell)) lower;
-          upper_there = row_at-changed es below (with_spot (Some (upper.name, cell))) above upper upper_there;
-          lower_there = row_at-changed es below (with_spot (Some (upper.name, cell))) below lower lower_there ∙ ap Some (changed-self below (with_spot (Some (upper.name, cell))) below lower (eq-eqb below below refl));
-          owner = owner ∙ sym (ap (λ (n : Node). n.client) (changed-node below (with_spot (Some (upper.name, cell))) above upper (λ row. refl)));
+          upper = changed below (with_attached (Some (upper.name, cell))) above upper;
+          lower = with_attached (Some (upper.name, cell)) lower;
+          upper_there = row_at-changed es below (with_attached (Some (upper.name, cell))) above upper upper_there;
+          lower_there = row_at-changed es below (with_attached (Some (upper.name, cell))) below lower lower_there ∙ ap Some (changed-self below (with_attached (Some (upper.name, cell))) below lower (eq-eqb below below refl));
+          owner = owner ∙ sym (ap (λ (n : Node). n.client) (changed-node below (with_attached (Some (upper.name, cell))) above upper (λ row. refl)));
           cell = cell;
-          spot = ap (λ (n : List ℕ). Some (n, cell)) (sym (ap (λ (n : Node). n.name) (changed-node below (with_spot (Some (upper.name, cell))) above upper (λ row. refl))));
+          attached = ap (λ (n : List ℕ). Some (n, cell)) (sym (ap (λ (n : Node). n.name) (changed-node below (with_attached (Some (upper.name, cell))) above upper (λ row. refl))));
           column_is = refl;
           line_is = refl;
         }
 
     -- a widget that was hung in a cell
-    pub HasChildren-hang : HasChildren (with_row below (with_spot (Some (upper.name, cell))) es) (set cells (cell_place above cell.column cell.row) (Some below))
+    pub HasChildren-hang : HasChildren (with_row below (with_attached (Some (upper.name, cell))) es) (set cells (cell_place above cell.column cell.row) (Some below))
     HasChildren-hang = record { each = λ a column line c l. by a column line c l (cases_eq (cell_place a column line) (cell_place above cell.column cell.row)) }
       where
         -- the one that was hung hung nowhere
@@ -145,47 +145,47 @@ module _ (es : List (ℕ × Row)) (cells : List (Option ℕ)) (above below : ℕ
         was_other a column line other k true q =
             let hangs = child_id-hangs es other a column line old k in
             let one : Some hangs.lower ≡ Some lower = sym hangs.lower_there ∙ ap (row_at es) (sym (eqb-true below other q)) ∙ lower_there in
-            let spot : lower.spot ≡ Some (hangs.upper.name, hangs.cell) = let same : lower ≡ hangs.lower = cc in ap (λ (row : Row). row.spot) same ∙ hangs.spot in
-            absurd (let none : None ≡ Some (hangs.upper.name, hangs.cell) = sym alone ∙ spot in cc)
+            let attached : lower.attached ≡ Some (hangs.upper.name, hangs.cell) = let same : lower ≡ hangs.lower = cc in ap (λ (row : Row). row.attached) same ∙ hangs.attached in
+            absurd (let none : None ≡ Some (hangs.upper.name, hangs.cell) = sym alone ∙ attached in cc)
         was_other a column line other k false q = q
 
         -- and hangs in no other cell now
-        is_other : (a column line other : ℕ) → IsIndex column → IsIndex line → cell_place a column line ≢ cell_place above cell.column cell.row → child_id (widgets_in (with_row below (with_spot (Some (upper.name, cell))) es)) a column line ≡ Some other → (b : Bool) → nat_eq below other ≡ b → nat_eq below other ≡ false
+        is_other : (a column line other : ℕ) → IsIndex column → IsIndex line → cell_place a column line ≢ cell_place above cell.column cell.row → child_id (widgets_in (with_row below (with_attached (Some (upper.name, cell))) es)) a column line ≡ Some other → (b : Bool) → nat_eq below other ≡ b → nat_eq below other ≡ false
         is_other a column line other c l apart k true q =
-            let hangs = child_id-hangs (with_row below (with_spot (Some (upper.name, cell))) es) other a column line new k in
-            let one : hangs.lower ≡ with_spot (Some (upper.name, cell)) lower = changed_row es below (with_spot (Some (upper.name, cell))) other lower hangs.lower q lower_there hangs.lower_there in
-            let spot : Some (upper.name, cell) ≡ Some (hangs.upper.name, hangs.cell) = ap (λ (row : Row). row.spot) (sym one) ∙ hangs.spot in
-            let parts = spot-parts (upper.name, cell) (hangs.upper.name, hangs.cell) spot in
+            let hangs = child_id-hangs (with_row below (with_attached (Some (upper.name, cell))) es) other a column line new k in
+            let one : hangs.lower ≡ with_attached (Some (upper.name, cell)) lower = changed_row es below (with_attached (Some (upper.name, cell))) other lower hangs.lower q lower_there hangs.lower_there in
+            let attached : Some (upper.name, cell) ≡ Some (hangs.upper.name, hangs.cell) = ap (λ (row : Row). row.attached) (sym one) ∙ hangs.attached in
+            let parts = attached-parts (upper.name, cell) (hangs.upper.name, hangs.cell) attached in
             let name : upper.name ≡ hangs.upper.name = parts.0 in
             let same_cell : cell ≡ hangs.cell = parts.1 in
             let client : lower.client ≡ hangs.upper.client = ap (λ (row : Row). row.client) (sym one) ∙ hangs.owner in
-            let was = row_at-was es below (with_spot (Some (upper.name, cell))) a hangs.upper hangs.upper_there in
-            let node : node_of hangs.upper ≡ node_of was.0 = ap node_of was.2 ∙ changed-node below (with_spot (Some (upper.name, cell))) a was.0 (λ row. refl) in
+            let was = row_at-was es below (with_attached (Some (upper.name, cell))) a hangs.upper hangs.upper_there in
+            let node : node_of hangs.upper ≡ node_of was.0 = ap node_of was.2 ∙ changed-node below (with_attached (Some (upper.name, cell))) a was.0 (λ row. refl) in
             let number : above ≡ a = own_number es above a upper was.0 old upper_there was.1 (sym owner ∙ client ∙ ap (λ (n : Node). n.client) node) (name ∙ ap (λ (n : Node). n.name) node) in
             let column_same : column ≡ cell.column = sym hangs.column_is ∙ ap (λ (x : Cell). x.column) (sym same_cell) in
             let line_same : line ≡ cell.row = sym hangs.line_is ∙ ap (λ (x : Cell). x.row) (sym same_cell) in
             absurd (apart (rw (column_same, line_same, number) refl))
         is_other a column line other c l apart k false q = q
 
-        by : (a column line : ℕ) → IsIndex column → IsIndex line → (cell_place a column line ≡ cell_place above cell.column cell.row) ⊎ (cell_place a column line ≡ cell_place above cell.column cell.row → ⊥) → get_or (set cells (cell_place above cell.column cell.row) (Some below)) (cell_place a column line) None ≡ child_id (widgets_in (with_row below (with_spot (Some (upper.name, cell))) es)) a column line
+        by : (a column line : ℕ) → IsIndex column → IsIndex line → (cell_place a column line ≡ cell_place above cell.column cell.row) ⊎ (cell_place a column line ≡ cell_place above cell.column cell.row → ⊥) → get_or (set cells (cell_place above cell.column cell.row) (Some below)) (cell_place a column line) None ≡ child_id (widgets_in (with_row below (with_attached (Some (upper.name, cell))) es)) a column line
         by a column line c l (inl same) =
             let parts = cell_place-same a above column cell.column line cell.row c column_in l line_in same in
-            let here : child_id (widgets_in (with_row below (with_spot (Some (upper.name, cell))) es)) a column line ≡ Some below = rw (parts.0, parts.1, parts.2) (hangs-child_id (with_row below (with_spot (Some (upper.name, cell))) es) below above cell.column cell.row new hung-HangsAt) in
+            let here : child_id (widgets_in (with_row below (with_attached (Some (upper.name, cell))) es)) a column line ≡ Some below = rw (parts.0, parts.1, parts.2) (hangs-child_id (with_row below (with_attached (Some (upper.name, cell))) es) below above cell.column cell.row new hung-HangsAt) in
             ap (λ (n : ℕ). get_or (set cells (cell_place above cell.column cell.row) (Some below)) n None) same ∙ get_or-set_same cells (cell_place above cell.column cell.row) (Some below) None within ∙ sym here
         by a column line c l (inr apart) =
             get_or-set_other cells (cell_place above cell.column cell.row) (cell_place a column line) (Some below) None apart
             ∙ h.each a column line c l
-            ∙ child_id-same es below (with_spot (Some (upper.name, cell))) (λ row. refl) a column line old new
-            (λ other k. other-still es below (with_spot (Some (upper.name, cell))) other (was_other a column line other k (nat_eq below other) refl))
-            (λ other k. other-still es below (with_spot (Some (upper.name, cell))) other (is_other a column line other c l apart k (nat_eq below other) refl))
+            ∙ child_id-same es below (with_attached (Some (upper.name, cell))) (λ row. refl) a column line old new
+            (λ other k. other-still es below (with_attached (Some (upper.name, cell))) other (was_other a column line other k (nat_eq below other) refl))
+            (λ other k. other-still es below (with_attached (Some (upper.name, cell))) other (is_other a column line other c l apart k (nat_eq below other) refl))
 
-  module _ (spot : lower.spot ≡ Some (upper.name, cell)) (new : IsGrove (with_row below (with_spot None) es)) where
+  module _ (attached : lower.attached ≡ Some (upper.name, cell)) (new : IsGrove (with_row below (with_attached None) es)) where
     -- a widget that was taken out of a cell
-    pub HasChildren-unhang : HasChildren (with_row below (with_spot None) es) (set cells (cell_place above cell.column cell.row) None)
+    pub HasChildren-unhang : HasChildren (with_row below (with_attached None) es) (set cells (cell_place above cell.column cell.row) None)
     HasChildren-unhang = record { each = λ a column line c l. by a column line c l (cases_eq (cell_place a column line) (cell_place above cell.column cell.row)) }
       where
         hung_here : HangsAt es below above cell.column cell.row
-        hung_here = record { upper = upper; lower = lower; upper_there = upper_there; lower_there = lower_there; owner = owner; cell = cell; spot = spot; column_is = refl; line_is = refl }
+        hung_here = record { upper = upper; lower = lower; upper_there = upper_there; lower_there = lower_there; owner = owner; cell = cell; attached = attached; column_is = refl; line_is = refl }
 
         -- it hung in no other cell
         was_other : (a column line other : ℕ) → cell_place a column line ≢ cell_place above cell.column cell.row → child_id (widgets_in es) a column line ≡ Some other → (b : Bool) → nat_eq below other ≡ b → nat_eq below other ≡ false
@@ -193,8 +193,8 @@ module _ (es : List (ℕ × Row)) (cells : List (Option ℕ)) (above below : ℕ
             let hangs = child_id-hangs es other a column line old k in
             let one : Some hangs.lower ≡ Some lower = sym hangs.lower_there ∙ ap (row_at es) (sym (eqb-true below other q)) ∙ lower_there in
             let same : lower ≡ hangs.lower = cc in
-            let same_spot : Some (upper.name, cell) ≡ Some (hangs.upper.name, hangs.cell) = sym spot ∙ ap (λ (row : Row). row.spot) same ∙ hangs.spot in
-            let parts = spot-parts (upper.name, cell) (hangs.upper.name, hangs.cell) same_spot in
+            let same_attached : Some (upper.name, cell) ≡ Some (hangs.upper.name, hangs.cell) = sym attached ∙ ap (λ (row : Row). row.attached) same ∙ hangs.attached in
+            let parts = attached-parts (upper.name, cell) (hangs.upper.name, hangs.cell) same_attached in
             let name : upper.name ≡ hangs.upper.name = parts.0 in
             let same_cell : cell ≡ hangs.cell = parts.1 in
             let client : upper.client ≡ hangs.upper.client = sym owner ∙ ap (λ (row : Row). row.client) same ∙ hangs.owner in
@@ -205,31 +205,31 @@ module _ (es : List (ℕ × Row)) (cells : List (Option ℕ)) (above below : ℕ
         was_other a column line other apart k false q = q
 
         -- and hangs in none now
-        is_other : (a column line other : ℕ) → child_id (widgets_in (with_row below (with_spot None) es)) a column line ≡ Some other → (b : Bool) → nat_eq below other ≡ b → nat_eq below other ≡ false
+        is_other : (a column line other : ℕ) → child_id (widgets_in (with_row below (with_attached None) es)) a column line ≡ Some other → (b : Bool) → nat_eq below other ≡ b → nat_eq below other ≡ false
         is_other a column line other k true q =
-            let hangs = child_id-hangs (with_row below (with_spot None) es) other a column line new k in
-            let one : hangs.lower ≡ with_spot None lower = changed_row es below (with_spot None) other lower hangs.lower q lower_there hangs.lower_there in
-            absurd (let none : None ≡ Some (hangs.upper.name, hangs.cell) = ap (λ (row : Row). row.spot) (sym one) ∙ hangs.spot in cc)
+            let hangs = child_id-hangs (with_row below (with_attached None) es) other a column line new k in
+            let one : hangs.lower ≡ with_attached None lower = changed_row es below (with_attached None) other lower hangs.lower q lower_there hangs.lower_there in
+            absurd (let none : None ≡ Some (hangs.upper.name, hangs.cell) = ap (λ (row : Row). row.attached) (sym one) ∙ hangs.attached in cc)
         is_other a column line other k false q = q
 
         -- so its cell is empty
-        empty : (o : Option ℕ) → child_id (widgets_in (with_row below (with_spot None) es)) above cell.column cell.row ≡ o → o ≡ None
+        empty : (o : Option ℕ) → child_id (widgets_in (with_row below (with_attached None) es)) above cell.column cell.row ≡ o → o ≡ None
         empty None k = refl
         empty (Some other) k =
             let apart = is_other above cell.column cell.row other k (nat_eq below other) refl in
-            let hangs = HangsAt-was es below (with_spot None) (λ row. refl) other above cell.column cell.row (other-still es below (with_spot None) other apart) (child_id-hangs (with_row below (with_spot None) es) other above cell.column cell.row new k) in
+            let hangs = HangsAt-was es below (with_attached None) (λ row. refl) other above cell.column cell.row (other-still es below (with_attached None) other apart) (child_id-hangs (with_row below (with_attached None) es) other above cell.column cell.row new k) in
             let one : Some below ≡ Some other = sym (hangs-child_id es below above cell.column cell.row old hung_here) ∙ hangs-child_id es other above cell.column cell.row old hangs in
             let same : below ≡ other = cc in
             absurd (true≢false (sym (eq-eqb below other same) ∙ apart))
 
-        by : (a column line : ℕ) → IsIndex column → IsIndex line → (cell_place a column line ≡ cell_place above cell.column cell.row) ⊎ (cell_place a column line ≡ cell_place above cell.column cell.row → ⊥) → get_or (set cells (cell_place above cell.column cell.row) None) (cell_place a column line) None ≡ child_id (widgets_in (with_row below (with_spot None) es)) a column line
+        by : (a column line : ℕ) → IsIndex column → IsIndex line → (cell_place a column line ≡ cell_place above cell.column cell.row) ⊎ (cell_place a column line ≡ cell_place above cell.column cell.row → ⊥) → get_or (set cells (cell_place above cell.column cell.row) None) (cell_place a column line) None ≡ child_id (widgets_in (with_row below (with_attached None) es)) a column line
         by a column line c l (inl same) =
             let parts = cell_place-same a above column cell.column line cell.row c column_in l line_in same in
-            let here : child_id (widgets_in (with_row below (with_spot None) es)) a column line ≡ None = rw (parts.0, parts.1, parts.2) (empty (child_id (widgets_in (with_row below (with_spot None) es)) above cell.column cell.row) refl) in
+            let here : child_id (widgets_in (with_row below (with_attached None) es)) a column line ≡ None = rw (parts.0, parts.1, parts.2) (empty (child_id (widgets_in (with_row below (with_attached None) es)) above cell.column cell.row) refl) in
             ap (λ (n : ℕ). get_or (set cells (cell_place above cell.column cell.row) None) n None) same ∙ get_or-set_same cells (cell_place above cell.column cell.row) None None within ∙ sym here
         by a column line c l (inr apart) =
             get_or-set_other cells (cell_place above cell.column cell.row) (cell_place a column line) None None apart
             ∙ h.each a column line c l
-            ∙ child_id-same es below (with_spot None) (λ row. refl) a column line old new
-            (λ other k. other-still es below (with_spot None) other (was_other a column line other apart k (nat_eq below other) refl))
-            (λ other k. other-still es below (with_spot None) other (is_other a column line other k (nat_eq below other) refl))
+            ∙ child_id-same es below (with_attached None) (λ row. refl) a column line old new
+            (λ other k. other-still es below (with_attached None) other (was_other a column line other apart k (nat_eq below other) refl))
+            (λ other k. other-still es below (with_attached None) other (is_other a column line other k (nat_eq below other) refl))

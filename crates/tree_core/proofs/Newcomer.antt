@@ -3,18 +3,18 @@ use Rattle.std.proofs.Common.{◌≡◌, ℕ, Bool, true, false, nat_eq, List, [
 use Rattle.std.proofs.lemmas.Bool.{eqb-true, ne_eqb}
 use Rattle.widget_model.specs.Rows.{Row}
 use Rattle.widget_model.specs.Nodes.{id_named}
-use Rattle.widget_model.specs.Places.{child_id}
+use Rattle.widget_model.specs.Relatives.{child_id}
 use Rattle.widget_model.specs.Planted.{IsPlanted}
 use Rattle.widget_model.specs.Widgets.{row_at, nodes}
 use Rattle.widget_model.proofs.Naming.{row_named-none, rows-push}
 use Rattle.tree_core.specs.Children.{rows_in, widgets_in, HasChildren}
 use Rattle.tree_core.specs.Kept.{IsGrove}
 use Rattle.tree_core.proofs.Listed.{row_at-push, row_at-last}
-use Rattle.tree_core.proofs.Children.{HangsAt, child_id-hangs, hangs-child_id, spot-hangs}
+use Rattle.tree_core.proofs.Children.{HangsAt, child_id-hangs, hangs-child_id, attached-hangs}
 use Rattle.row_store.proofs.Options.{option_same}
 use Rattle.widget_model.proofs.Planting.{IsPlanted-push}
 
-pub planted-push : (es : List (ℕ × Row)) (id : ℕ) (row : Row) → row.spot ≡ None → id_named (nodes es) row.client row.name ≡ None → IsPlanted (rows_in es) → IsPlanted (rows_in (es ++ (id, row) ∷ []))
+pub planted-push : (es : List (ℕ × Row)) (id : ℕ) (row : Row) → row.attached ≡ None → id_named (nodes es) row.client row.name ≡ None → IsPlanted (rows_in es) → IsPlanted (rows_in (es ++ (id, row) ∷ []))
 planted-push es id row alone unnamed planted =
     let P : List Row → Type 0 = λ rows. IsPlanted rows in
     subst P (sym (rows-push es id row)) (IsPlanted-push (rows_in es) row alone (row_named-none es row.client row.name unnamed) planted)
@@ -36,7 +36,7 @@ module _ (es : List (ℕ × Row)) (id : ℕ) (row : Row) (absent : row_at es id 
       let one : Some row ≡ Some found = sym (row_at-last es id row absent) ∙ ap (row_at (es ++ (id, row) ∷ [])) (sym (eqb-true other id same)) ∙ there in
       cc
 
-  pub HasChildren-push : (cells : List (Option ℕ)) → IsGrove es → IsGrove (es ++ (id, row) ∷ []) → row.spot ≡ None → id_named (nodes es) row.client row.name ≡ None → HasChildren es cells → HasChildren (es ++ (id, row) ∷ []) cells
+  pub HasChildren-push : (cells : List (Option ℕ)) → IsGrove es → IsGrove (es ++ (id, row) ∷ []) → row.attached ≡ None → id_named (nodes es) row.client row.name ≡ None → HasChildren es cells → HasChildren (es ++ (id, row) ∷ []) cells
   HasChildren-push cells old new alone unnamed h =
       record {
         each = λ above column line c l.
@@ -55,7 +55,7 @@ module _ (es : List (ℕ × Row)) (id : ℕ) (row : Row) (absent : row_at es id 
             lower_there = old_row below hangs.lower hangs.lower_there;
             owner = hangs.owner;
             cell = hangs.cell;
-            spot = hangs.spot;
+            attached = hangs.attached;
             column_is = hangs.column_is;
             line_is = hangs.line_is;
           }
@@ -70,7 +70,7 @@ module _ (es : List (ℕ × Row)) (id : ℕ) (row : Row) (absent : row_at es id 
             lower_there = lower_there;
             owner = hangs.owner;
             cell = hangs.cell;
-            spot = hangs.spot;
+            attached = hangs.attached;
             column_is = hangs.column_is;
             line_is = hangs.line_is;
           }
@@ -79,13 +79,13 @@ module _ (es : List (ℕ × Row)) (id : ℕ) (row : Row) (absent : row_at es id 
           by false q = which_row below hangs.lower hangs.lower_there q
           by true q =
               let same = new_row_is below hangs.lower hangs.lower_there q in
-              absurd (let none : None ≡ Some (hangs.upper.name, hangs.cell) = sym alone ∙ ap (λ (x : Row). x.spot) same ∙ hangs.spot in cc)
+              absurd (let none : None ≡ Some (hangs.upper.name, hangs.cell) = sym alone ∙ ap (λ (x : Row). x.attached) same ∙ hangs.attached in cc)
 
           at : row_at es below ≡ Some hangs.lower → (b : Bool) → nat_eq above id ≡ b → row_at es above ≡ Some hangs.upper
           at lower_there false q = which_row above hangs.upper hangs.upper_there q
           at lower_there true q =
               let same = new_row_is above hangs.upper hangs.upper_there q in
-              let parent = spot-hangs es below hangs.lower hangs.upper.name hangs.cell old lower_there hangs.spot in
+              let parent = attached-hangs es below hangs.lower hangs.upper.name hangs.cell old lower_there hangs.attached in
               let client : row.client ≡ hangs.lower.client = ap (λ (x : Row). x.client) same ∙ sym hangs.owner in
               let name : row.name ≡ hangs.upper.name = ap (λ (x : Row). x.name) same in
               let none : id_named (nodes es) hangs.lower.client hangs.upper.name ≡ None = rw (← client, ← name) unnamed in

@@ -5,37 +5,37 @@ use Rattle.std.proofs.lemmas.Bool.{eqb-true, cases_lt}
 use Rattle.std.proofs.lemmas.List.{get_or_past}
 use Rattle.std.specs.Option.{option_and_then}
 use Rattle.kind_core.specs.declared.shapes.Cell.{Cell}
-use Rattle.widget_model.specs.Rows.{Row, with_spot}
+use Rattle.widget_model.specs.Rows.{Row, with_attached}
 use Rattle.widget_model.specs.Nodes.{id_named}
 use Rattle.widget_model.specs.Trees.{root_of}
-use Rattle.widget_model.specs.Places.{parent_id, child_id, root_id}
+use Rattle.widget_model.specs.Relatives.{parent_id, child_id, root_id}
 use Rattle.widget_model.specs.Widgets.{row_at, nodes, with_row}
 use Rattle.widget_model.specs.Rows.{IsIndex}
 use Rattle.row_store.specs.Places.{cell_place}
 use Rattle.tree_core.specs.Children.{rows_in, widgets_in, HasChildren}
 use Rattle.tree_core.specs.Kept.{IsGrove}
 use Rattle.row_store.proofs.Nodes.{named-live, row_live}
-use Rattle.tree_core.proofs.Children.{child_id-hangs, spot-hangs, HangsUnder-HangsAt, hangs-child_id}
+use Rattle.tree_core.proofs.Children.{child_id-hangs, attached-hangs, HangsUnder-HangsAt, hangs-child_id}
 use Rattle.tree_core.proofs.Moves.{HasChildren-unhang, HasChildren-still}
 use Rattle.tree_core.proofs.Groves.{IsGrove-unhang}
 
-parent_id-row : (es : List (ℕ × Row)) (id : ℕ) (row : Row) (name : List ℕ) (cell : Cell) → row_at es id ≡ Some row → row.spot ≡ Some (name, cell) → parent_id (widgets_in es) id ≡ id_named (nodes es) row.client name
-parent_id-row es id row name cell there spot =
-    ap (option_and_then (λ (r : Row). option_and_then (λ (s : List ℕ × Cell). id_named (nodes es) r.client s.0) r.spot)) there
-    ∙ ap (option_and_then (λ (s : List ℕ × Cell). id_named (nodes es) row.client s.0)) spot
+parent_id-row : (es : List (ℕ × Row)) (id : ℕ) (row : Row) (name : List ℕ) (cell : Cell) → row_at es id ≡ Some row → row.attached ≡ Some (name, cell) → parent_id (widgets_in es) id ≡ id_named (nodes es) row.client name
+parent_id-row es id row name cell there attached =
+    ap (option_and_then (λ (r : Row). option_and_then (λ (s : List ℕ × Cell). id_named (nodes es) r.client s.0) r.attached)) there
+    ∙ ap (option_and_then (λ (s : List ℕ × Cell). id_named (nodes es) row.client s.0)) attached
 
 -- a widget that hangs in another has a parent
-pub parent_id-there : (es : List (ℕ × Row)) (id : ℕ) (row : Row) (name : List ℕ) (cell : Cell) → IsGrove es → row_at es id ≡ Some row → row.spot ≡ Some (name, cell) → is_some (parent_id (widgets_in es) id) ≡ true
-parent_id-there es id row name cell grove there spot =
-    let h = spot-hangs es id row name cell grove there spot in
-    ap is_some (parent_id-row es id row name cell there spot ∙ h.numbered)
+pub parent_id-there : (es : List (ℕ × Row)) (id : ℕ) (row : Row) (name : List ℕ) (cell : Cell) → IsGrove es → row_at es id ≡ Some row → row.attached ≡ Some (name, cell) → is_some (parent_id (widgets_in es) id) ≡ true
+parent_id-there es id row name cell grove there attached =
+    let h = attached-hangs es id row name cell grove there attached in
+    ap is_some (parent_id-row es id row name cell there attached ∙ h.numbered)
 
 -- what taking a widget out of its cell is
 pub record TakesOut (es : List (ℕ × Row)) (cells : List (Option ℕ)) (id parent : ℕ) (cell : Cell) : Type 0 where
   pub column : IsIndex cell.column
   pub line : IsIndex cell.row
   pub within : cell_place parent cell.column cell.row < length cells
-  pub children : HasChildren (with_row id (with_spot None) es) (set cells (cell_place parent cell.column cell.row) None)
+  pub children : HasChildren (with_row id (with_attached None) es) (set cells (cell_place parent cell.column cell.row) None)
 
 there_within : (cells : List (Option ℕ)) (place id : ℕ) → get_or cells place None ≡ Some id → place < length cells
 there_within cells place id h = by (cases_lt place (length cells))
@@ -44,13 +44,13 @@ there_within cells place id h = by (cases_lt place (length cells))
     by (inl less) = less
     by (inr past) = absurd (let none : get_or cells place None ≡ None = get_or_past cells place None past in cc)
 
-pub TakesOut-parent : (es : List (ℕ × Row)) (cells : List (Option ℕ)) (id : ℕ) (row : Row) (name : List ℕ) (cell : Cell) (parent : ℕ) → IsGrove es → HasChildren es cells → row_at es id ≡ Some row → row.spot ≡ Some (name, cell) → parent_id (widgets_in es) id ≡ Some parent → TakesOut es cells id parent cell
-TakesOut-parent es cells id row name cell parent grove children there spot found =
-    let h = spot-hangs es id row name cell grove there spot in
-    let same : parent ≡ h.number = let one : Some parent ≡ Some h.number = sym found ∙ parent_id-row es id row name cell there spot ∙ h.numbered in cc in
-    let here = children.each h.number cell.column cell.row h.cell_is.column h.cell_is.line ∙ hangs-child_id es id h.number cell.column cell.row grove (HangsUnder-HangsAt es id row name cell there spot h) in
+pub TakesOut-parent : (es : List (ℕ × Row)) (cells : List (Option ℕ)) (id : ℕ) (row : Row) (name : List ℕ) (cell : Cell) (parent : ℕ) → IsGrove es → HasChildren es cells → row_at es id ≡ Some row → row.attached ≡ Some (name, cell) → parent_id (widgets_in es) id ≡ Some parent → TakesOut es cells id parent cell
+TakesOut-parent es cells id row name cell parent grove children there attached found =
+    let h = attached-hangs es id row name cell grove there attached in
+    let same : parent ≡ h.number = let one : Some parent ≡ Some h.number = sym found ∙ parent_id-row es id row name cell there attached ∙ h.numbered in cc in
+    let here = children.each h.number cell.column cell.row h.cell_is.column h.cell_is.line ∙ hangs-child_id es id h.number cell.column cell.row grove (HangsUnder-HangsAt es id row name cell there attached h) in
     let within = there_within cells (cell_place h.number cell.column cell.row) id here in
-    let own : row.spot ≡ Some (h.upper.name, cell) = spot ∙ ap (λ (n : List ℕ). Some (n, cell)) (sym h.named) in
+    let own : row.attached ≡ Some (h.upper.name, cell) = attached ∙ ap (λ (n : List ℕ). Some (n, cell)) (sym h.named) in
     record {
       column = h.cell_is.column;
       line = h.cell_is.line;
@@ -59,28 +59,28 @@ TakesOut-parent es cells id row name cell parent grove children there spot found
     }
 
 -- without a parent nothing is taken out
-pub HasChildren-alone : (es : List (ℕ × Row)) (cells : List (Option ℕ)) (id : ℕ) (row : Row) → IsGrove es → HasChildren es cells → row_at es id ≡ Some row → row.spot ≡ None → HasChildren (with_row id (with_spot None) es) cells
+pub HasChildren-alone : (es : List (ℕ × Row)) (cells : List (Option ℕ)) (id : ℕ) (row : Row) → IsGrove es → HasChildren es cells → row_at es id ≡ Some row → row.attached ≡ None → HasChildren (with_row id (with_attached None) es) cells
 HasChildren-alone es cells id row grove children there alone =
-    HasChildren-still es id (with_spot None) (λ row. refl) cells grove (IsGrove-unhang es id row grove there) (λ other r at. by other r at (nat_eq id other) refl) children
+    HasChildren-still es id (with_attached None) (λ row. refl) cells grove (IsGrove-unhang es id row grove there) (λ other r at. by other r at (nat_eq id other) refl) children
   where
-    by : (other : ℕ) (r : Row) → row_at es other ≡ Some r → (b : Bool) → nat_eq id other ≡ b → (cond b (with_spot None r) r).spot ≡ r.spot
+    by : (other : ℕ) (r : Row) → row_at es other ≡ Some r → (b : Bool) → nat_eq id other ≡ b → (cond b (with_attached None r) r).attached ≡ r.attached
     by other r at true q =
         let one : Some r ≡ Some row = sym at ∙ ap (row_at es) (sym (eqb-true id other q)) ∙ there in
         let same : row ≡ r = cc in
-        sym alone ∙ ap (λ (x : Row). x.spot) same
+        sym alone ∙ ap (λ (x : Row). x.attached) same
     by other r at false q = refl
 
 -- the number of a parent, a child or a root is live
 pub parent_id-live : (es : List (ℕ × Row)) (id key : ℕ) → parent_id (widgets_in es) id ≡ Some key → is_some (row_at es key) ≡ true
 parent_id-live es id key h = by (row_at es id) h
   where
-    at : (row : Row) (spot : Option (List ℕ × Cell)) → option_and_then (λ (s : List ℕ × Cell). id_named (nodes es) row.client s.0) spot ≡ Some key → is_some (row_at es key) ≡ true
+    at : (row : Row) (attached : Option (List ℕ × Cell)) → option_and_then (λ (s : List ℕ × Cell). id_named (nodes es) row.client s.0) attached ≡ Some key → is_some (row_at es key) ≡ true
     at row None k = absurd (cc)
     at row (Some s) k = row_live es key ∙ named-live (nodes es) row.client s.0 key k
 
-    by : (o : Option Row) → option_and_then (λ (row : Row). option_and_then (λ (s : List ℕ × Cell). id_named (nodes es) row.client s.0) row.spot) o ≡ Some key → is_some (row_at es key) ≡ true
+    by : (o : Option Row) → option_and_then (λ (row : Row). option_and_then (λ (s : List ℕ × Cell). id_named (nodes es) row.client s.0) row.attached) o ≡ Some key → is_some (row_at es key) ≡ true
     by None k = absurd (cc)
-    by (Some row) k = at row row.spot k
+    by (Some row) k = at row row.attached k
 
 pub child_id-live : (es : List (ℕ × Row)) (id column line key : ℕ) → IsGrove es → child_id (widgets_in es) id column line ≡ Some key → is_some (row_at es key) ≡ true
 child_id-live es id column line key grove h = ap is_some (child_id-hangs es key id column line grove h).lower_there

@@ -6,7 +6,7 @@ use Rattle.std.specs.Option.{option_and_then}
 use Rattle.widget_model.specs.Rows.{Row}
 use Rattle.widget_model.specs.Nodes.{Node, node_of, node_at, id_named, kind_named, is_named}
 use Rattle.widget_model.specs.Links.{ties, leads, all_lead, is_variable}
-use Rattle.widget_model.specs.Places.{child_id}
+use Rattle.widget_model.specs.Relatives.{child_id}
 use Rattle.widget_model.specs.Trees.{child_in}
 use Rattle.widget_model.specs.Widgets.{row_at, nodes}
 use Rattle.widget_model.specs.Forest.{HaveOwnNumbers, HaveOwnNames}
@@ -123,7 +123,7 @@ HasChildren-kept test es cells new_cells old new stay same empty h = record { ea
           lower_there = row_at-kept test es below hangs.lower hangs.lower_there (stay below above column line hangs pass);
           owner = hangs.owner;
           cell = hangs.cell;
-          spot = hangs.spot;
+          attached = hangs.attached;
           column_is = hangs.column_is;
           line_is = hangs.line_is;
         }
@@ -137,7 +137,7 @@ HasChildren-kept test es cells new_cells old new stay same empty h = record { ea
           lower_there = (row_at-was_kept test es below hangs.lower hangs.lower_there).1;
           owner = hangs.owner;
           cell = hangs.cell;
-          spot = hangs.spot;
+          attached = hangs.attached;
           column_is = hangs.column_is;
           line_is = hangs.line_is;
         }

@@ -6,7 +6,7 @@ use Rattle.std.specs.Option.{option_map}
 use Rattle.kind_core.specs.declared.kinds.Kind.{Kind}
 use Rattle.kind_core.specs.declared.kinds.Kind.TheVariants.{Grid}
 use Rattle.kind_core.specs.declared.shapes.Cell.{Cell}
-use Rattle.widget_model.specs.Rows.{Row, with_link, with_spot, new_row}
+use Rattle.widget_model.specs.Rows.{Row, with_link, with_attached, new_row}
 use Rattle.widget_model.specs.Nodes.{Node, node_of, node_at, is_number_of, first_number}
 use Rattle.widget_model.specs.Planted.{IsPlanted}
 use Rattle.widget_model.specs.Fitting.{fits_table}
@@ -70,11 +70,11 @@ fits_at es id row fitting there =
 pub record LeavesTies (change : Row → Row) : Type 0 where
   pub node : (row : Row) → node_of (change row) ≡ node_of row
   pub link : (row : Row) → (change row).link ≡ row.link
-  pub spot : (row : Row) → (change row).spot ≡ row.spot
+  pub attached : (row : Row) → (change row).attached ≡ row.attached
 
 module _ (clients : List ℕ) (names : List ((ℕ × List ℕ) × ℕ)) (es : List (ℕ × Row)) (cells : List (Option ℕ)) (id : ℕ) (change : Row → Row) (row : Row) (tree : IsTree clients names es cells) (there : row_at es id ≡ Some row) where
   -- a change that leaves where the row hangs
-  IsTree-still : ((row : Row) → node_of (change row) ≡ node_of row) → ((row : Row) → (change row).spot ≡ row.spot) → all_lead (nodes es) (ties (with_row id change es)) ≡ true → fits_table (change row) ≡ true → IsTree clients names (with_row id change es) cells
+  IsTree-still : ((row : Row) → node_of (change row) ≡ node_of row) → ((row : Row) → (change row).attached ≡ row.attached) → all_lead (nodes es) (ties (with_row id change es)) ≡ true → fits_table (change row) ≡ true → IsTree clients names (with_row id change es) cells
   IsTree-still same still linked fits =
       let grove = IsGrove-tree clients names es cells tree in
       let new = IsGrove-leaves es id change row same still grove there in
@@ -83,13 +83,13 @@ module _ (clients : List ℕ) (names : List ((ℕ × List ℕ) × ℕ)) (es : Li
       (HasChildren-still es id change same cells grove new (λ below r at. by r (nat_eq id below)) tree.children)
       refl tree
     where
-      by : (r : Row) (b : Bool) → (cond b (change r) r).spot ≡ r.spot
+      by : (r : Row) (b : Bool) → (cond b (change r) r).attached ≡ r.attached
       by r true = still r
       by r false = refl
 
   pub IsTree-leaves : LeavesTies change → fits_table (change row) ≡ true → IsTree clients names (with_row id change es) cells
   IsTree-leaves leaves fits =
-      IsTree-still leaves.node leaves.spot (ap (all_lead (nodes es)) (ties-with_row es id change (λ r. (leaves.node r, leaves.link r))) ∙ tree.linked) fits
+      IsTree-still leaves.node leaves.attached (ap (all_lead (nodes es)) (ties-with_row es id change (λ r. (leaves.node r, leaves.link r))) ∙ tree.linked) fits
 
 -- a link to a Variable
 pub IsTree-with_link : (clients : List ℕ) (names : List ((ℕ × List ℕ) × ℕ)) (es : List (ℕ × Row)) (cells : List (Option ℕ)) (id : ℕ) (row : Row) (link : Option (List ℕ)) → row_at es id ≡ Some row → leads (nodes es) row.client link ≡ true → IsTree clients names es cells → IsTree clients names (with_row id (with_link link) es) cells
@@ -168,12 +168,12 @@ IsTree-push clients names new_names es cells id client name kind absent allowed 
     }
 
 -- a widget that is hung in another, or taken out of one
-pub IsTree-spot : (clients : List ℕ) (names : List ((ℕ × List ℕ) × ℕ)) (es : List (ℕ × Row)) (cells new_cells : List (Option ℕ)) (id : ℕ) (spot : Option (List ℕ × Cell)) (row : Row) → row_at es id ≡ Some row → IsGrove (with_row id (with_spot spot) es) → HasChildren (with_row id (with_spot spot) es) new_cells → length new_cells ≡ length cells → IsTree clients names es cells → IsTree clients names (with_row id (with_spot spot) es) new_cells
-IsTree-spot clients names es cells new_cells id spot row there grove children len tree =
-    IsTree-with_row clients names es cells new_cells id (with_spot spot) (λ r. refl)
-    (ap (all_lead (nodes es)) (ties-with_row es id (with_spot spot) (λ r. (refl, refl))) ∙ tree.linked)
+pub IsTree-attached : (clients : List ℕ) (names : List ((ℕ × List ℕ) × ℕ)) (es : List (ℕ × Row)) (cells new_cells : List (Option ℕ)) (id : ℕ) (attached : Option (List ℕ × Cell)) (row : Row) → row_at es id ≡ Some row → IsGrove (with_row id (with_attached attached) es) → HasChildren (with_row id (with_attached attached) es) new_cells → length new_cells ≡ length cells → IsTree clients names es cells → IsTree clients names (with_row id (with_attached attached) es) new_cells
+IsTree-attached clients names es cells new_cells id attached row there grove children len tree =
+    IsTree-with_row clients names es cells new_cells id (with_attached attached) (λ r. refl)
+    (ap (all_lead (nodes es)) (ties-with_row es id (with_attached attached) (λ r. (refl, refl))) ∙ tree.linked)
     grove.planted
-    (fitting-with_row es id (with_spot spot) row tree.forest.own_numbers there (fits_at es id row tree.fitting there) tree.fitting)
+    (fitting-with_row es id (with_attached attached) row tree.forest.own_numbers there (fits_at es id row tree.fitting there) tree.fitting)
     children len tree
 
 -- what holds of all nodes holds of a numbered row's

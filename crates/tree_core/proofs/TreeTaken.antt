@@ -14,7 +14,7 @@ use Rattle.widget_model.specs.Trees.{hangs, is_child, links_to, is_used}
 use Rattle.widget_model.specs.Planted.{IsPlanted}
 use Rattle.widget_model.specs.Fitting.{fits_table}
 use Rattle.widget_model.specs.Links.{ties, all_lead}
-use Rattle.widget_model.specs.Places.{child_id}
+use Rattle.widget_model.specs.Relatives.{child_id}
 use Rattle.widget_model.specs.Widgets.{row_at, nodes, without_row, is_joined}
 use Rattle.widget_model.specs.Forest.{is_client}
 use Rattle.widget_model.proofs.Naming.{rows-without_row, id_named-row}
@@ -72,7 +72,7 @@ none_at p xs i x h there = by (p x) refl
 -- a row that isn't used
 pub record IsFree (es : List (ℕ × Row)) (id : ℕ) (row : Row) : Type 0 where
   pub there : row_at es id ≡ Some row
-  pub alone : row.spot ≡ None
+  pub alone : row.attached ≡ None
   pub childless : list_any (is_child row.client row.name) (rows_in es) ≡ false
   pub unlinked : list_any (links_to row.client row.name) (rows_in es) ≡ false
 
@@ -80,9 +80,9 @@ pub IsFree-unused : (es : List (ℕ × Row)) (id : ℕ) (row : Row) → row_at e
 IsFree-unused es id row there unused =
     let parts = or_parts (hangs row) (list_any (is_child row.client row.name) (rows_in es) || list_any (links_to row.client row.name) (rows_in es)) unused in
     let rest = or_parts (list_any (is_child row.client row.name) (rows_in es)) (list_any (links_to row.client row.name) (rows_in es)) parts.1 in
-    record { there = there; alone = by row.spot parts.0; childless = rest.0; unlinked = rest.1 }
+    record { there = there; alone = by row.attached parts.0; childless = rest.0; unlinked = rest.1 }
   where
-    by : (spot : Option (List ℕ × Cell)) → option_map_or (λ (s : List ℕ × Cell). true) spot false ≡ false → spot ≡ None
+    by : (attached : Option (List ℕ × Cell)) → option_map_or (λ (s : List ℕ × Cell). true) attached false ≡ false → attached ≡ None
     by None h = refl
     by (Some s) h = absurd (true≢false h)
 
@@ -132,7 +132,7 @@ module _ (clients : List ℕ) (names new_names : List ((ℕ × List ℕ) × ℕ)
   children-without : HasChildren (kept (λ (other : ℕ). not (nat_eq id other)) es) cells
   children-without =
       HasChildren-kept (λ (other : ℕ). not (nat_eq id other)) es cells cells grove (IsGrove-kept (λ (other : ℕ). not (nat_eq id other)) es grove planted-without)
-      (λ below above column line h pass. is_other below h.lower h.lower_there (λ same. let none : None ≡ Some (h.upper.name, h.cell) = sym free.alone ∙ ap (λ (r : Row). r.spot) (sym same) ∙ h.spot in cc))
+      (λ below above column line h pass. is_other below h.lower h.lower_there (λ same. let none : None ≡ Some (h.upper.name, h.cell) = sym free.alone ∙ ap (λ (r : Row). r.attached) (sym same) ∙ h.attached in cc))
       (λ above column line c l pass. refl)
       (λ above column line c l out. tree.children.each above column line c l ∙ none above column line out (child_id (widgets_in es) above column line) refl)
       tree.children
@@ -150,10 +150,10 @@ module _ (clients : List ℕ) (names new_names : List ((ℕ × List ℕ) × ℕ)
               let one : Some h.upper ≡ Some row = sym h.upper_there ∙ ap (row_at es) (sym (eqb-true id above r)) ∙ free.there in
               let same : h.upper ≡ row = cc in
               let place = numbered_place es below h.lower h.lower_there in
-              let no : (nat_eq row.client h.lower.client && option_map_or (λ (s : List ℕ × Cell). bytes_eq row.name s.0) h.lower.spot false) ≡ false = none_at (is_child row.client row.name) (rows_in es) place.0 h.lower free.childless place.1 in
+              let no : (nat_eq row.client h.lower.client && option_map_or (λ (s : List ℕ × Cell). bytes_eq row.name s.0) h.lower.attached false) ≡ false = none_at (is_child row.client row.name) (rows_in es) place.0 h.lower free.childless place.1 in
               let own : nat_eq row.client h.lower.client ≡ true = eq-eqb row.client h.lower.client (sym (h.owner ∙ ap (λ (r : Row). r.client) same)) in
-              let spot : option_map_or (λ (s : List ℕ × Cell). bytes_eq row.name s.0) h.lower.spot false ≡ true = ap (λ (o : Option (List ℕ × Cell)). option_map_or (λ (s : List ℕ × Cell). bytes_eq row.name s.0) o false) (h.spot ∙ ap (λ (r : Row). Some (r.name, h.cell)) same) ∙ nat_list_eq_equiv.refl row.name in
-              true≢false (sym (and_from (nat_eq row.client h.lower.client) (option_map_or (λ (s : List ℕ × Cell). bytes_eq row.name s.0) h.lower.spot false) own spot) ∙ no)
+              let attached : option_map_or (λ (s : List ℕ × Cell). bytes_eq row.name s.0) h.lower.attached false ≡ true = ap (λ (o : Option (List ℕ × Cell)). option_map_or (λ (s : List ℕ × Cell). bytes_eq row.name s.0) o false) (h.attached ∙ ap (λ (r : Row). Some (r.name, h.cell)) same) ∙ nat_list_eq_equiv.refl row.name in
+              true≢false (sym (and_from (nat_eq row.client h.lower.client) (option_map_or (λ (s : List ℕ × Cell). bytes_eq row.name s.0) h.lower.attached false) own attached) ∙ no)
 
   -- a row that isn't used is taken out
   pub IsTree-without : IsIndexed new_names (nodes (without_row id es)) → IsTree clients new_names (without_row id es) cells

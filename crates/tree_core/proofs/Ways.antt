@@ -15,13 +15,13 @@ use Rattle.tree_core.proofs.Listed.{row_named-row}
 use Rattle.widget_model.proofs.Planting.{row_named-root}
 
 -- the parent of a name is what the row under the name's number says
-pub parent_of-found : (es : List (ℕ × Row)) (client : ℕ) (name : List ℕ) (id : ℕ) (row : Row) → IsGrove es → id_named (nodes es) client name ≡ Some id → row_at es id ≡ Some row → parent_of (rows_in es) client name ≡ option_map (λ (spot : List ℕ × Cell). spot.0) row.spot
+pub parent_of-found : (es : List (ℕ × Row)) (client : ℕ) (name : List ℕ) (id : ℕ) (row : Row) → IsGrove es → id_named (nodes es) client name ≡ Some id → row_at es id ≡ Some row → parent_of (rows_in es) client name ≡ option_map (λ (attached : List ℕ × Cell). attached.0) row.attached
 parent_of-found es client name id row grove found there =
     let named : row_named (rows_in es) client name ≡ Some row = row_named-found es client name id grove.own_numbers found ∙ there in
-    ap (option_and_then (λ (r : Row). option_map (λ (spot : List ℕ × Cell). spot.0) r.spot)) named
+    ap (option_and_then (λ (r : Row). option_map (λ (attached : List ℕ × Cell). attached.0) r.attached)) named
 
 pub parent_of-none : (es : List (ℕ × Row)) (client : ℕ) (name : List ℕ) → id_named (nodes es) client name ≡ None → parent_of (rows_in es) client name ≡ None
-parent_of-none es client name absent = ap (option_and_then (λ (r : Row). option_map (λ (spot : List ℕ × Cell). spot.0) r.spot)) (row_named-none es client name absent)
+parent_of-none es client name absent = ap (option_and_then (λ (r : Row). option_map (λ (attached : List ℕ × Cell). attached.0) r.attached)) (row_named-none es client name absent)
 
 -- the root of a numbered widget has a number
 pub root-numbered : (most : ℕ) (es : List (ℕ × Row)) (id : ℕ) (row : Row) → IsGrove es → row_at es id ≡ Some row → is_some (id_named (nodes es) row.client (root_in most (rows_in es) row.client row.name)) ≡ true

@@ -4,7 +4,7 @@ use Rattle.kind_core.specs.declared.kinds.Kind.{Kind}
 use Rattle.kind_core.specs.declared.kinds.Kind.TheVariants.{Window, Grid, Frame}
 use Rattle.widget_model.specs.Rows.{Row, IsIndex}
 use Rattle.widget_model.specs.Widgets.{Widgets}
-use Rattle.widget_model.specs.Places.{child_id}
+use Rattle.widget_model.specs.Relatives.{child_id}
 use Rattle.row_store.specs.Places.{cell_place}
 
 -- how many cells a widget of the kind has

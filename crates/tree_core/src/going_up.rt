@@ -1,6 +1,6 @@
 ghost use Rattle.std.specs.Prelude.{◌≡◌, ◌≤◌, Some, IsSome};
 ghost use Rattle.widget_model.specs.Trees.{parent_of, depth_in, is_above_in, root_in, most_levels};
-ghost use Rattle.widget_model.specs.Places.{parent_id, root_id};
+ghost use Rattle.widget_model.specs.Relatives.{parent_id, root_id};
 ghost use Rattle.widget_model.specs.Widgets.{row_at, nodes};
 ghost use Rattle.tree_core.specs.Children.{rows_in, widgets_in};
 ghost use Rattle.row_store.specs.Index.{IsIndexed};
@@ -27,7 +27,7 @@ fn parent_of(names: &Names, store: &Store, client: u32, name: &Name) -> Option<N
     ensures { result ≡ parent_of (rows_in store.now) client name.now }
 {
     match number_of(names, store, client, name) {
-        Some(id) => match store.row(id).spot() {
+        Some(id) => match store.row(id).attached() {
             Some((parent, _)) => Some(parent),
             None => None,
         },
@@ -98,7 +98,7 @@ pub(crate) fn parent_number(names: &Names, store: &Store, id: u32) -> Option<u32
     ensures { result ≡ parent_id (widgets_in store.now) id }
 {
     let row = store.row(id);
-    match row.spot() {
+    match row.attached() {
         Some((parent, _)) => number_of(names, store, row.client(), &parent),
         None => None,
     }

@@ -1,8 +1,8 @@
 ghost use Rattle.std.specs.Prelude.{◌≡◌, ◌<◌, Some, None, IsSome, length, true, false};
 ghost use Rattle.std.specs.Option.{option_map, option_map_or};
-ghost use Rattle.widget_model.specs.Rows.{with_spot};
+ghost use Rattle.widget_model.specs.Rows.{with_attached};
 ghost use Rattle.widget_model.specs.Trees.{hangs, has_children, can_be_child};
-ghost use Rattle.widget_model.specs.Places.{child_id};
+ghost use Rattle.widget_model.specs.Relatives.{child_id};
 ghost use Rattle.widget_model.specs.Planted.{takes_cell};
 ghost use Rattle.widget_model.specs.Links.{name_at};
 ghost use Rattle.widget_model.specs.Widgets.{row_at, row_kind, row_client, nodes, with_row};
@@ -36,7 +36,7 @@ fn can_be_child(kind: Kind) -> bool
 pub(crate) fn hangs(row: &Row) -> bool
     ensures { result ≡ hangs row.now }
 {
-    row.spot().is_some()
+    row.attached().is_some()
 }
 
 /// Why the child can't hang in that cell of the parent.
@@ -90,14 +90,14 @@ pub(crate) fn hang(store: &mut Store, cells: &mut Cells, parent: u32, child: u32
     requires cell { option_map_or (λ kind. takes_cell kind cell) (row_kind store.old parent) false ≡ true }
     requires answer { attach_answer (widgets_in store.old) parent child cell ≡ Some None }
     requires within { cell_place parent cell.column cell.row < length cells.old }
-    ensures rows { store.new ≡ with_row child (with_spot (option_map (λ name. (name, cell)) (name_at store.old parent))) store.old }
+    ensures rows { store.new ≡ with_row child (with_attached (option_map (λ name. (name, cell)) (name_at store.old parent))) store.old }
     ensures grove { IsGrove store.new }
     ensures children { HasChildren store.new cells.new }
     ensures length { length cells.new ≡ length cells.old }
 {
     let name = store.row(parent).name();
-    let spot = Some((name, cell));
-    store.change(child, Change::Spot { spot });
+    let attached = Some((name, cell));
+    store.change(child, Change::Attached { attached });
     cells.put(parent, cell.column, cell.row, Some(child));
 }
 
@@ -107,10 +107,10 @@ fn empty_cell(names: &Names, store: &Store, cells: &mut Cells, child: u32)
     requires grove { IsGrove store.now }
     requires children { HasChildren store.now cells.old }
     requires child { IsSome (row_at store.now child) }
-    ensures children { HasChildren (with_row child (with_spot None) store.now) cells.new }
+    ensures children { HasChildren (with_row child (with_attached None) store.now) cells.new }
     ensures length { length cells.new ≡ length cells.old }
 {
-    match store.row(child).spot() {
+    match store.row(child).attached() {
         Some((_, cell)) => match parent_number(names, store, child) {
             Some(parent) => cells.put(parent, cell.column, cell.row, None),
             None => {}
@@ -125,13 +125,13 @@ pub(crate) fn unhang(names: &Names, store: &mut Store, cells: &mut Cells, child:
     requires grove { IsGrove store.old }
     requires children { HasChildren store.old cells.old }
     requires child { IsSome (row_at store.old child) }
-    ensures rows { store.new ≡ with_row child (with_spot None) store.old }
+    ensures rows { store.new ≡ with_row child (with_attached None) store.old }
     ensures grove { IsGrove store.new }
     ensures children { HasChildren store.new cells.new }
     ensures length { length cells.new ≡ length cells.old }
 {
     empty_cell(names, store, cells, child);
-    store.change(child, Change::Spot { spot: None });
+    store.change(child, Change::Attached { attached: None });
 }
 
 /// The number of the child in that column and row of the live widget.

@@ -2,14 +2,14 @@ ghost use Rattle.std.specs.Prelude.{ℕ, ◌≡◌, ◌<◌, ◌≤◌, nat_eq, 
 ghost use Rattle.std.specs.Option.{option_map, option_map_or, option_and_then};
 ghost use Rattle.std.specs.Result.{result_err};
 ghost use Rattle.kind_core.specs.Attributes.{domain_of, judged};
-ghost use Rattle.widget_model.specs.Rows.{new_row, attr_of, with_attr, column_rule_of, with_column_rule, row_rule_of, with_row_rule, binding_of, with_binding, with_link, with_spot};
+ghost use Rattle.widget_model.specs.Rows.{new_row, attr_of, with_attr, column_rule_of, with_column_rule, row_rule_of, with_row_rule, binding_of, with_binding, with_link, with_attached};
 ghost use Rattle.widget_model.specs.Nodes.{id_named, count_of, any_kind};
 ghost use Rattle.widget_model.specs.Widgets.{no_widgets, is_joined, row_at, nodes, rows_of, IsLive, IsGrid, KeepsLive, edited, with_new, removed, joined, departed, row_kind, row_client};
 ghost use Rattle.widget_model.specs.Links.{linked_id, name_at};
 ghost use Rattle.widget_model.specs.Forest.{IsWidgets};
 ghost use Rattle.widget_model.specs.Trees.{is_used};
 ghost use Rattle.widget_model.specs.Planted.{takes_cell};
-ghost use Rattle.widget_model.specs.Places.{parent_id, child_id, root_id};
+ghost use Rattle.widget_model.specs.Relatives.{parent_id, child_id, root_id};
 ghost use Rattle.widget_model.specs.Rows.{IsIndex};
 ghost use Rattle.tree_core.specs.Refusals.{add_refusal, AnswersRefusal, attach_answer};
 
@@ -330,7 +330,7 @@ impl Tree {
         requires owner { row_client self.old.entries parent.key ≡ row_client self.old.entries child.key }
         requires cell { option_map_or (λ kind. takes_cell kind cell) (row_kind self.old.entries parent.key) false ≡ true }
         ensures answer { attach_answer self.old parent.key child.key cell ≡ Some (result_err result) }
-        ensures ok { OnOk result (self.new ≡ edited child.key (with_spot (option_map (λ name. (name, cell)) (name_at self.old.entries parent.key))) self.old) }
+        ensures ok { OnOk result (self.new ≡ edited child.key (with_attached (option_map (λ name. (name, cell)) (name_at self.old.entries parent.key))) self.old) }
         ensures err { OnErr result (self.new ≡ self.old) }
         ensures kept { KeepsLive self.old self.new }
         ensures valid { IsWidgets self.new }
@@ -360,7 +360,7 @@ impl Tree {
     /// maps, whatever the number of rows.
     pub fn detach(&mut self, child: Id)
         requires { IsLive self.old child.key }
-        ensures spot { self.new ≡ edited child.key (with_spot None) self.old }
+        ensures attached { self.new ≡ edited child.key (with_attached None) self.old }
         ensures kept { KeepsLive self.old self.new }
         ensures valid { IsWidgets self.new }
     {
@@ -448,10 +448,10 @@ impl Tree {
     /// look-up in a hash map.
     pub fn cell(&self, id: Id) -> Option<Cell>
         requires { IsLive self.now id.key }
-        ensures cell { option_map (λ row. option_map (λ spot. spot.1) row.spot) (row_at self.now.entries id.key) ≡ Some result }
+        ensures cell { option_map (λ row. option_map (λ attached. attached.1) row.attached) (row_at self.now.entries id.key) ≡ Some result }
         ensures valid { IsWidgets self.now }
     {
-        match self.store.row(id.key).spot() {
+        match self.store.row(id.key).attached() {
             Some((_, cell)) => Some(cell),
             None => None,
         }

@@ -208,13 +208,13 @@ row_named-filter test rows client name kept =
 
 -- the parent that a found row names
 abbrev pub parent_in : Option Row → Option (List ℕ)
-parent_in o = option_and_then (λ (row : Row). option_map (λ (spot : List ℕ × Cell). spot.0) row.spot) o
+parent_in o = option_and_then (λ (row : Row). option_map (λ (attached : List ℕ × Cell). attached.0) row.attached) o
 
-pub parent_in-loose : (row : Row) → row.spot ≡ None → parent_in (Some row) ≡ None
-parent_in-loose row loose = ap (λ (o : Option (List ℕ × Cell)). option_map (λ (spot : List ℕ × Cell). spot.0) o) loose
+pub parent_in-loose : (row : Row) → row.attached ≡ None → parent_in (Some row) ≡ None
+parent_in-loose row loose = ap (λ (o : Option (List ℕ × Cell)). option_map (λ (attached : List ℕ × Cell). attached.0) o) loose
 
-pub parent_in-same : (row other : Row) → row.spot ≡ other.spot → parent_in (Some row) ≡ parent_in (Some other)
-parent_in-same row other same = ap (λ (o : Option (List ℕ × Cell)). option_map (λ (spot : List ℕ × Cell). spot.0) o) same
+pub parent_in-same : (row other : Row) → row.attached ≡ other.attached → parent_in (Some row) ≡ parent_in (Some other)
+parent_in-same row other same = ap (λ (o : Option (List ℕ × Cell)). option_map (λ (attached : List ℕ × Cell). attached.0) o) same
 
 -- the row that a parent is the parent of
 pub record HangsIn (rows : List Row) (client : ℕ) (name parent : List ℕ) : Type 0 where
@@ -224,33 +224,33 @@ pub record HangsIn (rows : List Row) (client : ℕ) (name parent : List ℕ) : T
   pub there : slice_get rows i ≡ Some row
   pub found : row_named rows client name ≡ Some row
   pub named : IsNamed client name row
-  pub spot : row.spot ≡ Some (parent, cell)
+  pub attached : row.attached ≡ Some (parent, cell)
 
 pub HangsIn-from : (rows : List Row) (client : ℕ) (name parent : List ℕ) → parent_of rows client name ≡ Some parent → HangsIn rows client name parent
 HangsIn-from rows client name parent h = by (row_named rows client name) refl h
   where
     by : (o : Option Row) → row_named rows client name ≡ o → parent_in o ≡ Some parent → HangsIn rows client name parent
     by None found h = absurd (cc)
-    by (Some row) found h = inside row.spot refl h
+    by (Some row) found h = inside row.attached refl h
       where
-        inside : (spot : Option (List ℕ × Cell)) → row.spot ≡ spot → option_map (λ (spot : List ℕ × Cell). spot.0) spot ≡ Some parent → HangsIn rows client name parent
+        inside : (attached : Option (List ℕ × Cell)) → row.attached ≡ attached → option_map (λ (attached : List ℕ × Cell). attached.0) attached ≡ Some parent → HangsIn rows client name parent
         inside None hangs h = absurd (cc)
-        inside (Some spot) hangs h =
+        inside (Some attached) hangs h =
             let place = find-element _ rows row found in
-            let same : spot.0 ≡ parent = cc in
+            let same : attached.0 ≡ parent = cc in
             record {
               i = place.0;
               row = row;
-              cell = spot.1;
+              cell = attached.1;
               there = place.1;
               found = found;
               named = IsNamed-row_named rows client name row found;
-              spot = hangs ∙ ap (λ (above : List ℕ). Some (above, spot.1)) same;
+              attached = hangs ∙ ap (λ (above : List ℕ). Some (above, attached.1)) same;
             }
 
 pub HangsIn-child : (rows : List Row) (client : ℕ) (name parent : List ℕ) (h : HangsIn rows client name parent) → is_child client parent h.row ≡ true
 HangsIn-child rows client name parent h =
-    rw (h.named.client_is, h.spot) (and_from _ _ (nat_eq_equiv.refl client) (nat_list_eq_equiv.refl parent))
+    rw (h.named.client_is, h.attached) (and_from _ _ (nat_eq_equiv.refl client) (nat_list_eq_equiv.refl parent))
 
 -- what hanging right says of a row that hangs
 pub record IsHungRight (rows : List Row) (row : Row) (name : List ℕ) (cell : Cell) : Type 0 where
@@ -259,20 +259,20 @@ pub record IsHungRight (rows : List Row) (row : Row) (name : List ℕ) (cell : C
   pub found : row_named rows row.client name ≡ Some upper
   pub has_cell : has_cell upper.kind cell ≡ true
 
-pub hangs_right-at : (rows : List Row) (row : Row) (name : List ℕ) (cell : Cell) → hangs_right rows row ≡ true → row.spot ≡ Some (name, cell) → IsHungRight rows row name cell
+pub hangs_right-at : (rows : List Row) (row : Row) (name : List ℕ) (cell : Cell) → hangs_right rows row ≡ true → row.attached ≡ Some (name, cell) → IsHungRight rows row name cell
 hangs_right-at rows row name cell right is =
-    let whole : (can_be_child row.kind && option_map_or (λ (parent : Row). has_cell parent.kind cell) (row_named rows row.client name) false) ≡ true = sym (ap (λ (o : Option (List ℕ × Cell)). option_map_or (λ (spot : List ℕ × Cell). can_be_child row.kind && option_map_or (λ (parent : Row). has_cell parent.kind spot.1) (row_named rows row.client spot.0) false) o true) is) ∙ right in
+    let whole : (can_be_child row.kind && option_map_or (λ (parent : Row). has_cell parent.kind cell) (row_named rows row.client name) false) ≡ true = sym (ap (λ (o : Option (List ℕ × Cell)). option_map_or (λ (attached : List ℕ × Cell). can_be_child row.kind && option_map_or (λ (parent : Row). has_cell parent.kind attached.1) (row_named rows row.client attached.0) false) o true) is) ∙ right in
     by (row_named rows row.client name) refl (and_parts (can_be_child row.kind) (option_map_or (λ (parent : Row). has_cell parent.kind cell) (row_named rows row.client name) false) whole)
   where
     by : (o : Option Row) → row_named rows row.client name ≡ o → (can_be_child row.kind ≡ true) × (option_map_or (λ (parent : Row). has_cell parent.kind cell) o false ≡ true) → IsHungRight rows row name cell
     by None found parts = absurd (true≢false (sym parts.1))
     by (Some upper) found parts = record { upper = upper; can_be_child = parts.0; found = found; has_cell = parts.1 }
 
-pub hangs_right-from : (rows : List Row) (row : Row) → ((name : List ℕ) (cell : Cell) → row.spot ≡ Some (name, cell) → IsHungRight rows row name cell) → hangs_right rows row ≡ true
-hangs_right-from rows row each = by row.spot refl
+pub hangs_right-from : (rows : List Row) (row : Row) → ((name : List ℕ) (cell : Cell) → row.attached ≡ Some (name, cell) → IsHungRight rows row name cell) → hangs_right rows row ≡ true
+hangs_right-from rows row each = by row.attached refl
   where
-    by : (o : Option (List ℕ × Cell)) → row.spot ≡ o → option_map_or (λ (spot : List ℕ × Cell). can_be_child row.kind && option_map_or (λ (parent : Row). has_cell parent.kind spot.1) (row_named rows row.client spot.0) false) o true ≡ true
+    by : (o : Option (List ℕ × Cell)) → row.attached ≡ o → option_map_or (λ (attached : List ℕ × Cell). can_be_child row.kind && option_map_or (λ (parent : Row). has_cell parent.kind attached.1) (row_named rows row.client attached.0) false) o true ≡ true
     by None is = refl
-    by (Some spot) is =
-        let right = each spot.0 spot.1 is in
-        and_from _ _ right.can_be_child (ap (λ (o : Option Row). option_map_or (λ (parent : Row). has_cell parent.kind spot.1) o false) right.found ∙ right.has_cell)
+    by (Some attached) is =
+        let right = each attached.0 attached.1 is in
+        and_from _ _ right.can_be_child (ap (λ (o : Option Row). option_map_or (λ (parent : Row). has_cell parent.kind attached.1) o false) right.found ∙ right.has_cell)

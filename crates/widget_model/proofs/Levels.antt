@@ -10,7 +10,7 @@ use Rattle.widget_model.specs.Rows.{Row}
 use Rattle.widget_model.specs.Named.{has_name, row_named, with_named}
 use Rattle.widget_model.specs.Trees.{parent_of, is_child, depth_in, height_in, is_above_in, greatest_child, ends_within, most_levels}
 use Rattle.widget_model.proofs.Hanging.{find-passes, LeavesNames, changed, row_named-map, LeavesNames-changed, row_named-changed_other, parent_in, parent_in-loose, HangsIn-from, HangsIn-child}
-use Rattle.widget_model.proofs.Cells.{hung_in, CanHang, spot_of_alone}
+use Rattle.widget_model.proofs.Cells.{hung_in, CanHang, attached_of_alone}
 
 -- the greatest child is no less than each, and no greater than what bounds them all
 pub greatest_child-each : (measure : List ℕ → ℕ) (client : ℕ) (name : List ℕ) (rows : List Row) (i : ℕ) (row : Row) → slice_get rows i ≡ Some row → is_child client name row ≡ true → measure row.name ≤ greatest_child measure client name rows
@@ -157,7 +157,7 @@ ends_within-hung rows others client child parent most is low free short name h =
 pub IsHung-attach : (rows : List Row) (client : ℕ) (parent child : List ℕ) (cell : Cell) (upper lower : Row) → CanHang rows client parent child cell upper lower → IsHung rows (with_named client child (hung_in parent cell) rows) client child parent
 IsHung-attach rows client parent child cell upper lower can =
     record {
-      alone = ap parent_in can.lower_there ∙ parent_in-loose lower (spot_of_alone lower can.stands_alone);
+      alone = ap parent_in can.lower_there ∙ parent_in-loose lower (attached_of_alone lower can.stands_alone);
       hung = ap parent_in new;
       same = λ name differs. ap parent_in (row_named-changed_other rows client child (hung_in parent cell) client name leaves (rw differs (none (nat_eq client client))));
     }
@@ -186,7 +186,7 @@ ends_within-alone zero rows client name some alone = absurd (omega arith)
 ends_within-alone (suc most) rows client name some alone = ends_within-top most rows client name alone
 
 -- a new last row that stands alone
-pub parent_of-push : (rows : List Row) (row : Row) (client : ℕ) (name : List ℕ) → row.spot ≡ None → (parent_of (rows ++ row ∷ []) client name ≡ None) ⊎ (parent_of (rows ++ row ∷ []) client name ≡ parent_of rows client name)
+pub parent_of-push : (rows : List Row) (row : Row) (client : ℕ) (name : List ℕ) → row.attached ≡ None → (parent_of (rows ++ row ∷ []) client name ≡ None) ⊎ (parent_of (rows ++ row ∷ []) client name ≡ parent_of rows client name)
 parent_of-push rows row client name loose = by (row_named rows client name) refl (has_name client name row) refl
   where
     whole : row_named (rows ++ row ∷ []) client name ≡ option_or (row_named rows client name) (cond (has_name client name row) (Some row) None)
@@ -203,7 +203,7 @@ parent_of-push rows row client name loose = by (row_named rows client name) refl
         let absent : row_named (rows ++ row ∷ []) client name ≡ None = whole ∙ rw (is, named) refl in
         inl (ap parent_in absent)
 
-pub parent_of-push_alone : (rows : List Row) (row : Row) (client : ℕ) (name : List ℕ) → row.spot ≡ None → row_named rows client name ≡ None → parent_of (rows ++ row ∷ []) client name ≡ None
+pub parent_of-push_alone : (rows : List Row) (row : Row) (client : ℕ) (name : List ℕ) → row.attached ≡ None → row_named rows client name ≡ None → parent_of (rows ++ row ∷ []) client name ≡ None
 parent_of-push_alone rows row client name loose absent = by (parent_of-push rows row client name loose)
   where
     by : (parent_of (rows ++ row ∷ []) client name ≡ None) ⊎ (parent_of (rows ++ row ∷ []) client name ≡ parent_of rows client name) → parent_of (rows ++ row ∷ []) client name ≡ None

@@ -63,11 +63,11 @@ pub rows_counted-agree : (client : ℕ) (test : Kind → Bool) (a b : List Row) 
 rows_counted-agree client test a b e = count_by-agree (λ (row : Row). nat_eq client row.client) (λ (row : Row). test row.kind) a b e
 
 pub parent_of-agree : (client : ℕ) (name : List ℕ) (a b : List Row) → own_rows client a ≡ own_rows client b → parent_of a client name ≡ parent_of b client name
-parent_of-agree client name a b e = ap (option_and_then (λ (row : Row). option_map (λ spot. spot.0) row.spot)) (row_named-agree client name a b e)
+parent_of-agree client name a b e = ap (option_and_then (λ (row : Row). option_map (λ attached. attached.0) row.attached)) (row_named-agree client name a b e)
 
 pub child_in-agree : (client : ℕ) (name : List ℕ) (column line : ℕ) (a b : List Row) → own_rows client a ≡ own_rows client b → child_in a client name column line ≡ child_in b client name column line
 child_in-agree client name column line a b e =
-    find-agree (λ (row : Row). nat_eq client row.client) (λ (row : Row). option_map_or (λ spot. bytes_eq name spot.0 && (nat_eq column spot.1.column && nat_eq line spot.1.row)) row.spot false) a b e
+    find-agree (λ (row : Row). nat_eq client row.client) (λ (row : Row). option_map_or (λ attached. bytes_eq name attached.0 && (nat_eq column attached.1.column && nat_eq line attached.1.row)) row.attached false) a b e
 
 pub depth_in-agree : (most client : ℕ) (name : List ℕ) (a b : List Row) → own_rows client a ≡ own_rows client b → depth_in most a client name ≡ depth_in most b client name
 depth_in-agree zero client name a b e = refl
@@ -119,7 +119,7 @@ height_in-agree (suc most) client name a b e =
 -- whether it has a child, and whether another is linked to it
 pub list_any-is_child-agree : (client : ℕ) (name : List ℕ) (a b : List Row) → own_rows client a ≡ own_rows client b → list_any (is_child client name) a ≡ list_any (is_child client name) b
 list_any-is_child-agree client name a b e =
-    list_any-agree (λ (row : Row). nat_eq client row.client) (λ (row : Row). option_map_or (λ spot. bytes_eq name spot.0) row.spot false) a b e
+    list_any-agree (λ (row : Row). nat_eq client row.client) (λ (row : Row). option_map_or (λ attached. bytes_eq name attached.0) row.attached false) a b e
 
 pub list_any-links_to-agree : (client : ℕ) (name : List ℕ) (a b : List Row) → own_rows client a ≡ own_rows client b → list_any (links_to client name) a ≡ list_any (links_to client name) b
 list_any-links_to-agree client name a b e =

@@ -7,7 +7,7 @@ use Rattle.std.specs.List.{filter, list_any}
 use Rattle.std.specs.Option.{option_map, option_map_or}
 use Rattle.std.specs.Str.{bytes_eq}
 use Rattle.kind_core.specs.declared.shapes.Cell.{Cell}
-use Rattle.widget_model.specs.Rows.{Row, with_spot}
+use Rattle.widget_model.specs.Rows.{Row, with_attached}
 use Rattle.widget_model.specs.Named.{has_name, row_named, with_named, without_named, rows_of_others}
 use Rattle.widget_model.specs.Trees.{hangs, parent_of, is_child, depth_of, height_of, ends_within, root_in, is_used, links_to, most_levels}
 use Rattle.widget_model.specs.Planted.{hangs_right, IsPlanted}
@@ -16,7 +16,7 @@ use Rattle.widget_model.proofs.Hanging.{find-element, all_at, all_from, none_at,
 use Rattle.widget_model.proofs.Levels.{ends_within-fewer, ends_within-hung, IsHung-attach, some_levels, ends_within-alone, parent_of-push, parent_of-push_alone}
 use Rattle.widget_model.proofs.Cells.{Lessens, HaveOwnCells-map, HaveOwnCells-filter, HaveOwnCells-push, HaveOwnCells-attach, hung_in, CanHang}
 
-pub IsPlanted-push : (rows : List Row) (row : Row) → row.spot ≡ None → row_named rows row.client row.name ≡ None → IsPlanted rows → IsPlanted (rows ++ row ∷ [])
+pub IsPlanted-push : (rows : List Row) (row : Row) → row.attached ≡ None → row_named rows row.client row.name ≡ None → IsPlanted rows → IsPlanted (rows ++ row ∷ [])
 IsPlanted-push rows row loose absent planted =
     record {
       hang = list_all-append (hangs_right (rows ++ row ∷ [])) rows (row ∷ []) ∙ and_from _ _ (all_from (hangs_right (rows ++ row ∷ [])) rows (λ i other there. hangs i other there)) (and_from _ _ last refl);
@@ -30,7 +30,7 @@ IsPlanted-push rows row loose absent planted =
     hangs : (i : ℕ) (other : Row) → slice_get rows i ≡ Some other → hangs_right (rows ++ row ∷ []) other ≡ true
     hangs i other there = hangs_right-from (rows ++ row ∷ []) other each
       where
-        each : (name : List ℕ) (cell : Cell) → other.spot ≡ Some (name, cell) → IsHungRight (rows ++ row ∷ []) other name cell
+        each : (name : List ℕ) (cell : Cell) → other.attached ≡ Some (name, cell) → IsHungRight (rows ++ row ∷ []) other name cell
         each name cell is =
             let right = hangs_right-at rows other name cell (all_at (hangs_right rows) rows i other planted.hang there) is in
             let found : row_named (rows ++ row ∷ []) other.client name ≡ Some right.upper = find-append (has_name other.client name) rows (row ∷ []) ∙ rw right.found refl in
@@ -60,9 +60,9 @@ IsPlanted-map rows change less planted =
     leaves = record { client = less.client; name = less.name }
 
     hang : (i : ℕ) (row : Row) → slice_get rows i ≡ Some row → hangs_right (map change rows) (change row) ≡ true
-    hang i row there = hangs_right-from (map change rows) (change row) (λ name cell is. by name cell is (less.spot row))
+    hang i row there = hangs_right-from (map change rows) (change row) (λ name cell is. by name cell is (less.attached row))
       where
-        by : (name : List ℕ) (cell : Cell) → (change row).spot ≡ Some (name, cell) → ((change row).spot ≡ None) ⊎ ((change row).spot ≡ row.spot) → IsHungRight (map change rows) (change row) name cell
+        by : (name : List ℕ) (cell : Cell) → (change row).attached ≡ Some (name, cell) → ((change row).attached ≡ None) ⊎ ((change row).attached ≡ row.attached) → IsHungRight (map change rows) (change row) name cell
         by name cell is (inl loose) = absurd (cc (is, loose))
         by name cell is (inr same) =
             let right = hangs_right-at rows row name cell (all_at (hangs_right rows) rows i row planted.hang there) (sym same ∙ is) in
@@ -77,13 +77,13 @@ IsPlanted-map rows change less planted =
     parents : (client : ℕ) (name : List ℕ) → (parent_of (map change rows) client name ≡ None) ⊎ (parent_of (map change rows) client name ≡ parent_of rows client name)
     parents client name = by (row_named rows client name) refl
       where
-        inside : (row : Row) → row_named rows client name ≡ Some row → row_named (map change rows) client name ≡ Some (change row) → ((change row).spot ≡ None) ⊎ ((change row).spot ≡ row.spot) → (parent_of (map change rows) client name ≡ None) ⊎ (parent_of (map change rows) client name ≡ parent_of rows client name)
+        inside : (row : Row) → row_named rows client name ≡ Some row → row_named (map change rows) client name ≡ Some (change row) → ((change row).attached ≡ None) ⊎ ((change row).attached ≡ row.attached) → (parent_of (map change rows) client name ≡ None) ⊎ (parent_of (map change rows) client name ≡ parent_of rows client name)
         inside row old new (inl loose) = inl (ap parent_in new ∙ parent_in-loose (change row) loose)
         inside row old new (inr same) = inr (ap parent_in new ∙ parent_in-same (change row) row same ∙ sym (ap parent_in old))
 
         by : (o : Option Row) → row_named rows client name ≡ o → (parent_of (map change rows) client name ≡ None) ⊎ (parent_of (map change rows) client name ≡ parent_of rows client name)
         by None old = inl (ap parent_in (row_named-map rows change client name leaves ∙ ap (option_map change) old))
-        by (Some row) old = inside row old (row_named-map rows change client name leaves ∙ ap (option_map change) old) (less.spot row)
+        by (Some row) old = inside row old (row_named-map rows change client name leaves ∙ ap (option_map change) old) (less.attached row)
 
     low : (i : ℕ) (row : Row) → slice_get rows i ≡ Some row → ends_within most_levels (map change rows) (change row).client (change row).name ≡ true
     low i row there =
@@ -97,7 +97,7 @@ Lessens-changed client name change less =
       client = λ row. by_client row (has_name client name row);
       name = λ row. by_name row (has_name client name row);
       kind = λ row. by_kind row (has_name client name row);
-      spot = λ row. by_spot row (has_name client name row);
+      attached = λ row. by_attached row (has_name client name row);
     }
   where
     by_client : (row : Row) (b : Bool) → (cond b (change row) row).client ≡ row.client
@@ -112,29 +112,29 @@ Lessens-changed client name change less =
     by_kind row true = less.kind row
     by_kind row false = refl
 
-    by_spot : (row : Row) (b : Bool) → ((cond b (change row) row).spot ≡ None) ⊎ ((cond b (change row) row).spot ≡ row.spot)
-    by_spot row true = less.spot row
-    by_spot row false = inr refl
+    by_attached : (row : Row) (b : Bool) → ((cond b (change row) row).attached ≡ None) ⊎ ((cond b (change row) row).attached ≡ row.attached)
+    by_attached row true = less.attached row
+    by_attached row false = inr refl
 
 -- a change that leaves these is no change of how widgets hang
 pub record LeavesPlace (change : Row → Row) : Type 0 where
   pub client : (row : Row) → (change row).client ≡ row.client
   pub name : (row : Row) → (change row).name ≡ row.name
   pub kind : (row : Row) → (change row).kind ≡ row.kind
-  pub spot : (row : Row) → (change row).spot ≡ row.spot
+  pub attached : (row : Row) → (change row).attached ≡ row.attached
 
 pub IsPlanted-change : (rows : List Row) (client : ℕ) (name : List ℕ) (change : Row → Row) → LeavesPlace change → IsPlanted rows → IsPlanted (with_named client name change rows)
 IsPlanted-change rows client name change leaves planted =
-    let less : Lessens change = record { client = leaves.client; name = leaves.name; kind = leaves.kind; spot = λ row. inr (leaves.spot row) } in
+    let less : Lessens change = record { client = leaves.client; name = leaves.name; kind = leaves.kind; attached = λ row. inr (leaves.attached row) } in
     IsPlanted-map rows (changed client name change) (Lessens-changed client name change less) planted
 
-pub IsPlanted-detach : (rows : List Row) (client : ℕ) (child : List ℕ) → IsPlanted rows → IsPlanted (with_named client child (with_spot None) rows)
+pub IsPlanted-detach : (rows : List Row) (client : ℕ) (child : List ℕ) → IsPlanted rows → IsPlanted (with_named client child (with_attached None) rows)
 IsPlanted-detach rows client child planted =
-    let less : Lessens (with_spot None) = record { client = λ row. refl; name = λ row. refl; kind = λ row. refl; spot = λ row. inl refl } in
-    IsPlanted-map rows (changed client child (with_spot None)) (Lessens-changed client child (with_spot None) less) planted
+    let less : Lessens (with_attached None) = record { client = λ row. refl; name = λ row. refl; kind = λ row. refl; attached = λ row. inl refl } in
+    IsPlanted-map rows (changed client child (with_attached None)) (Lessens-changed client child (with_attached None) less) planted
 
 -- rows left out by their names, where the parent of each row that is kept is kept
-IsPlanted-filter : (test : ℕ → List ℕ → Bool) (rows : List Row) → ((i : ℕ) (row : Row) (name : List ℕ) (cell : Cell) → slice_get rows i ≡ Some row → test row.client row.name ≡ true → row.spot ≡ Some (name, cell) → test row.client name ≡ true) → IsPlanted rows → IsPlanted (filter (λ (row : Row). test row.client row.name) rows)
+IsPlanted-filter : (test : ℕ → List ℕ → Bool) (rows : List Row) → ((i : ℕ) (row : Row) (name : List ℕ) (cell : Cell) → slice_get rows i ≡ Some row → test row.client row.name ≡ true → row.attached ≡ Some (name, cell) → test row.client name ≡ true) → IsPlanted rows → IsPlanted (filter (λ (row : Row). test row.client row.name) rows)
 IsPlanted-filter test rows closed planted =
     record {
       hang = all-filter (hangs_right (filter keeps rows)) keeps rows (λ i row there kept. hang i row there kept);
@@ -148,7 +148,7 @@ IsPlanted-filter test rows closed planted =
     hang : (i : ℕ) (row : Row) → slice_get rows i ≡ Some row → keeps row ≡ true → hangs_right (filter keeps rows) row ≡ true
     hang i row there kept = hangs_right-from (filter keeps rows) row each
       where
-        each : (name : List ℕ) (cell : Cell) → row.spot ≡ Some (name, cell) → IsHungRight (filter keeps rows) row name cell
+        each : (name : List ℕ) (cell : Cell) → row.attached ≡ Some (name, cell) → IsHungRight (filter keeps rows) row name cell
         each name cell is =
             let right = hangs_right-at rows row name cell (all_at (hangs_right rows) rows i row planted.hang there) is in
             let found : row_named (filter keeps rows) row.client name ≡ Some right.upper = row_named-filter test rows row.client name (closed i row name cell there kept is) ∙ right.found in
@@ -158,7 +158,7 @@ IsPlanted-filter test rows closed planted =
     goes_on client name parent kept up =
         let lower = HangsIn-from rows client name parent up in
         let kept_row : test lower.row.client lower.row.name ≡ true = rw (lower.named.client_is, lower.named.name_is) kept in
-        rw (← lower.named.client_is) (closed lower.i lower.row parent lower.cell lower.there kept_row lower.spot)
+        rw (← lower.named.client_is) (closed lower.i lower.row parent lower.cell lower.there kept_row lower.attached)
 
     low : (i : ℕ) (row : Row) → slice_get rows i ≡ Some row → keeps row ≡ true → ends_within most_levels (filter keeps rows) row.client row.name ≡ true
     low i row there kept =
@@ -167,22 +167,22 @@ IsPlanted-filter test rows closed planted =
 
 pub IsPlanted-remove : (rows : List Row) (client : ℕ) (name : List ℕ) (row : Row) → row_named rows client name ≡ Some row → is_used rows row ≡ false → IsPlanted rows → IsPlanted (without_named client name rows)
 IsPlanted-remove rows client name row found unused planted =
-    IsPlanted-filter (λ owner other. not (nat_eq client owner && bytes_eq name other)) rows (λ i other parent cell there kept spot. closed i other parent cell there spot) planted
+    IsPlanted-filter (λ owner other. not (nat_eq client owner && bytes_eq name other)) rows (λ i other parent cell there kept attached. closed i other parent cell there attached) planted
   where
     no_children : list_any (is_child row.client row.name) rows ≡ false
-    no_children = (or_parts (list_any (is_child row.client row.name) rows) (list_any (links_to row.client row.name) rows) (or_parts (hangs row) _ unused).1).0
+    no_children = (or_parts (list_any (is_child row.client row.name) rows) _ (or_parts (hangs row) _ unused).1).0
 
-    closed : (i : ℕ) (other : Row) (parent : List ℕ) (cell : Cell) → slice_get rows i ≡ Some other → other.spot ≡ Some (parent, cell) → not (nat_eq client other.client && bytes_eq name parent) ≡ true
-    closed i other parent cell there spot =
+    closed : (i : ℕ) (other : Row) (parent : List ℕ) (cell : Cell) → slice_get rows i ≡ Some other → other.attached ≡ Some (parent, cell) → not (nat_eq client other.client && bytes_eq name parent) ≡ true
+    closed i other parent cell there attached =
         let is = IsNamed-row_named rows client name row found in
         let childless : is_child row.client row.name other ≡ false = none_at (is_child row.client row.name) rows i other no_children there in
-        let below : is_child row.client row.name other ≡ (nat_eq row.client other.client && bytes_eq row.name parent) = ap (λ (o : Option (List ℕ × Cell)). nat_eq row.client other.client && option_map_or (λ (s : List ℕ × Cell). bytes_eq row.name s.0) o false) spot in
+        let below : is_child row.client row.name other ≡ (nat_eq row.client other.client && bytes_eq row.name parent) = ap (λ (o : Option (List ℕ × Cell)). nat_eq row.client other.client && option_map_or (λ (s : List ℕ × Cell). bytes_eq row.name s.0) o false) attached in
         rw (← is.client_is, ← is.name_is) (ap not (sym below ∙ childless))
 
 pub IsPlanted-others : (rows : List Row) (client : ℕ) → IsPlanted rows → IsPlanted (rows_of_others client rows)
-IsPlanted-others rows client planted = IsPlanted-filter (λ owner name. not (nat_eq client owner)) rows (λ i row name cell there kept spot. kept) planted
+IsPlanted-others rows client planted = IsPlanted-filter (λ owner name. not (nat_eq client owner)) rows (λ i row name cell there kept attached. kept) planted
 
-pub IsPlanted-attach : (rows : List Row) (client : ℕ) (parent child : List ℕ) (cell : Cell) (upper lower : Row) → AreNamedApart rows → CanHang rows client parent child cell upper lower → IsPlanted rows → IsPlanted (with_named client child (with_spot (Some (parent, cell))) rows)
+pub IsPlanted-attach : (rows : List Row) (client : ℕ) (parent child : List ℕ) (cell : Cell) (upper lower : Row) → AreNamedApart rows → CanHang rows client parent child cell upper lower → IsPlanted rows → IsPlanted (with_named client child (with_attached (Some (parent, cell))) rows)
 IsPlanted-attach rows client parent child cell upper lower apart can planted =
     record {
       hang = list_all-map (hangs_right others) hang_it rows ∙ all_from (λ (row : Row). hangs_right others (hang_it row)) rows (λ i row there. hang i row there);
@@ -213,16 +213,16 @@ IsPlanted-attach rows client parent child cell upper lower apart can planted =
     found_still : (owner : ℕ) (name : List ℕ) (row : Row) → row_named rows owner name ≡ Some row → row_named others owner name ≡ Some (hang_it row)
     found_still owner name row found = row_named-map rows hang_it owner name leaves ∙ ap (option_map hang_it) found
 
-    right_old : (i : ℕ) (row : Row) → slice_get rows i ≡ Some row → (name : List ℕ) (spot : Cell) → row.spot ≡ Some (name, spot) → IsHungRight others row name spot
-    right_old i row there name spot is =
-        let right = hangs_right-at rows row name spot (all_at (hangs_right rows) rows i row planted.hang there) is in
+    right_old : (i : ℕ) (row : Row) → slice_get rows i ≡ Some row → (name : List ℕ) (attached : Cell) → row.attached ≡ Some (name, attached) → IsHungRight others row name attached
+    right_old i row there name attached is =
+        let right = hangs_right-at rows row name attached (all_at (hangs_right rows) rows i row planted.hang there) is in
         let found = found_still row.client name right.upper right.found in
         record { upper = hang_it right.upper; can_be_child = right.can_be_child; found = found; has_cell = rw (kind right.upper) right.has_cell }
 
-    right_new : (row : Row) → row ≡ lower → (name : List ℕ) (spot : Cell) → (hung_in parent cell row).spot ≡ Some (name, spot) → IsHungRight others (hung_in parent cell row) name spot
-    right_new row same name spot where_is =
+    right_new : (row : Row) → row ≡ lower → (name : List ℕ) (attached : Cell) → (hung_in parent cell row).attached ≡ Some (name, attached) → IsHungRight others (hung_in parent cell row) name attached
+    right_new row same name attached where_is =
         let is = IsNamed-row_named rows client child lower can.lower_there in
-        let place : (parent ≡ name) × (cell ≡ spot) = some_pair_parts parent name cell spot where_is in
+        let place : (parent ≡ name) × (cell ≡ attached) = some_pair_parts parent name cell attached where_is in
         let found : row_named others row.client name ≡ Some (hang_it upper) = rw (same, is.client_is, ← place.0) (found_still client parent upper can.upper_there) in
         record { upper = hang_it upper; can_be_child = rw same can.can_be_child; found = found; has_cell = rw (kind upper, ← place.1) can.has_cell }
 
@@ -257,7 +257,7 @@ IsPlanted-attach rows client parent child cell upper lower apart can planted =
 pub row_named-parent : (rows : List Row) (client : ℕ) (name parent : List ℕ) → IsPlanted rows → parent_of rows client name ≡ Some parent → is_some (row_named rows client parent) ≡ true
 row_named-parent rows client name parent planted up =
     let lower = HangsIn-from rows client name parent up in
-    let right = hangs_right-at rows lower.row parent lower.cell (all_at (hangs_right rows) rows lower.i lower.row planted.hang lower.there) lower.spot in
+    let right = hangs_right-at rows lower.row parent lower.cell (all_at (hangs_right rows) rows lower.i lower.row planted.hang lower.there) lower.attached in
     ap (λ (owner : ℕ). is_some (row_named rows owner parent)) (sym lower.named.client_is) ∙ ap is_some right.found
 
 -- so is the root of a widget

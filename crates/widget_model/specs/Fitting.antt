@@ -1,11 +1,14 @@
 -- The values of a row fit its kind's table: an attribute that the kind has is a number in its range or a text,
--- and one that it hasn't has no value. The rules of its columns and rows are in their range.
-use Rattle.std.specs.Prelude.{ℕ, Bool, ◌&&◌, nat_eq, nat_le, length, Option, Some, None, is_none, is_ok}
-use Rattle.std.specs.List.{list_all}
+-- and one that it hasn't has no value. The rules of its columns and rows are in their range, and only a VScreen has a
+-- film.
+use Rattle.std.specs.Prelude.{◌≡◌, ℕ, Bool, ◌&&◌, nat_eq, nat_le, List, length, Option, Some, None, IfSome, is_none, is_ok}
+use Rattle.std.specs.List.{list_all, All}
 use Rattle.kind_core.specs.declared.kinds.Kind.{Kind}
+use Rattle.kind_core.specs.declared.kinds.Kind.TheVariants.{VScreen}
 use Rattle.kind_core.specs.declared.kinds.Attr.{Attr}
 use Rattle.kind_core.specs.declared.values.Value as value
 use Rattle.kind_core.specs.Attributes.{domain_of, first_value, judged}
+use Rattle.vscreen_core.specs.FilmState.{IsFilm}
 use Rattle.widget_model.specs.Rows.{Row, all_attrs, attr_of}
 
 -- whether the table lets the kind's attribute have that value, or none
@@ -22,3 +25,10 @@ fits_rule rule = nat_le rule.0 1024 && nat_le rule.1 1000
 
 abbrev pub fits_rules : Row → Bool
 fits_rules row = list_all fits_rule row.column_rules && list_all fits_rule row.row_rules
+
+-- a film is a whole one, of its size, and its row is a VScreen
+abbrev pub IsFitFilm : Row → Type 0
+IsFitFilm row = IfSome row.film (λ film. (row.kind ≡ VScreen) × IsFilm film)
+
+abbrev pub HaveFitFilms : List Row → Type 0
+HaveFitFilms rows = All IsFitFilm rows

@@ -6,6 +6,7 @@ pub mod Links
 pub mod Forest
 pub mod Named
 pub mod Trees
+pub mod Keys
 pub mod Planted
 pub mod Fitting
-pub mod Places
+pub mod Relatives

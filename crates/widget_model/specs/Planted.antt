@@ -25,11 +25,11 @@ has_cell kind cell = has_children kind && takes_cell kind cell
 
 -- A row that hangs in another can be a child, and the other is a row of the same client with that cell.
 abbrev pub hangs_right : List Row → Row → Bool
-hangs_right rows row = option_map_or (λ spot. can_be_child row.kind && option_map_or (λ parent. has_cell parent.kind spot.1) (row_named rows row.client spot.0) false) row.spot true
+hangs_right rows row = option_map_or (λ attached. can_be_child row.kind && option_map_or (λ parent. has_cell parent.kind attached.1) (row_named rows row.client attached.0) false) row.attached true
 
 -- No later row stands in the cell in which this one stands.
 abbrev pub is_alone : List Row → Row → Bool
-is_alone later row = option_map_or (λ spot. is_none (child_in later row.client spot.0 spot.1.column spot.1.row)) row.spot true
+is_alone later row = option_map_or (λ attached. is_none (child_in later row.client attached.0 attached.1.column attached.1.row)) row.attached true
 
 -- No two rows stand in one cell.
 abbrev pub HaveOwnCells : List Row → Type 0

@@ -1,6 +1,6 @@
--- How widgets hang in one another. A row's spot names its parent, of the same client, and the cell in it. Where
+-- How widgets hang in one another. A row's attached names its parent, of the same client, and the cell in it. Where
 -- a definition goes up or down, `most` is how many levels it goes at the most; no tree has more than 12.
-use Rattle.std.specs.Prelude.{ℕ, zero, suc, ◌+◌, max, Bool, true, false, ◌&&◌, ◌||◌, not, nat_eq, List, [], ◌∷◌, Option, if◌then◌else◌}
+use Rattle.std.specs.Prelude.{ℕ, zero, suc, ◌+◌, max, Bool, true, false, ◌&&◌, ◌||◌, not, nat_eq, nat_lt, List, [], ◌∷◌, Option, if◌then◌else◌}
 use Rattle.std.specs.List.{find, list_any}
 use Rattle.std.specs.Option.{option_map, option_map_or, option_and_then}
 use Rattle.std.specs.Str.{bytes_eq}
@@ -24,20 +24,20 @@ can_be_child _ = true
 
 -- whether the row hangs in another
 abbrev pub hangs : Row → Bool
-hangs row = option_map_or (λ spot. true) row.spot false
+hangs row = option_map_or (λ attached. true) row.attached false
 
 -- the name of the widget's parent
 abbrev pub parent_of : List Row → ℕ → List ℕ → Option (List ℕ)
-parent_of rows client name = option_and_then (λ row. option_map (λ spot. spot.0) row.spot) (row_named rows client name)
+parent_of rows client name = option_and_then (λ row. option_map (λ attached. attached.0) row.attached) (row_named rows client name)
 
 -- whether the row is a child of the named widget
 abbrev pub is_child : ℕ → List ℕ → Row → Bool
-is_child client name row = nat_eq client row.client && option_map_or (λ spot. bytes_eq name spot.0) row.spot false
+is_child client name row = nat_eq client row.client && option_map_or (λ attached. bytes_eq name attached.0) row.attached false
 
 -- whether the row is the child in that column and row of the named widget
 abbrev pub stands_at : ℕ → List ℕ → ℕ → ℕ → Row → Bool
 stands_at client name column line row =
-    nat_eq client row.client && option_map_or (λ spot. bytes_eq name spot.0 && (nat_eq column spot.1.column && nat_eq line spot.1.row)) row.spot false
+    nat_eq client row.client && option_map_or (λ attached. bytes_eq name attached.0 && (nat_eq column attached.1.column && nat_eq line attached.1.row)) row.attached false
 
 -- the child in that column and row
 abbrev pub child_in : List Row → ℕ → List ℕ → ℕ → ℕ → Option Row
@@ -93,6 +93,11 @@ root_of rows client name = root_in most_levels rows client name
 abbrev pub links_to : ℕ → List ℕ → Row → Bool
 links_to client name row = nat_eq client row.client && (option_map_or (bytes_eq name) row.link false && not (bytes_eq name row.name))
 
--- whether the row hangs in another, or has a child, or is linked by another
+-- whether the row has a film with a period: a VScreen that is admitted
+abbrev pub is_admitted : Row → Bool
+is_admitted row = option_map_or (λ film. nat_lt 0 film.period) row.film false
+
+-- whether the row hangs in another, or has a child, or is linked by another, or is admitted
 abbrev pub is_used : List Row → Row → Bool
-is_used rows row = hangs row || (list_any (is_child row.client row.name) rows || list_any (links_to row.client row.name) rows)
+is_used rows row =
+    hangs row || (list_any (is_child row.client row.name) rows || (list_any (links_to row.client row.name) rows || is_admitted row))

@@ -2,7 +2,7 @@ use Rattle.std.proofs.Common.{Some, None, refl, sym, ◌∙◌}
 use Rattle.std.proofs.lemmas.Bool.{true≢false}
 use Rattle.cmd_words.specs.declared.replies.Reply.TheVariants.{Done}
 use Rattle.cmd_words.specs.declared.replies.Refusal.TheVariants.{NoSuchName, NotHere}
-use Rattle.widget_model.specs.Rows.{with_spot}
+use Rattle.widget_model.specs.Rows.{with_attached}
 use Rattle.widget_model.specs.Named.{row_named}
 use Rattle.desk_model.specs.Hanging.{step_lift}
 use Rattle.widget_model.specs.Widgets.{rows_of}
@@ -36,7 +36,7 @@ returns-clause-did c =
     let upper = c.in-Some.ensures.found in
     let lower = c.in-Some-find.ensures.found in
     let here = hangs_here c.args.tree.now c.args.client c.args.parent.now c.args.child.now c.in-Some.upper.id.key c.in-Some-find.lower.id.key c.in-Some.upper.kind c.in-Some-find.lower.kind c.find.ensures.valid upper lower (sym c.parent.ensures.found ∙ c.is_number.ensures.0 c.if-not-is_number.false) in
-    done_did (λ desk. step_lift desk c.args.client c.args.parent.now c.args.child.now) c.args.tree.now c.detach.new.self c.args.client c.args.child.now c.in-Some-find.lower.id.key (with_spot None) c.done.result.reply Done c.done.ensures.reply c.detach.ensures.spot c.find.ensures.valid lower.id (λ row. refl) (λ row h. h)
+    done_did (λ desk. step_lift desk c.args.client c.args.parent.now c.args.child.now) c.args.tree.now c.detach.new.self c.args.client c.args.child.now c.in-Some-find.lower.id.key (with_attached None) c.done.result.reply Done c.done.ensures.reply c.detach.ensures.attached c.find.ensures.valid lower.id (λ row. refl) (λ row h. h)
     (λ desk. step_lift-by (with_rows (rows_of c.args.tree.now) desk) c.args.client c.args.parent.now c.args.child.now (Some upper.row) (Some lower.row) upper.named lower.named ∙ rw here refl)
 
 pub returns-clause-tells : goal.returns-clause-tells
@@ -44,5 +44,5 @@ returns-clause-tells c =
     let upper = c.in-Some.ensures.found in
     let lower = c.in-Some-find.ensures.found in
     let here = hangs_here c.args.tree.now c.args.client c.args.parent.now c.args.child.now c.in-Some.upper.id.key c.in-Some-find.lower.id.key c.in-Some.upper.kind c.in-Some-find.lower.kind c.find.ensures.valid upper lower (sym c.parent.ensures.found ∙ c.is_number.ensures.0 c.if-not-is_number.false) in
-    tells_edit c.args.tree.now c.detach.new.self c.args.client c.args.child.now c.in-Some-find.lower.id.key c.in-Some-find.lower.kind (with_spot None) c.done.result.changed c.find.ensures.valid lower c.detach.ensures.spot
+    tells_edit c.args.tree.now c.detach.new.self c.args.client c.args.child.now c.in-Some-find.lower.id.key c.in-Some-find.lower.kind (with_attached None) c.done.result.changed c.find.ensures.valid lower c.detach.ensures.attached
     (λ h same. lift_differs lower.row c.args.parent.now here same) (λ h. absurd (true≢false (sym c.done.ensures.changed ∙ h)))

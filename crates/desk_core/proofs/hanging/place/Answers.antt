@@ -5,7 +5,7 @@ use Rattle.kind_core.specs.declared.kinds.Kind.{Kind}
 use Rattle.kind_core.specs.declared.shapes.Cell.{Cell}
 use Rattle.cmd_words.specs.declared.replies.Reply.TheVariants.{Done, Refused}
 use Rattle.cmd_words.specs.declared.replies.Refusal.TheVariants.{NoSuchName, WrongKind}
-use Rattle.widget_model.specs.Rows.{Row, with_spot}
+use Rattle.widget_model.specs.Rows.{Row, with_attached}
 use Rattle.widget_model.specs.Named.{row_named}
 use Rattle.widget_model.specs.Trees.{has_children, can_be_child}
 use Rattle.widget_model.specs.Planted.{takes_cell}
@@ -16,7 +16,7 @@ use Rattle.widget_model.specs.Links.{name_at}
 use Rattle.desk_core.specs.Did.{Did, with_rows}
 use Rattle.desk_core.specs.Told.{told_attach}
 use Rattle.desk_core.proofs.Dids.{refused_did, done_did, found-parts}
-use Rattle.desk_core.proofs.HangSteps.{step_place-by, place_answer, attach_refusal-is, spot_differs, hangs_not, given_takes}
+use Rattle.desk_core.proofs.HangSteps.{step_place-by, place_answer, attach_refusal-is, attached_differs, hangs_not, given_takes}
 use Rattle.desk_core.proofs.Tells.{tells_edit}
 use Rattle.desk_core.proofs.hanging.place.Goals as goal
 
@@ -69,8 +69,8 @@ returns-in-Ok-clause-did c =
     let upper = c.in-Some.ensures.found in
     let lower = c.in-Some-find.ensures.found in
     let named : name_at c.args.tree.now.entries c.in-Some.upper.id.key ≡ Some c.args.parent.now = ap (option_map (λ (row : Row). row.name)) upper.there ∙ ap Some (found-parts c.args.tree.now c.args.client c.args.parent.now c.in-Some.upper.id.key c.in-Some.upper.kind upper).1 in
-    let left = c.in-Ok.ensures.ok ∙ ap₂ (λ (name : Option (List ℕ)) (cell : Cell). edited c.in-Some-find.lower.id.key (with_spot (option_map (λ n. (n, cell)) name)) c.args.tree.now) named c.cell_given.ensures in
-    done_did (λ desk. step_place desk c.args.client c.args.parent.now c.args.child.now c.args.options.now) c.args.tree.now c.attach.new.self c.args.client c.args.child.now c.in-Some-find.lower.id.key (with_spot (Some (c.args.parent.now, cell_given c.args.options.now))) c.done.result.reply Done c.done.ensures.reply left c.find.ensures.valid lower.id (λ row. refl) (λ row h. h)
+    let left = c.in-Ok.ensures.ok ∙ ap₂ (λ (name : Option (List ℕ)) (cell : Cell). edited c.in-Some-find.lower.id.key (with_attached (option_map (λ n. (n, cell)) name)) c.args.tree.now) named c.cell_given.ensures in
+    done_did (λ desk. step_place desk c.args.client c.args.parent.now c.args.child.now c.args.options.now) c.args.tree.now c.attach.new.self c.args.client c.args.child.now c.in-Some-find.lower.id.key (with_attached (Some (c.args.parent.now, cell_given c.args.options.now))) c.done.result.reply Done c.done.ensures.reply left c.find.ensures.valid lower.id (λ row. refl) (λ row h. h)
     (place_answer c.args.tree.now c.args.client c.args.parent.now c.args.child.now c.args.options.now c.in-Some.upper.id.key c.in-Some-find.lower.id.key c.in-Some.upper.kind c.in-Some-find.lower.kind upper lower c.cell_given.result None (sym c.if-not-can_hang.ensures) (sym c.in-None-places_refusal.ensures) c.cell_given.ensures c.in-Ok.ensures.answer)
 
 pub returns-in-Ok-clause-tells : goal.returns-in-Ok-clause-tells
@@ -78,10 +78,10 @@ returns-in-Ok-clause-tells c =
     let upper = c.in-Some.ensures.found in
     let lower = c.in-Some-find.ensures.found in
     let named : name_at c.args.tree.now.entries c.in-Some.upper.id.key ≡ Some c.args.parent.now = ap (option_map (λ (row : Row). row.name)) upper.there ∙ ap Some (found-parts c.args.tree.now c.args.client c.args.parent.now c.in-Some.upper.id.key c.in-Some.upper.kind upper).1 in
-    let left = c.in-Ok.ensures.ok ∙ ap₂ (λ (name : Option (List ℕ)) (cell : Cell). edited c.in-Some-find.lower.id.key (with_spot (option_map (λ n. (n, cell)) name)) c.args.tree.now) named c.cell_given.ensures in
+    let left = c.in-Ok.ensures.ok ∙ ap₂ (λ (name : Option (List ℕ)) (cell : Cell). edited c.in-Some-find.lower.id.key (with_attached (option_map (λ n. (n, cell)) name)) c.args.tree.now) named c.cell_given.ensures in
     let free = hangs_not (rows_of c.args.tree.now) upper.row lower.row (cell_given c.args.options.now) (attach_refusal-is c.args.tree.now c.args.client c.args.parent.now c.args.child.now c.args.options.now c.in-Some.upper.id.key c.in-Some-find.lower.id.key c.in-Some.upper.kind c.in-Some-find.lower.kind upper lower c.cell_given.result None c.cell_given.ensures c.in-Ok.ensures.answer) in
-    tells_edit c.args.tree.now c.attach.new.self c.args.client c.args.child.now c.in-Some-find.lower.id.key c.in-Some-find.lower.kind (with_spot (Some (c.args.parent.now, cell_given c.args.options.now))) c.done.result.changed c.find.ensures.valid lower left
-    (λ h same. spot_differs lower.row c.args.parent.now (cell_given c.args.options.now) free same) (λ h. absurd (true≢false (sym c.done.ensures.changed ∙ h)))
+    tells_edit c.args.tree.now c.attach.new.self c.args.client c.args.child.now c.in-Some-find.lower.id.key c.in-Some-find.lower.kind (with_attached (Some (c.args.parent.now, cell_given c.args.options.now))) c.done.result.changed c.find.ensures.valid lower left
+    (λ h same. attached_differs lower.row c.args.parent.now (cell_given c.args.options.now) free same) (λ h. absurd (true≢false (sym c.done.ensures.changed ∙ h)))
 
 pub returns-in-Err-clause-did : goal.returns-in-Err-clause-did
 returns-in-Err-clause-did c =

@@ -3,7 +3,7 @@ use Rattle.kind_core.specs.Events.{gives_event}
 use Rattle.kind_core.specs.declared.kinds.Kind.{Kind}
 use Rattle.cmd_words.specs.declared.replies.Reply.TheVariants.{Done}
 use Rattle.cmd_words.specs.declared.replies.Refusal.TheVariants.{NoSuchName, WrongKind}
-use Rattle.widget_model.specs.Rows.{Row, event_place, binding_of, with_binding}
+use Rattle.widget_model.specs.Rows.{Row, event_slot, binding_of, with_binding}
 use Rattle.desk_model.specs.Linking.{step_bind}
 use Rattle.desk_core.proofs.Dids.{refused_did, done_did}
 use Rattle.desk_core.proofs.LinkSteps.{step_bind-by}
@@ -41,4 +41,4 @@ returns-clause-tells c =
     let before = c.binding-before.result in
     let after = c.binding.result in
     tells_read (λ (row : Row). binding_of row event) c.args.tree.now c.set_binding.new.self c.args.client c.args.name.now c.in-Some.found.id.key c.in-Some.found.kind (with_binding event c.args.tag) before after (option_eq bytes_eq before after) c.done.result.changed c.find.ensures.valid c.in-Some.ensures.found c.set_binding.ensures.tag c.binding-before.ensures.tag c.binding.ensures.tag (c.done.ensures.changed ∙ c.ne.ensures) (option_eq-true bytes_eq (λ a b. (bytes_eq-Decides a b).0) before after) (option_eq-false bytes_eq nat_list_eq_equiv.refl before after)
-    (λ row h. ap (λ (bindings : List (Option (List ℕ))). record row { bindings = bindings }) (slice_set-same row.bindings (event_place event) c.args.tag None h))
+    (λ row h. ap (λ (bindings : List (Option (List ℕ))). record row { bindings = bindings }) (slice_set-same row.bindings (event_slot event) c.args.tag None h))

@@ -6,13 +6,13 @@ use Rattle.tree_core.proofs.going_up.parent_of.Goals as goal
 pub row-requires : goal.row-requires
 row-requires c = row_live c.args.store.now c.in-Some.id ∙ named-live _ c.args.client c.args.name.now c.in-Some.id (sym c.number_of.ensures ∙ c.in-Some.is)
 
-pub returns-in-Some-spot : goal.returns-in-Some-spot
-returns-in-Some-spot c =
+pub returns-in-Some-attached : goal.returns-in-Some-attached
+returns-in-Some-attached c =
     let way = parent_of-found c.args.store.now c.args.client c.args.name.now c.in-Some.id c.row.result.now c.requires.grove (sym c.number_of.ensures ∙ c.in-Some.is) c.row.ensures in
     rw way (search rules)
 
-pub returns-in-None-spot : goal.returns-in-None-spot
-returns-in-None-spot c =
+pub returns-in-None-attached : goal.returns-in-None-attached
+returns-in-None-attached c =
     let way = parent_of-found c.args.store.now c.args.client c.args.name.now c.in-Some.id c.row.result.now c.requires.grove (sym c.number_of.ensures ∙ c.in-Some.is) c.row.ensures in
     rw way (search rules)
 

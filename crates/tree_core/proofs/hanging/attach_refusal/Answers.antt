@@ -3,7 +3,7 @@ use Rattle.std.proofs.lemmas.Bool.{le-ltb}
 use Rattle.std.specs.Option.{option_map, option_map_or}
 use Rattle.kind_core.specs.declared.kinds.Kind.{Kind}
 use Rattle.widget_model.specs.Rows.{Row}
-use Rattle.widget_model.specs.Places.{child_id}
+use Rattle.widget_model.specs.Relatives.{child_id}
 use Rattle.widget_model.specs.Planted.{takes_cell}
 use Rattle.widget_model.specs.Trees.{height_in, depth_of, height_of, most_levels}
 use Rattle.tree_core.specs.Children.{rows_in, widgets_in}

@@ -1,7 +1,7 @@
 use Rattle.std.proofs.Common.{◌≡◌, ℕ, List, Option, true, false, is_some, refl, sym, ap, ◌∙◌, subst}
 use Rattle.std.specs.Option.{option_map, option_map_or}
 use Rattle.kind_core.specs.declared.kinds.Kind.{Kind}
-use Rattle.widget_model.specs.Rows.{Row, with_spot}
+use Rattle.widget_model.specs.Rows.{Row, with_attached}
 use Rattle.widget_model.specs.Links.{name_at}
 use Rattle.widget_model.specs.Planted.{takes_cell}
 use Rattle.widget_model.specs.Widgets.{Widgets, row_at, row_kind}
@@ -10,7 +10,7 @@ use Rattle.tree_core.specs.Kept.{IsGrove}
 use Rattle.row_store.proofs.CountsLemmas.{AreCounts-with_row}
 use Rattle.tree_core.proofs.ForestLemmas.{live-with_row}
 use Rattle.tree_core.proofs.Children.{takes_cell-index}
-use Rattle.tree_core.proofs.TreeKept.{IsTree-spot, IsWidgets-tree, live_row, place_within}
+use Rattle.tree_core.proofs.TreeKept.{IsTree-attached, IsWidgets-tree, live_row, place_within}
 use Rattle.tree_core.proofs.tree.Tree.attach.Goals as goal
 
 pub hang-requires-clause-within : goal.hang-requires-clause-within
@@ -27,17 +27,17 @@ invariant_of-self c =
     let found = live_row c.self.inside.clients.items c.self.inside.store c.args.self.now c.args.child.key c.self.view_is c.requires.child in
     let G : List (ℕ × Row) → Type 0 = λ es. IsGrove es in
     let H : List (ℕ × Row) → Type 0 = λ es. HasChildren es c.hang.new.cells in
-    let spot = option_map (λ (name : List ℕ). (name, c.args.cell)) (name_at c.self.inside.store c.args.parent.key) in
-    let tree = IsTree-spot c.self.inside.clients.items c.self.inside.names c.self.inside.store c.self.inside.cells c.hang.new.cells c.args.child.key spot found.0 found.1 (subst G c.hang.ensures.rows c.hang.ensures.grove) (subst H c.hang.ensures.rows c.hang.ensures.children) c.hang.ensures.length c.self.invariant.tree in
-    rw c.hang.ensures.rows (record { tree = tree; counted = AreCounts-with_row c.self.inside.counts c.self.inside.store c.args.child.key (with_spot spot) (λ row. refl) c.self.invariant.counted })
+    let attached = option_map (λ (name : List ℕ). (name, c.args.cell)) (name_at c.self.inside.store c.args.parent.key) in
+    let tree = IsTree-attached c.self.inside.clients.items c.self.inside.names c.self.inside.store c.self.inside.cells c.hang.new.cells c.args.child.key attached found.0 found.1 (subst G c.hang.ensures.rows c.hang.ensures.grove) (subst H c.hang.ensures.rows c.hang.ensures.children) c.hang.ensures.length c.self.invariant.tree in
+    rw c.hang.ensures.rows (record { tree = tree; counted = AreCounts-with_row c.self.inside.counts c.self.inside.store c.args.child.key (with_attached attached) (λ row. refl) c.self.invariant.counted })
 
 pub returns-clause-valid : goal.returns-clause-valid
 returns-clause-valid c =
     let found = live_row c.self.inside.clients.items c.self.inside.store c.args.self.now c.args.child.key c.self.view_is c.requires.child in
     let G : List (ℕ × Row) → Type 0 = λ es. IsGrove es in
     let H : List (ℕ × Row) → Type 0 = λ es. HasChildren es c.hang.new.cells in
-    let spot = option_map (λ (name : List ℕ). (name, c.args.cell)) (name_at c.self.inside.store c.args.parent.key) in
-    let tree = IsTree-spot c.self.inside.clients.items c.self.inside.names c.self.inside.store c.self.inside.cells c.hang.new.cells c.args.child.key spot found.0 found.1 (subst G c.hang.ensures.rows c.hang.ensures.grove) (subst H c.hang.ensures.rows c.hang.ensures.children) c.hang.ensures.length c.self.invariant.tree in
+    let attached = option_map (λ (name : List ℕ). (name, c.args.cell)) (name_at c.self.inside.store c.args.parent.key) in
+    let tree = IsTree-attached c.self.inside.clients.items c.self.inside.names c.self.inside.store c.self.inside.cells c.hang.new.cells c.args.child.key attached found.0 found.1 (subst G c.hang.ensures.rows c.hang.ensures.grove) (subst H c.hang.ensures.rows c.hang.ensures.children) c.hang.ensures.length c.self.invariant.tree in
     rw c.hang.ensures.rows (IsWidgets-tree _ _ _ c.hang.new.cells tree)
 
 pub returns-clause-kept : goal.returns-clause-kept

@@ -8,7 +8,7 @@ use Rattle.widget_model.specs.Widgets.{Widgets, nodes, rows_of, row_at}
 -- the parent's number
 abbrev pub parent_id : Widgets → ℕ → Option ℕ
 parent_id widgets id =
-    option_and_then (λ row. option_and_then (λ spot. id_named (nodes widgets.entries) row.client spot.0) row.spot) (row_at widgets.entries id)
+    option_and_then (λ row. option_and_then (λ attached. id_named (nodes widgets.entries) row.client attached.0) row.attached) (row_at widgets.entries id)
 
 -- the number of the child in that column and row
 abbrev pub child_id : Widgets → ℕ → ℕ → ℕ → Option ℕ
