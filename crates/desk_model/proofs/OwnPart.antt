@@ -20,7 +20,7 @@ use Rattle.cmd_words.specs.declared.replies.Refusal.{Refusal}
 use Rattle.cmd_words.specs.declared.replies.Refusal.TheVariants.{Memory, NotConnected, Connected}
 use Rattle.widget_model.specs.Rows.{Row, new_row, with_attached, with_link, with_binding}
 use Rattle.widget_model.specs.Named.{rows_of_others, with_named, without_named}
-use Rattle.scene_model.specs.Pointer.{Pointer, Grab, no_grab, on_widget, drags}
+use Rattle.widget_model.specs.Pointer.{Pointer, Grab, no_grab, on_widget, drags}
 use Rattle.desk_model.specs.Desk.{Desk, Admission, Ring, is_connected, is_open}
 use Rattle.desk_model.specs.Refusing.{when, first_refusal, outcome}
 use Rattle.desk_model.specs.AttrOptions.{with_attrs}

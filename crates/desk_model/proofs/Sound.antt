@@ -5,7 +5,7 @@ use Rattle.std.specs.List.{list_all}
 use Rattle.kind_core.specs.declared.kinds.Kind.{Kind}
 use Rattle.cmd_words.specs.declared.replies.Reply.{Reply}
 use Rattle.cmd_words.specs.declared.replies.Refusal.{Refusal}
-use Rattle.scene_model.specs.Pointer.{Grab, no_grab, on_widget, drags}
+use Rattle.widget_model.specs.Pointer.{Grab, no_grab, on_widget, drags}
 use Rattle.scene_model.specs.Shapes.{IsShape}
 use Rattle.widget_model.specs.Rows.{Row}
 use Rattle.widget_model.specs.Nodes.{any_kind, counts_with}

@@ -6,7 +6,7 @@ use Rattle.std.specs.Str.{bytes_eq}
 use Rattle.kind_core.specs.declared.kinds.EventKind.{EventKind}
 use Rattle.kind_core.specs.declared.shapes.Shape.{Shape}
 use Rattle.widget_model.specs.Rows.{Row}
-use Rattle.scene_model.specs.Pointer.{Pointer}
+use Rattle.widget_model.specs.Pointer.{Pointer}
 use Rattle.desk_model.specs.Pointer.{opening_pointer}
 
 -- an admitted VScreen, with the pixels that it may be drawn in a tick

@@ -1,7 +1,7 @@
 -- The one ending of every event: a grab or focus whose widget is neither an open window nor under one is none.
 use Rattle.std.specs.Prelude.{ℕ, Bool, List, Option, Some, None, if◌then◌else◌}
 use Rattle.cmd_words.specs.declared.replies.Reply.{Reply}
-use Rattle.scene_model.specs.Pointer.{Grab, no_grab, on_widget, drags}
+use Rattle.widget_model.specs.Pointer.{Grab, no_grab, on_widget, drags}
 use Rattle.widget_model.specs.Trees.{root_of}
 use Rattle.desk_model.specs.Desk.{Desk, is_open}
 

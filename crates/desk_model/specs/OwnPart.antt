@@ -4,7 +4,7 @@ use Rattle.std.specs.Option.{option_map}
 use Rattle.std.specs.List.{filter}
 use Rattle.cmd_words.specs.declared.commands.Command.{Command}
 use Rattle.cmd_words.specs.declared.replies.Reply.{Reply}
-use Rattle.scene_model.specs.Pointer.{Pointer, Grab, no_grab, on_widget, drags}
+use Rattle.widget_model.specs.Pointer.{Pointer, Grab, no_grab, on_widget, drags}
 use Rattle.widget_model.specs.Rows.{Row}
 use Rattle.widget_model.specs.Named.{own_rows, rows_of_others}
 use Rattle.desk_model.specs.Desk.{Desk, is_connected}

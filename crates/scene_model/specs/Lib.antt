@@ -1,5 +1,4 @@
 pub mod Shapes
-pub mod Pointer
 pub mod Scene
 pub mod Spans
 pub mod Values

@@ -8,7 +8,7 @@ use Rattle.look_core.specs.Seen as seen
 use Rattle.look_core.specs.Seen.{Seen}
 use Rattle.widget_model.specs.Rows.{Row}
 use Rattle.widget_model.specs.Keys.{key_of, same_key}
-use Rattle.scene_model.specs.Pointer.{Grab, no_grab, on_widget, drags}
+use Rattle.widget_model.specs.Pointer.{Grab, no_grab, on_widget, drags}
 use Rattle.scene_model.specs.Scene.{Scene}
 use Rattle.scene_model.specs.Values.{count_of, text_of, label_of, scale_of, scrollbar_of, caret_of, is_vertical}
 

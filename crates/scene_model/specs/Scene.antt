@@ -2,7 +2,7 @@
 -- to bottom, each by its key, and the pointer, on a screen of so many pixels.
 use Rattle.std.specs.Prelude.{ℕ, List}
 use Rattle.widget_model.specs.Rows.{Row}
-use Rattle.scene_model.specs.Pointer.{Pointer}
+use Rattle.widget_model.specs.Pointer.{Pointer}
 
 pub record Scene : Type 0 where
   pub width : ℕ

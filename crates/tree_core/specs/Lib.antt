@@ -1,3 +1,4 @@
+pub mod Holds
 pub mod Children
 pub mod Kept
 pub mod Refusals

@@ -8,10 +8,12 @@ mod going_up;
 mod hanging;
 mod id;
 mod links;
+mod pointer;
 mod refusal;
 mod removing;
 mod tree;
 
 pub use id::Id;
+pub use pointer::{Grab, Pointer};
 pub use refusal::{AddRefusal, AttachRefusal, InUse, NoMemory};
 pub use tree::Tree;

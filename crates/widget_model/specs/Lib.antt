@@ -7,6 +7,7 @@ pub mod Forest
 pub mod Named
 pub mod Trees
 pub mod Keys
+pub mod Pointer
 pub mod Planted
 pub mod Fitting
 pub mod Relatives
