@@ -3,3 +3,4 @@ pub mod Parents
 pub mod Levels
 pub mod LevelsDown
 pub mod LevelLaws
+pub mod WindowRows

@@ -9,6 +9,7 @@ pub mod Placing
 pub mod Showing
 pub mod LookOf
 pub mod Colours
+pub mod WindowRows
 pub mod LevelLaws
 pub mod Windows
 pub mod OpenWindows
