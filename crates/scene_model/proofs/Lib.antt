@@ -4,3 +4,4 @@ pub mod Levels
 pub mod LevelsDown
 pub mod LevelLaws
 pub mod WindowRows
+pub mod Still

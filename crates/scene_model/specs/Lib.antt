@@ -10,6 +10,7 @@ pub mod Showing
 pub mod LookOf
 pub mod Colours
 pub mod WindowRows
+pub mod Still
 pub mod LevelLaws
 pub mod Windows
 pub mod OpenWindows
