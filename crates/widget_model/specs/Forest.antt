@@ -6,7 +6,7 @@ use Rattle.widget_model.specs.Nodes.{Node, id_named, node_at, count_of, any_kind
 use Rattle.widget_model.specs.Widgets.{Widgets, nodes, rows_of, is_joined}
 use Rattle.widget_model.specs.Links.{ties, all_lead}
 use Rattle.widget_model.specs.Planted.{IsPlanted}
-use Rattle.widget_model.specs.Fitting.{fits_table, HaveFitFilms}
+use Rattle.widget_model.specs.Fitting.{is_fit, HaveFitFilms}
 
 -- No two nodes have one number.
 abbrev pub HaveOwnNumbers : List (ℕ × Node) → Type 0
@@ -33,10 +33,10 @@ pub record IsForest (clients : List ℕ) (entries : List (ℕ × Node)) : Type 0
   pub most_alike : (client : ℕ) (kind : Kind) → count_of client (counts_with kind) entries ≤ 8
 
 -- Of all widgets the same holds, each link leads to a Variable of the same client, they hang right in one
--- another, each one's values fit its kind's table, and only a VScreen has a film, a whole one.
+-- another, each one's values and rules fit, and only a VScreen has a film, a whole one.
 pub record IsWidgets (widgets : Widgets) : Type 0 where
   pub forest : IsForest widgets.clients (nodes widgets.entries)
   pub linked : all_lead (nodes widgets.entries) (ties widgets.entries) ≡ true
   pub planted : IsPlanted (rows_of widgets)
-  pub fitting : list_all fits_table (rows_of widgets) ≡ true
+  pub fitting : list_all is_fit (rows_of widgets) ≡ true
   pub films : HaveFitFilms (rows_of widgets)
