@@ -14,7 +14,7 @@ use Rattle.scene_model.specs.Windows.{shown_by_any, top_at}
 use Rattle.scene_model.specs.Picture.{colour_through}
 use Rattle.desk_model.specs.Seen.{colour}
 use Rattle.machine_model.specs.Reach.{IsTouched, is_shown, in_reach}
-use Rattle.desk_model.specs.Refusing.{is_memory}
+use Rattle.desk_model.specs.Refusals.{is_memory}
 use Rattle.desk_model.specs.Beat.{beat, in_band}
 use Rattle.machine_model.specs.State.{IsState, count_true, opening}
 use Rattle.machine_model.specs.Step.{Obeyed, Changed, Answered, Ticked}

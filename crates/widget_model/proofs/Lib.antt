@@ -5,4 +5,5 @@ pub mod Cells
 pub mod Levels
 pub mod Planting
 pub mod OwnRows
+pub mod FittingValues
 pub mod FitFilms

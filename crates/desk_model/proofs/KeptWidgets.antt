@@ -14,15 +14,15 @@ use Rattle.widget_model.specs.Fitting.{fits_rules}
 use Rattle.widget_model.specs.Widgets.{is_joined}
 use Rattle.desk_model.specs.Desk.{Desk, is_connected, is_open}
 use Rattle.desk_model.specs.AttrOptions.{attrs_refusal, with_attrs}
-use Rattle.desk_model.specs.DeskFacts.{links_right, links_by_kind, has_places}
-use Rattle.desk_model.specs.Making.{new_refusal, new_effect, set_refusal, set_effect, get_refusal, get_effect, drop_refusal, drop_effect, step_new, step_set, step_get, step_drop}
-use Rattle.widget_model.proofs.Planting.{IsPlanted-change}
+use Rattle.desk_model.specs.DeskFacts.{has_slots}
+use Rattle.desk_model.specs.WidgetCommands.{new_refusal, new_effect, set_refusal, set_effect, get_refusal, get_effect, drop_refusal, drop_effect, step_new, step_set, step_get, step_drop}
 use Rattle.desk_model.proofs.Sound.{IsSound, IsSound-outcome}
-use Rattle.desk_model.proofs.KeptRows.{Suits, IsSound-with_named}
+use Rattle.desk_model.proofs.KeptRows.{Suits, Suits-change, IsSound-with_named}
 use Rattle.desk_model.proofs.KeptNew.{IsNew, IsSound-push}
 use Rattle.desk_model.proofs.KeptOut.{IsSound-remove}
 use Rattle.desk_model.proofs.Refusals.{passed, when-none, unless_there-none, is_some-none}
-use Rattle.desk_model.proofs.ValuesFit.{fits_table-new, fits_table-with_attrs, same-with_attrs}
+use Rattle.widget_model.proofs.FittingValues.{fits_table-new}
+use Rattle.desk_model.proofs.AttrOptions.{fits_table-with_attrs, same-with_attrs}
 
 IsNew-new_row : (clients : List ℕ) (rows : List Row) (client : ℕ) (name : List ℕ) (kind : Kind) → is_joined clients client ≡ true → row_named rows client name ≡ None → nat_le 128 (rows_counted client any_kind rows) ≡ false → nat_le 8 (rows_counted client (counts_with kind) rows) ≡ false → IsNew clients rows (new_row client name kind)
 unfolding new_row
@@ -36,7 +36,7 @@ IsNew-new_row clients rows client name kind joined free few few_alike =
       unlinked = refl;
       fitting = fits_table-new client name kind;
       rules = refl;
-      places = refl;
+      slots = refl;
     }
 
 pub IsSound-new : (desk : Desk) (client : ℕ) (name : List ℕ) (kind : Kind) (short : Bool) → IsSound desk → is_connected desk client ≡ true → IsSound (step_new desk client name kind short).1
@@ -55,24 +55,15 @@ IsSound-new desk client name kind short sound joined = IsSound-outcome desk (new
 
 Suits-with_attrs : (rows : List Row) (client : ℕ) (name : List ℕ) (options : List (Attr × value.Value)) (row : Row) → IsPlanted rows → attrs_refusal row.kind options ≡ None → Suits rows client name row (with_attrs options)
 Suits-with_attrs rows client name options row planted none =
-    record {
-      leaves = record { client = client_is; name = name_is; kind = kind_is };
-      planted = IsPlanted-change rows client name (with_attrs options) (record { client = client_is; name = name_is; kind = kind_is; attached = λ row. same-with_attrs (λ (row : Row). row.attached) (λ attr v row. refl) options row }) planted;
-      linked = λ h. same-with_attrs (links_right rows) (λ attr v row. refl) options row ∙ h;
-      linked_by_kind = λ h. same-with_attrs links_by_kind (λ attr v row. refl) options row ∙ h;
-      fitting = fits_table-with_attrs options row none;
-      rules = λ h. same-with_attrs fits_rules (λ attr v row. refl) options row ∙ h;
-      places = λ h. same-with_attrs has_places (λ attr v row. refl) options row ∙ h;
-    }
-  where
-    client_is : (row : Row) → (with_attrs options row).client ≡ row.client
-    client_is row = same-with_attrs (λ (row : Row). row.client) (λ attr v row. refl) options row
-
-    name_is : (row : Row) → (with_attrs options row).name ≡ row.name
-    name_is row = same-with_attrs (λ (row : Row). row.name) (λ attr v row. refl) options row
-
-    kind_is : (row : Row) → (with_attrs options row).kind ≡ row.kind
-    kind_is row = same-with_attrs (λ (row : Row). row.kind) (λ attr v row. refl) options row
+    Suits-change rows client name row (with_attrs options)
+    (record {
+      client = λ row. same-with_attrs (λ (row : Row). row.client) (λ attr v row. refl) options row;
+      name = λ row. same-with_attrs (λ (row : Row). row.name) (λ attr v row. refl) options row;
+      kind = λ row. same-with_attrs (λ (row : Row). row.kind) (λ attr v row. refl) options row;
+      attached = λ row. same-with_attrs (λ (row : Row). row.attached) (λ attr v row. refl) options row;
+    })
+    (same-with_attrs (λ (row : Row). row.link) (λ attr v row. refl) options) planted (fits_table-with_attrs options row none)
+    (λ h. same-with_attrs fits_rules (λ attr v row. refl) options row ∙ h) (λ h. same-with_attrs has_slots (λ attr v row. refl) options row ∙ h)
 
 pub IsSound-set : (desk : Desk) (client : ℕ) (name : List ℕ) (options : List (Attr × value.Value)) → IsSound desk → IsSound (step_set desk client name options).1
 unfolding step_set

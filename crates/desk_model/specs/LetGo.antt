@@ -1,4 +1,5 @@
--- The one ending of every event: a grab or focus whose widget is neither an open window nor under one is none.
+-- What the pointer lets go of, as every event ends: a grab or focus whose widget is neither an open window nor under
+-- one is none.
 use Rattle.std.specs.Prelude.{ℕ, Bool, List, Option, Some, None, if◌then◌else◌}
 use Rattle.cmd_words.specs.declared.replies.Reply.{Reply}
 use Rattle.widget_model.specs.Pointer.{Grab, no_grab, on_widget, drags}

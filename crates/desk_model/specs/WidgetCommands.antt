@@ -14,7 +14,7 @@ use Rattle.widget_model.specs.Nodes.{any_kind, counts_with}
 use Rattle.widget_model.specs.Named.{row_named, with_named, without_named, rows_counted}
 use Rattle.widget_model.specs.Trees.{is_used}
 use Rattle.desk_model.specs.Desk.{Desk, is_open}
-use Rattle.desk_model.specs.Refusing.{when, first_refusal, outcome, unless_there}
+use Rattle.desk_model.specs.Refusals.{when, first_refusal, outcome, unless_there}
 use Rattle.desk_model.specs.AttrOptions.{attrs_refusal, with_attrs}
 
 -- `n = new K()`. `short`: there is no memory for it.

@@ -36,7 +36,7 @@ AreRows-joined clients client rows kept =
       linked_by_kind = kept.linked_by_kind;
       fitting = kept.fitting;
       rules = kept.rules;
-      places = kept.places;
+      slots = kept.slots;
     }
 
 pub IsSound-with_client : (desk : Desk) (client : ℕ) → IsSound desk → is_client client ≡ true → is_connected desk client ≡ false → IsSound (with_client client desk)

@@ -1,5 +1,5 @@
--- Values fit their kind's table: those of a new row, and those after attributes were set to what the table takes.
-use Rattle.std.proofs.Common.{◌≡◌, ◌<◌, ◌⊎◌, inl, inr, ℕ, Bool, true, cond, nat_eq, length, get_or, List, [], ◌∷◌, map, Some, None, Result, Ok, Err, is_ok, refl, sym, ap, ◌∙◌, arith}
+-- Values fit their kind's table: those of a new row, and those after an attribute was set to what the table takes.
+use Rattle.std.proofs.Common.{◌≡◌, ◌<◌, ◌⊎◌, inl, inr, ℕ, List, Bool, true, cond, nat_eq, length, get_or, Some, None, Ok, is_ok, refl, sym, ap, ◌∙◌, arith}
 use Rattle.std.proofs.Math.ListN.{set, length-set}
 use Rattle.std.proofs.lemmas.Bool.{eqb-true, eq-eqb, and_parts, and_from, cases_eq}
 use Rattle.std.proofs.lemmas.List.{get_or-set_same, get_or-set_other}
@@ -9,14 +9,10 @@ use Rattle.kind_core.specs.declared.kinds.Kind.TheVariants.{Window, Grid, Frame,
 use Rattle.kind_core.specs.declared.kinds.Attr.{Attr}
 use Rattle.kind_core.specs.declared.kinds.Attr.TheVariants.{X, Y, W, H, Title, Text, Caret, Cols, Value, Max, Real, View, Vert}
 use Rattle.kind_core.specs.declared.values.Value as value
-use Rattle.kind_core.specs.declared.values.AttrRefusal.{AttrRefusal}
-use Rattle.kind_core.specs.declared.values.AttrRefusal.TheVariants.{NotOfKind, OutOfRange}
 use Rattle.kind_core.specs.Attributes.{domain_of, judged}
 use Rattle.widget_model.specs.Rows.{Row, all_attrs, attr_of, attr_slot, with_attr, new_row, first_values, default_at}
 use Rattle.widget_model.specs.Fitting.{fits_attr, fits_table}
-use Rattle.desk_model.specs.AttrOptions.{told, attr_refusal, attrs_refusal, with_attrs}
 use Rattle.widget_model.proofs.Hanging.{all_at, all_from}
-use Rattle.desk_model.proofs.Refusals.{passed}
 
 pub fits_table-new : (client : ℕ) (name : List ℕ) (kind : Kind) → fits_table (new_row client name kind) ≡ true
 unfolding new_row first_values default_at
@@ -31,27 +27,27 @@ fits_table-new client name Scrollbar = refl
 fits_table-new client name Variable = refl
 fits_table-new client name VScreen = refl
 
--- each attribute has a place of its own
+-- each attribute has a slot of its own
 attr_at : ℕ → Attr
 attr_at n =
     cond (nat_eq n 0) X (cond (nat_eq n 1) Y (cond (nat_eq n 2) W (cond (nat_eq n 3) H (cond (nat_eq n 4) Title (cond (nat_eq n 5) Text (cond (nat_eq n 6) Caret
     (cond (nat_eq n 7) Cols (cond (nat_eq n 8) Value (cond (nat_eq n 9) Max (cond (nat_eq n 10) Real (cond (nat_eq n 11) View Vert)))))))))))
 
-attr_at-place : (attr : Attr) → attr_at (attr_slot attr) ≡ attr
+attr_at-slot : (attr : Attr) → attr_at (attr_slot attr) ≡ attr
 unfolding attr_at
-attr_at-place X = refl
-attr_at-place Y = refl
-attr_at-place W = refl
-attr_at-place H = refl
-attr_at-place Title = refl
-attr_at-place Text = refl
-attr_at-place Caret = refl
-attr_at-place Cols = refl
-attr_at-place Value = refl
-attr_at-place Max = refl
-attr_at-place Real = refl
-attr_at-place View = refl
-attr_at-place Vert = refl
+attr_at-slot X = refl
+attr_at-slot Y = refl
+attr_at-slot W = refl
+attr_at-slot H = refl
+attr_at-slot Title = refl
+attr_at-slot Text = refl
+attr_at-slot Caret = refl
+attr_at-slot Cols = refl
+attr_at-slot Value = refl
+attr_at-slot Max = refl
+attr_at-slot Real = refl
+attr_at-slot View = refl
+attr_at-slot Vert = refl
 
 attr_slot-within : (attr : Attr) → attr_slot attr < 13
 attr_slot-within X = omega arith
@@ -89,25 +85,8 @@ fits_table-with_attr row attr v taken h =
 
     by : (other : Attr) → before other ≡ true → (attr_slot other ≡ attr_slot attr) ⊎ (attr_slot other ≡ attr_slot attr → ⊥) → after other ≡ true
     by other k (inl same) =
-        let one : other ≡ attr = sym (attr_at-place other) ∙ ap attr_at same ∙ attr_at-place attr in
+        let one : other ≡ attr = sym (attr_at-slot other) ∙ ap attr_at same ∙ attr_at-slot attr in
         let within : attr_slot attr < length row.values = omega (arith, attr_slot-within attr, len) in
         let here : attr_of (with_attr attr v row) other ≡ Some v = ap (λ (n : ℕ). get_or (set row.values (attr_slot attr) (Some v)) n None) same ∙ get_or-set_same row.values (attr_slot attr) (Some v) None within in
         ap (fits_attr row.kind other) here ∙ ap (λ (a : Attr). fits_attr row.kind a (Some v)) one ∙ ap is_ok taken
     by other k (inr apart) = ap (fits_attr row.kind other) (get_or-set_other row.values (attr_slot attr) (attr_slot other) (Some v) None apart) ∙ k
-
--- An option that isn't refused is one that the table takes.
-told-none : (answer : Result (Unit {0}) AttrRefusal) → told answer ≡ None → answer ≡ Ok tt
-told-none (Ok done) h = refl
-told-none (Err NotOfKind) h = absurd (cc)
-told-none (Err (OutOfRange least greatest)) h = absurd (cc)
-
-pub fits_table-with_attrs : (options : List (Attr × value.Value)) (row : Row) → attrs_refusal row.kind options ≡ None → fits_table row ≡ true → fits_table (with_attrs options row) ≡ true
-fits_table-with_attrs [] row none h = h
-fits_table-with_attrs (option ∷ options) row none h =
-    let parts = passed (attr_refusal row.kind option) (map (attr_refusal row.kind) options) none in
-    fits_table-with_attrs options (with_attr option.0 option.1 row) parts.1 (fits_table-with_attr row option.0 option.1 (told-none (judged (domain_of row.kind option.0) option.1) parts.0) h)
-
--- what each setting leaves, all leave
-pub same-with_attrs : {X : Type 0} (of : Row → X) → ((attr : Attr) (v : value.Value) (row : Row) → of (with_attr attr v row) ≡ of row) → (options : List (Attr × value.Value)) (row : Row) → of (with_attrs options row) ≡ of row
-same-with_attrs of each [] row = refl
-same-with_attrs of each (option ∷ options) row = same-with_attrs of each options (with_attr option.0 option.1 row) ∙ each option.0 option.1 row

@@ -8,16 +8,18 @@ use Rattle.widget_model.specs.Rows.{Row, with_link, with_binding}
 use Rattle.widget_model.specs.Named.{row_named, is_kind_of}
 use Rattle.widget_model.specs.Planted.{IsPlanted}
 use Rattle.desk_model.specs.Desk.{Desk, is_open}
-use Rattle.desk_model.specs.Refusing.{when, unless_there, unless_kind}
-use Rattle.desk_model.specs.Linking.{link_refusal, link_effect, unlink_refusal, unlink_effect, bind_refusal, bind_effect, open_refusal, open_effect, step_link, step_unlink, step_bind, step_open}
+use Rattle.desk_model.specs.Refusals.{when, unless_there, unless_kind}
+use Rattle.desk_model.specs.Links.{link_refusal, link_effect, unlink_refusal, unlink_effect, step_link, step_unlink}
+use Rattle.desk_model.specs.Bindings.{bind_refusal, bind_effect, step_bind}
+use Rattle.desk_model.specs.Windows.{open_refusal, open_effect, step_open}
 use Rattle.widget_model.specs.Kinds.{can_link, is_variable_kind, is_window_kind}
 use Rattle.desk_model.specs.DeskFacts.{links_right, links_by_kind}
 use Rattle.widget_model.proofs.Hanging.{IsNamed-row_named}
 use Rattle.widget_model.proofs.Planting.{IsPlanted-change}
 use Rattle.desk_model.proofs.Sound.{IsSound, IsSound-outcome}
-use Rattle.desk_model.proofs.KeptRows.{Suits, IsSound-with_named}
+use Rattle.desk_model.proofs.KeptRows.{Suits, Suits-change, IsSound-with_named}
 use Rattle.desk_model.proofs.Refusals.{passed, when-none, unless_there-none, unless_kind-none}
-use Rattle.desk_model.proofs.RulesFit.{has_places-with_binding}
+use Rattle.desk_model.proofs.Tracks.{has_slots-with_binding}
 
 Suits-with_link : (rows : List Row) (client : ℕ) (name : List ℕ) (row : Row) (link : Option (List ℕ)) → IsPlanted rows → links_right rows (with_link link row) ≡ true → links_by_kind (with_link link row) ≡ true → Suits rows client name row (with_link link)
 Suits-with_link rows client name row link planted leads suits =
@@ -28,7 +30,7 @@ Suits-with_link rows client name row link planted leads suits =
       linked_by_kind = λ h. suits;
       fitting = λ h. h;
       rules = λ h. h;
-      places = λ h. h;
+      slots = λ h. h;
     }
 
 pub IsSound-link : (desk : Desk) (client : ℕ) (name variable : List ℕ) → IsSound desk → IsSound (step_link desk client name variable).1
@@ -69,15 +71,8 @@ IsSound-bind desk client name event tag sound = IsSound-outcome desk (bind_refus
         let one = passed _ _ none in
         let found = unless_there-none (row_named desk.rows client name) one.0 in
         IsSound-with_named desk client name found.0 (with_binding event tag) sound found.1
-        (record {
-          leaves = record { client = λ row. refl; name = λ row. refl; kind = λ row. refl };
-          planted = IsPlanted-change desk.rows client name (with_binding event tag) (record { client = λ row. refl; name = λ row. refl; kind = λ row. refl; attached = λ row. refl }) sound.rows.planted;
-          linked = λ h. h;
-          linked_by_kind = λ h. h;
-          fitting = λ h. h;
-          rules = λ h. h;
-          places = λ h. has_places-with_binding event tag found.0 ∙ h;
-        })
+        (Suits-change desk.rows client name found.0 (with_binding event tag) (record { client = λ row. refl; name = λ row. refl; kind = λ row. refl; attached = λ row. refl }) (λ row. refl) sound.rows.planted
+        (λ h. h) (λ h. h) (λ h. has_slots-with_binding event tag found.0 ∙ h))
 
 pub IsSound-open : (desk : Desk) (client : ℕ) (name : List ℕ) → IsSound desk → IsSound (step_open desk client name).1
 unfolding step_open

@@ -1,8 +1,11 @@
--- Each step of the desk keeps what holds of a desk, by the definitions alone.
+-- Each step of the desk keeps what holds of a desk, and a refused step leaves the desk as it was, by the definitions
+-- alone.
 use Rattle.std.specs.Prelude.{ℕ, ◌≡◌, Bool, true, Some}
 use Rattle.kind_core.specs.declared.shapes.Shape.{Shape}
 use Rattle.cmd_words.specs.declared.commands.Command.{Command}
 use Rattle.cmd_words.specs.declared.replies.Reply.{Reply}
+use Rattle.cmd_words.specs.declared.replies.Reply.TheVariants.{Refused}
+use Rattle.cmd_words.specs.declared.replies.Refusal.{Refusal}
 use Rattle.scene_model.specs.Shapes.{IsShape}
 use Rattle.widget_model.specs.Forest.{is_client}
 use Rattle.desk_model.specs.Desk.{Desk, opening_desk}
@@ -28,3 +31,18 @@ ByesKeepDesks = (desk : Desk) (client : ℕ) → IsDesk desk → IsDesk (step_by
 abbrev pub CommandsKeepDesks : Type 0
 CommandsKeepDesks =
     (desk : Desk) (client : ℕ) (command : Command) (short : Bool) (reply : Reply) (next : Desk) → IsDesk desk → step desk client command short ≡ Some (reply, next) → IsDesk next
+
+-- A refused step of a valid desk leaves it as it was: the pointer holds nothing then that the step's ending lets go of.
+abbrev pub RefusedConnectsChangeNothing : Type 0
+RefusedConnectsChangeNothing =
+    (desk : Desk) (client : ℕ) (short : Bool) (refusal : Refusal) → IsDesk desk → (step_connect desk client short).0 ≡ Refused refusal → (step_connect desk client short).1 ≡ desk
+
+abbrev pub RefusedHellosChangeNothing : Type 0
+RefusedHellosChangeNothing = (desk : Desk) (short : Bool) (refusal : Refusal) → IsDesk desk → (step_hello desk short).0 ≡ Refused refusal → (step_hello desk short).1 ≡ desk
+
+abbrev pub RefusedByesChangeNothing : Type 0
+RefusedByesChangeNothing = (desk : Desk) (client : ℕ) (refusal : Refusal) → IsDesk desk → (step_bye desk client).0 ≡ Refused refusal → (step_bye desk client).1 ≡ desk
+
+abbrev pub RefusedCommandsChangeNothing : Type 0
+RefusedCommandsChangeNothing =
+    (desk : Desk) (client : ℕ) (command : Command) (short : Bool) (refusal : Refusal) (next : Desk) → IsDesk desk → step desk client command short ≡ Some (Refused refusal, next) → next ≡ desk
