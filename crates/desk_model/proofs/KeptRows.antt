@@ -10,10 +10,10 @@ use Rattle.widget_model.specs.Nodes.{any_kind, counts_with}
 use Rattle.widget_model.specs.Named.{has_name, row_named, with_named, rows_counted, is_kind_of}
 use Rattle.widget_model.specs.Widgets.{is_joined}
 use Rattle.widget_model.specs.Planted.{IsPlanted}
-use Rattle.widget_model.specs.Fitting.{fits_table, fits_rules}
+use Rattle.widget_model.specs.Fitting.{fits_table, fits_rules, has_slots}
 use Rattle.desk_model.specs.Desk.{Desk}
 use Rattle.widget_model.specs.Kinds.{is_variable_kind, is_window_kind}
-use Rattle.desk_model.specs.DeskFacts.{links_right, links_by_kind, has_slots}
+use Rattle.desk_model.specs.DeskFacts.{links_right, links_by_kind}
 use Rattle.widget_model.specs.Named.{AreNamedApart}
 use Rattle.widget_model.proofs.Planting.{LeavesPlace, IsPlanted-change}
 use Rattle.widget_model.proofs.Hanging.{all_at, all_from, LeavesNames, changed, row_named-map, row_named-only}

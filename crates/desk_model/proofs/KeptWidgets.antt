@@ -10,11 +10,10 @@ use Rattle.widget_model.specs.Nodes.{any_kind, counts_with}
 use Rattle.widget_model.specs.Named.{row_named, rows_counted}
 use Rattle.widget_model.specs.Trees.{is_used}
 use Rattle.widget_model.specs.Planted.{IsPlanted}
-use Rattle.widget_model.specs.Fitting.{fits_rules}
+use Rattle.widget_model.specs.Fitting.{fits_rules, has_slots}
 use Rattle.widget_model.specs.Widgets.{is_joined}
 use Rattle.desk_model.specs.Desk.{Desk, is_connected, is_open}
 use Rattle.desk_model.specs.AttrOptions.{attrs_refusal, with_attrs}
-use Rattle.desk_model.specs.DeskFacts.{has_slots}
 use Rattle.desk_model.specs.WidgetCommands.{new_refusal, new_effect, set_refusal, set_effect, get_refusal, get_effect, drop_refusal, drop_effect, step_new, step_set, step_get, step_drop}
 use Rattle.desk_model.proofs.Sound.{IsSound, IsSound-outcome}
 use Rattle.desk_model.proofs.KeptRows.{Suits, Suits-change, IsSound-with_named}

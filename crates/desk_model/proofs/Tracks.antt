@@ -9,10 +9,9 @@ use Rattle.cmd_words.specs.declared.commands.ConfigOption.TheVariants.{Size, Wei
 use Rattle.scene_model.specs.declared.axis.Axis.{Axis}
 use Rattle.scene_model.specs.declared.axis.Axis.TheVariants.{Across, Down}
 use Rattle.widget_model.specs.Rows.{Row, column_rule_of, row_rule_of, event_slot, with_binding}
-use Rattle.widget_model.specs.Fitting.{fits_rule, fits_rules}
+use Rattle.widget_model.specs.Fitting.{fits_rule, fits_rules, has_slots}
 use Rattle.desk_model.specs.ConfigOptions.{rule_option_refusal, rule_options_refusal, with_rule_option, with_rule_options}
 use Rattle.desk_model.specs.Tracks.{rule_given, with_track}
-use Rattle.desk_model.specs.DeskFacts.{has_slots}
 use Rattle.desk_model.proofs.Refusals.{passed, unless_within-none}
 
 -- a rule that is read fits, and so do the rules with one that is written

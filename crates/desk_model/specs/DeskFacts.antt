@@ -10,7 +10,7 @@ use Rattle.widget_model.specs.Named.{row_named, rows_counted, is_kind_of, AreNam
 use Rattle.widget_model.specs.Widgets.{is_joined}
 use Rattle.widget_model.specs.Forest.{is_client}
 use Rattle.widget_model.specs.Planted.{IsPlanted}
-use Rattle.widget_model.specs.Fitting.{fits_table, fits_rules}
+use Rattle.widget_model.specs.Fitting.{fits_table, fits_rules, has_slots}
 use Rattle.desk_model.specs.Desk.{Desk, is_connected, is_window}
 use Rattle.widget_model.specs.Kinds.{can_link, is_variable_kind, is_window_kind}
 use Rattle.desk_model.specs.LetGo.{let_go}
@@ -23,10 +23,6 @@ AreConnectedOnce (client ∷ clients) = (is_joined clients client ≡ false) × 
 -- A link leads to a Variable of the same client.
 abbrev pub links_right : List Row → Row → Bool
 links_right rows row = option_map_or (λ name. is_kind_of is_variable_kind (row_named rows row.client name)) row.link true
-
--- A row has a rule for each of 16 columns and 16 rows, and a slot for the tag of each of the seven events.
-abbrev pub has_slots : Row → Bool
-has_slots row = nat_eq (length row.column_rules) 16 && (nat_eq (length row.row_rules) 16 && nat_eq (length row.bindings) 7)
 
 -- Only a row whose kind can be linked has a link.
 abbrev pub links_by_kind : Row → Bool

@@ -9,7 +9,7 @@ use Rattle.kind_core.specs.declared.shapes.Cell.{Cell}
 use Rattle.widget_model.specs.Rows.{Row, with_link, with_attached, new_row}
 use Rattle.widget_model.specs.Nodes.{Node, node_of, node_at, is_number_of, first_number}
 use Rattle.widget_model.specs.Planted.{IsPlanted}
-use Rattle.widget_model.specs.Fitting.{fits_table, IsFitFilm, HaveFitFilms}
+use Rattle.widget_model.specs.Fitting.{is_fit, IsFitFilm, HaveFitFilms}
 use Rattle.widget_model.specs.Links.{ties, leads, all_lead}
 use Rattle.widget_model.specs.Widgets.{Widgets, row_at, nodes, with_row, is_joined, IsLive, IsGrid}
 use Rattle.widget_model.specs.Forest.{IsForest, IsWidgets}
@@ -25,7 +25,8 @@ use Rattle.row_store.proofs.Nodes.{nodes-with_row, nodes-push, node_at-nodes}
 use Rattle.tree_core.proofs.ForestLemmas.{ties-with_row, linked-with_link, linked-push, IsForest-join, IsForest-push, no_refusal, joined_in_range}
 use Rattle.tree_core.proofs.Groves.{IsGrove-leaves}
 use Rattle.tree_core.proofs.Moves.{HasChildren-still}
-use Rattle.tree_core.proofs.Fits.{fitting-with_row, fitting-push, fits_table-new}
+use Rattle.widget_model.proofs.Fit.{is_fit-new}
+use Rattle.tree_core.proofs.Fits.{fitting-with_row, fitting-push}
 use Rattle.widget_model.proofs.FitFilms.{IsFitFilm-still, HaveFitFilms-with_row, HaveFitFilms-push}
 use Rattle.tree_core.proofs.Newcomer.{planted-push, HasChildren-push}
 
@@ -36,7 +37,7 @@ pub IsWidgets-tree : (clients : List ℕ) (names : List ((ℕ × List ℕ) × �
 IsWidgets-tree clients names es cells tree = record { forest = tree.forest; linked = tree.linked; planted = tree.planted; fitting = tree.fitting; films = tree.films }
 
 -- a change of one row that leaves the nodes
-pub IsTree-with_row : (clients : List ℕ) (names : List ((ℕ × List ℕ) × ℕ)) (es : List (ℕ × Row)) (cells new_cells : List (Option ℕ)) (id : ℕ) (change : Row → Row) → ((row : Row) → node_of (change row) ≡ node_of row) → all_lead (nodes es) (ties (with_row id change es)) ≡ true → IsPlanted (rows_in (with_row id change es)) → list_all fits_table (rows_in (with_row id change es)) ≡ true → HaveFitFilms (rows_in (with_row id change es)) → HasChildren (with_row id change es) new_cells → length new_cells ≡ length cells → IsTree clients names es cells → IsTree clients names (with_row id change es) new_cells
+pub IsTree-with_row : (clients : List ℕ) (names : List ((ℕ × List ℕ) × ℕ)) (es : List (ℕ × Row)) (cells new_cells : List (Option ℕ)) (id : ℕ) (change : Row → Row) → ((row : Row) → node_of (change row) ≡ node_of row) → all_lead (nodes es) (ties (with_row id change es)) ≡ true → IsPlanted (rows_in (with_row id change es)) → list_all is_fit (rows_in (with_row id change es)) ≡ true → HaveFitFilms (rows_in (with_row id change es)) → HasChildren (with_row id change es) new_cells → length new_cells ≡ length cells → IsTree clients names es cells → IsTree clients names (with_row id change es) new_cells
 IsTree-with_row clients names es cells new_cells id change same linked planted fitting films children len tree =
     let nodes_same = nodes-with_row es id change same in
     let P : List (ℕ × Node) → Type 0 = λ ns. IsIndexed names ns in
@@ -63,10 +64,10 @@ grid_live widgets id grid = by (row_at widgets.entries id) grid
     by None h = absurd (cc)
     by (Some row) h = refl
 
-pub fits_at : (es : List (ℕ × Row)) (id : ℕ) (row : Row) → list_all fits_table (rows_in es) ≡ true → row_at es id ≡ Some row → fits_table row ≡ true
+pub fits_at : (es : List (ℕ × Row)) (id : ℕ) (row : Row) → list_all is_fit (rows_in es) ≡ true → row_at es id ≡ Some row → is_fit row ≡ true
 fits_at es id row fitting there =
     let place = numbered_place es id row there in
-    all_at fits_table (rows_in es) place.0 row fitting place.1
+    all_at is_fit (rows_in es) place.0 row fitting place.1
 
 -- what a change leaves that only gives a row other values, rules or tags
 pub record LeavesTies (change : Row → Row) : Type 0 where
@@ -77,7 +78,7 @@ pub record LeavesTies (change : Row → Row) : Type 0 where
 
 module _ (clients : List ℕ) (names : List ((ℕ × List ℕ) × ℕ)) (es : List (ℕ × Row)) (cells : List (Option ℕ)) (id : ℕ) (change : Row → Row) (row : Row) (tree : IsTree clients names es cells) (there : row_at es id ≡ Some row) where
   -- a change that leaves where the row hangs
-  IsTree-still : ((row : Row) → node_of (change row) ≡ node_of row) → ((row : Row) → (change row).attached ≡ row.attached) → all_lead (nodes es) (ties (with_row id change es)) ≡ true → fits_table (change row) ≡ true → ((r : Row) → row_at es id ≡ Some r → IsFitFilm r → IsFitFilm (change r)) → IsTree clients names (with_row id change es) cells
+  IsTree-still : ((row : Row) → node_of (change row) ≡ node_of row) → ((row : Row) → (change row).attached ≡ row.attached) → all_lead (nodes es) (ties (with_row id change es)) ≡ true → is_fit (change row) ≡ true → ((r : Row) → row_at es id ≡ Some r → IsFitFilm r → IsFitFilm (change r)) → IsTree clients names (with_row id change es) cells
   IsTree-still same still linked fits films =
       let grove = IsGrove-tree clients names es cells tree in
       let new = IsGrove-leaves es id change row same still grove there in
@@ -91,7 +92,7 @@ module _ (clients : List ℕ) (names : List ((ℕ × List ℕ) × ℕ)) (es : Li
       by r true = still r
       by r false = refl
 
-  pub IsTree-leaves : LeavesTies change → fits_table (change row) ≡ true → IsTree clients names (with_row id change es) cells
+  pub IsTree-leaves : LeavesTies change → is_fit (change row) ≡ true → IsTree clients names (with_row id change es) cells
   IsTree-leaves leaves fits =
       IsTree-still leaves.node leaves.attached (ap (all_lead (nodes es)) (ties-with_row es id change (λ r. (leaves.node r, leaves.link r))) ∙ tree.linked) fits
       (λ r at. IsFitFilm-still change r (leaves.node r) (leaves.film r))
@@ -170,7 +171,7 @@ IsTree-push clients names new_names es cells id client name kind absent allowed 
       forest = forest;
       linked = linked-push es id row refl tree.linked;
       planted = planted;
-      fitting = fitting-push es id row (fits_table-new client name kind) tree.fitting;
+      fitting = fitting-push es id row (is_fit-new client name kind) tree.fitting;
       films = HaveFitFilms-push es id row refl tree.films;
       children = HasChildren-push es id row absent cells (IsGrove-tree clients names es cells tree) grove refl checks.0 tree.children;
       reach = tree.reach;

@@ -12,7 +12,7 @@ use Rattle.widget_model.specs.Rows.{Row}
 use Rattle.widget_model.specs.Nodes.{Node}
 use Rattle.widget_model.specs.Trees.{hangs, is_child, links_to, is_admitted, is_used}
 use Rattle.widget_model.specs.Planted.{IsPlanted}
-use Rattle.widget_model.specs.Fitting.{fits_table}
+use Rattle.widget_model.specs.Fitting.{is_fit}
 use Rattle.widget_model.specs.Links.{ties, all_lead}
 use Rattle.widget_model.specs.Relatives.{child_id}
 use Rattle.widget_model.specs.Widgets.{row_at, nodes, without_row, is_joined}
@@ -30,10 +30,10 @@ use Rattle.tree_core.proofs.ForestTaken.{list_all-kept, IsForest-kept}
 use Rattle.tree_core.proofs.TakenLinks.{linked-kept, HasChildren-kept}
 use Rattle.tree_core.proofs.TreeKept.{IsGrove-tree}
 
-fitting-kept : (test : ℕ → Bool) (es : List (ℕ × Row)) → list_all fits_table (rows_in es) ≡ true → list_all fits_table (rows_in (kept test es)) ≡ true
+fitting-kept : (test : ℕ → Bool) (es : List (ℕ × Row)) → list_all is_fit (rows_in es) ≡ true → list_all is_fit (rows_in (kept test es)) ≡ true
 fitting-kept test es h =
-    list_all-map fits_table (λ (e : ℕ × Row). e.1) (kept test es)
-    ∙ list_all-kept (λ (e : ℕ × Row). fits_table e.1) test es (sym (list_all-map fits_table (λ (e : ℕ × Row). e.1) es) ∙ h)
+    list_all-map is_fit (λ (e : ℕ × Row). e.1) (kept test es)
+    ∙ list_all-kept (λ (e : ℕ × Row). is_fit e.1) test es (sym (list_all-map is_fit (λ (e : ℕ × Row). e.1) es) ∙ h)
 
 -- what the rows that are left are to the clients, names and cells that are left
 pub record IsLeft (clients joined : List ℕ) (names : List ((ℕ × List ℕ) × ℕ)) (test : ℕ → Bool) (es : List (ℕ × Row)) (cells new_cells : List (Option ℕ)) : Type 0 where

@@ -6,4 +6,5 @@ pub mod Levels
 pub mod Planting
 pub mod OwnRows
 pub mod FittingValues
+pub mod Fit
 pub mod FitFilms
