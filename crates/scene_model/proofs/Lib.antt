@@ -7,3 +7,5 @@ pub mod FitRows
 pub mod Leasts
 pub mod Ranges
 pub mod Apart
+pub mod FromParents
+pub mod OwnRows
