@@ -5,3 +5,9 @@ pub mod LevelsDown
 pub mod LevelLaws
 pub mod WindowRows
 pub mod Still
+pub mod FitRows
+pub mod Leasts
+pub mod Ranges
+pub mod Apart
+pub mod FromParents
+pub mod OwnRows

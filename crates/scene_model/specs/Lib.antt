@@ -12,6 +12,9 @@ pub mod Colours
 pub mod WindowRows
 pub mod Still
 pub mod LevelLaws
+pub mod RangeLaws
+pub mod ShowingLaws
+pub mod DependLaws
 pub mod Windows
 pub mod OpenWindows
 pub mod Picture
