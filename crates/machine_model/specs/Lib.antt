@@ -5,3 +5,5 @@ pub mod Chosen
 pub mod Run
 pub mod Laws
 pub mod Reach
+pub mod Damage
+pub mod DamageLaws
