@@ -1,6 +1,6 @@
 -- Keys, parents and places: what their tests decide, and lists of keys in which one stands.
 use Rattle.std.proofs.Common.{◌≡◌, ℕ, ℤ, pos, ◌+ℤ◌, Bool, true, false, cond, ◌&&◌, ◌||◌, not, nat_eq, int_lt, int_le, List, [], ◌∷◌, ◌++◌, map, Option, Some, None, refl, sym, ap, ◌∙◌, ◌⊎◌, inl, inr, arith}
-use Rattle.std.specs.List.{find, list_any}
+use Rattle.std.specs.List.{find, list_any, list_all}
 use Rattle.std.specs.Str.{bytes_eq}
 use Rattle.std.specs.Ordering.{int_eq}
 use Rattle.std.proofs.lemmas.Bool.{true≢false, eqb-true, eq-eqb, and_parts, and_from, or_parts, or_left, or_right, cases_Bool, cond-true, cond-false}
@@ -49,6 +49,17 @@ none_of test (first ∷ keys) key none there = by (λ later. none_of test keys k
     parts : (test first ≡ false) × (list_any test keys ≡ false)
     parts = or_parts (test first) (list_any test keys) none
     by : (list_any (same_key key) keys ≡ true → test key ≡ false) → (b : Bool) → same_key key first ≡ b → (b || list_any (same_key key) keys) ≡ true → test key ≡ false
+    by rest true same there = ap test (same_key-is key first same) ∙ parts.0
+    by rest false same there = rest there
+
+-- what holds of all keys of a list holds of one that stands in it
+pub all_of : (test : ℕ × List ℕ → Bool) (keys : List (ℕ × List ℕ)) (key : ℕ × List ℕ) → list_all test keys ≡ true → list_any (same_key key) keys ≡ true → test key ≡ true
+all_of test [] key all there = absurd (true≢false (sym there))
+all_of test (first ∷ keys) key all there = by (λ later. all_of test keys key parts.1 later) (same_key key first) refl there
+  where
+    parts : (test first ≡ true) × (list_all test keys ≡ true)
+    parts = and_parts (test first) (list_all test keys) all
+    by : (list_any (same_key key) keys ≡ true → test key ≡ true) → (b : Bool) → same_key key first ≡ b → (b || list_any (same_key key) keys) ≡ true → test key ≡ true
     by rest true same there = ap test (same_key-is key first same) ∙ parts.0
     by rest false same there = rest there
 

@@ -1,115 +1,76 @@
--- What a widget shows and its root, from its parent's: going up one level. It takes that going up ends within twelve.
-use Rattle.std.proofs.Common.{◌≡◌, ℕ, zero, suc, ℤ, pos, Bool, true, false, ◌&&◌, List, [], ◌∷◌, Option, Some, None, refl, sym, ap, ◌∙◌}
-use Rattle.std.specs.Option.{option_map, option_map_or}
-use Rattle.std.proofs.lemmas.Bool.{true≢false}
-use Rattle.std.proofs.lemmas.Option.{same_Some}
+-- What a widget shows and its root, from its parent's or, at the top of a tree, from none: going up one level.
+use Rattle.std.proofs.Common.{◌≡◌, ℕ, suc, ℤ, Bool, true, false, ◌&&◌, List, Option, Some, None, refl, sym, ap, ◌∙◌}
+use Rattle.std.specs.Option.{option_map, option_map_or, option_and_then}
 use Rattle.geom_core.specs.Rect.{in_rect}
-use Rattle.geom_core.specs.declared.rectangle.Rect.{Rect}
+use Rattle.kind_core.specs.declared.shapes.Cell.{Cell}
 use Rattle.widget_model.specs.Rows.{Row}
+use Rattle.widget_model.specs.Named.{row_named}
+use Rattle.widget_model.specs.Planted.{IsPlanted}
 use Rattle.widget_model.specs.Trees.{parent_of, root_in, ends_within, most_levels}
-use Rattle.widget_model.specs.Keys.{root_key}
+use Rattle.widget_model.specs.Keys.{same_key, key_of, root_key}
+use Rattle.widget_model.proofs.Levels.{some_levels, ends_within-alone}
+use Rattle.widget_model.proofs.Hanging.{IsNamed-row_named}
 use Rattle.scene_model.specs.Scene.{Scene}
-use Rattle.scene_model.specs.Showing.{place_of, parent_in, on_screen, shows_in, shows_at}
-
--- going up from each widget ends within twelve levels
-abbrev pub Ends : Scene → Type 0
-Ends scene = (key : ℕ × List ℕ) → ends_within most_levels scene.rows key.0 key.1 ≡ true
-
-abbrev pub ends_in : ℕ → Scene → ℕ × List ℕ → Bool
-ends_in most scene key = ends_within most scene.rows key.0 key.1
+use Rattle.scene_model.specs.Showing.{place_of, parent_in, on_screen, shows_in, shows_at, is_under}
+use Rattle.scene_model.proofs.LevelLaws.{IsParentKey-parent_in, ends-found, children_show_within_parents, children_have_their_parents_root}
 
 -- what is so for any number of levels from 1 on is so for the most
-pub at_most_levels : (P : ℕ → Type 0) → ((most : ℕ) → P (suc most)) → P most_levels
+at_most_levels : (P : ℕ → Type 0) → ((most : ℕ) → P (suc most)) → P most_levels
 unfolding most_levels
 at_most_levels P each = each 11
 
--- a parent is a widget of the same client, and has the name that the widget's row says
-pub record IsUp (scene : Scene) (key parent : ℕ × List ℕ) : Type 0 where
-  pub client : key.0 ≡ parent.0
-  pub name : parent_of scene.rows key.0 key.1 ≡ Some parent.1
-
-pub IsUp-from : (scene : Scene) (key parent : ℕ × List ℕ) → parent_in scene key ≡ Some parent → IsUp scene key parent
+-- the widget's parent is none where its name has none
+parent_of-none : (scene : Scene) (key : ℕ × List ℕ) → parent_in scene key ≡ None → parent_of scene.rows key.0 key.1 ≡ None
 unfolding parent_in
-IsUp-from scene key parent h = by (parent_of scene.rows key.0 key.1) refl h
+parent_of-none scene key is = by (parent_of scene.rows key.0 key.1) is
   where
-    by : (o : Option (List ℕ)) → parent_of scene.rows key.0 key.1 ≡ o → option_map (λ (name : List ℕ). (key.0, name)) o ≡ Some parent → IsUp scene key parent
-    by None is h = absurd (cc)
-    by (Some name) is h =
-        let same : (key.0, name) ≡ parent = same_Some (key.0, name) parent h in
-        record { client = ap (λ (k : ℕ × List ℕ). k.0) same; name = is ∙ ap (λ (k : ℕ × List ℕ). Some k.1) same }
+    by : (o : Option (List ℕ)) → option_map {U = ℕ × List ℕ} (λ (name : List ℕ). (key.0, name)) o ≡ None → o ≡ None
+    by None is = refl
+    by (Some name) is = absurd (cc)
 
-pub top-from : (scene : Scene) (key : ℕ × List ℕ) → parent_in scene key ≡ None → parent_of scene.rows key.0 key.1 ≡ None
-unfolding parent_in
-top-from scene key h = by (parent_of scene.rows key.0 key.1) refl h
+-- going up from any key ends within the levels of a tree
+pub ends_at_most : (rows : List Row) (key : ℕ × List ℕ) → IsPlanted rows → ends_within most_levels rows key.0 key.1 ≡ true
+ends_at_most rows key planted = by (row_named rows key.0 key.1) refl
   where
-    by : (o : Option (List ℕ)) → parent_of scene.rows key.0 key.1 ≡ o → option_map {U = ℕ × List ℕ} (λ (name : List ℕ). (key.0, name)) o ≡ None → parent_of scene.rows key.0 key.1 ≡ None
-    by None is h = is
-    by (Some name) is h = absurd (cc)
+    by : (o : Option Row) → row_named rows key.0 key.1 ≡ o → ends_within most_levels rows key.0 key.1 ≡ true
+    by None found = ends_within-alone most_levels rows key.0 key.1 some_levels (ap (λ (o : Option Row). option_and_then (λ (row : Row). option_map (λ (attached : List ℕ × Cell). attached.0) row.attached) o) found)
+    by (Some row) found =
+        let is = IsNamed-row_named rows key.0 key.1 row found in
+        let own : row_named rows row.client row.name ≡ Some row = ap (λ (client : ℕ). row_named rows client row.name) is.client_is ∙ (ap (row_named rows key.0) is.name_is ∙ found) in
+        ap (λ (client : ℕ). ends_within most_levels rows client key.1) (sym is.client_is) ∙ (ap (ends_within most_levels rows row.client) (sym is.name_is) ∙ ends-found rows row planted own)
 
 -- from the parent one level fewer is left to go up
-pub ends-up : (most : ℕ) (scene : Scene) (key parent : ℕ × List ℕ) → parent_in scene key ≡ Some parent → ends_in (suc most) scene key ≡ true → ends_in most scene parent ≡ true
+pub ends-up : (most : ℕ) (scene : Scene) (key parent : ℕ × List ℕ) → parent_in scene key ≡ Some parent → ends_within (suc most) scene.rows key.0 key.1 ≡ true → ends_within most scene.rows parent.0 parent.1 ≡ true
 ends-up most scene key parent hangs ends =
-    let up = IsUp-from scene key parent hangs in
-    let named : ends_within most scene.rows key.0 parent.1 ≡ true = sym (ap (λ (o : Option (List ℕ)). option_map_or (ends_within most scene.rows key.0) o true) up.name) ∙ ends in
-    sym (ap (λ (client : ℕ). ends_within most scene.rows client parent.1) up.client) ∙ named
+    let upper = IsParentKey-parent_in scene key parent hangs in
+    let named : ends_within most scene.rows key.0 upper.name ≡ true = sym (ap (λ (o : Option (List ℕ)). option_map_or (ends_within most scene.rows key.0) o true) upper.hung) ∙ ends in
+    sym (ap (λ (above : ℕ × List ℕ). ends_within most scene.rows above.0 above.1) upper.keyed) ∙ named
 
--- what is shown of the widget, where `above` is what its parent shows
-abbrev pub shown_through : Scene → ℕ × List ℕ → ℤ → ℤ → (ℕ × List ℕ → Bool) → Bool
-shown_through scene key x y above = in_rect (place_of scene key) x y && option_map_or above (parent_in scene key) (on_screen scene x y)
+-- what the widget shows where its parent is `parent`
+abbrev pub shown_through : Scene → ℕ × List ℕ → ℤ → ℤ → Option (ℕ × List ℕ) → Bool
+shown_through scene key x y parent = in_rect (place_of scene key) x y && option_map_or (λ above. shows_at scene above x y) parent (on_screen scene x y)
 
--- more levels change nothing where going up ends
-pub shows_in-loose : (most : ℕ) (scene : Scene) (key : ℕ × List ℕ) (x y : ℤ) → ends_in most scene key ≡ true → shows_in most scene key x y ≡ shows_in (suc most) scene key x y
-shows_in-loose zero scene key x y ends = absurd (true≢false (sym ends))
-shows_in-loose (suc most) scene key x y ends = by (λ parent ends. shows_in-loose most scene parent x y ends) (parent_in scene key) refl
-  where
-    by : ((parent : ℕ × List ℕ) → ends_in most scene parent ≡ true → shows_in most scene parent x y ≡ shows_in (suc most) scene parent x y) → (o : Option (ℕ × List ℕ)) → parent_in scene key ≡ o → (in_rect (place_of scene key) x y && option_map_or (λ parent. shows_in most scene parent x y) o (on_screen scene x y)) ≡ (in_rect (place_of scene key) x y && option_map_or (λ parent. shows_in (suc most) scene parent x y) o (on_screen scene x y))
-    by rest None hangs = refl
-    by rest (Some parent) hangs = ap (λ b. in_rect (place_of scene key) x y && b) (rest parent (ends-up most scene key parent hangs ends))
-
-abbrev ShowsUp : Scene → ℕ × List ℕ → ℤ → ℤ → ℕ → Type 0
-ShowsUp scene key x y most =
-    ends_in most scene key ≡ true → shows_in most scene key x y ≡ shown_through scene key x y (λ parent. shows_in most scene parent x y)
-
-shows_in-up : (most : ℕ) (scene : Scene) (key : ℕ × List ℕ) (x y : ℤ) → ShowsUp scene key x y (suc most)
-shows_in-up most scene key x y ends = by (parent_in scene key) refl
-  where
-    by : (o : Option (ℕ × List ℕ)) → parent_in scene key ≡ o → (in_rect (place_of scene key) x y && option_map_or (λ parent. shows_in most scene parent x y) o (on_screen scene x y)) ≡ (in_rect (place_of scene key) x y && option_map_or (λ parent. shows_in (suc most) scene parent x y) o (on_screen scene x y))
-    by None hangs = refl
-    by (Some parent) hangs = ap (λ b. in_rect (place_of scene key) x y && b) (shows_in-loose most scene parent x y (ends-up most scene key parent hangs ends))
-
--- a widget shows the pixels of its place that its parent shows
-pub shows_at-up : (scene : Scene) (key : ℕ × List ℕ) (x y : ℤ) → Ends scene → shows_at scene key x y ≡ shown_through scene key x y (λ parent. shows_at scene parent x y)
+shows_at-top : (scene : Scene) (key : ℕ × List ℕ) (x y : ℤ) → parent_in scene key ≡ None → shows_at scene key x y ≡ shown_through scene key x y None
 unfolding shows_at
-shows_at-up scene key x y ends = at_most_levels (ShowsUp scene key x y) (λ most. shows_in-up most scene key x y) (ends key)
-
--- the same of roots
-root_in-loose : (most : ℕ) (rows : List Row) (client : ℕ) (name : List ℕ) → ends_within most rows client name ≡ true → root_in most rows client name ≡ root_in (suc most) rows client name
-root_in-loose zero rows client name ends = absurd (true≢false (sym ends))
-root_in-loose (suc most) rows client name ends = by (λ parent ends. root_in-loose most rows client parent ends) (parent_of rows client name) ends
+shows_at-top scene key x y is = at_most_levels (λ most. shows_in most scene key x y ≡ shown_through scene key x y None) through
   where
-    by : ((parent : List ℕ) → ends_within most rows client parent ≡ true → root_in most rows client parent ≡ root_in (suc most) rows client parent) → (o : Option (List ℕ)) → option_map_or (ends_within most rows client) o true ≡ true → option_map_or (root_in most rows client) o name ≡ option_map_or (root_in (suc most) rows client) o name
-    by rest None ends = refl
-    by rest (Some parent) ends = rest parent ends
+    through : (most : ℕ) → shows_in (suc most) scene key x y ≡ shown_through scene key x y None
+    through most = ap (λ (o : Option (ℕ × List ℕ)). in_rect (place_of scene key) x y && option_map_or (λ above. shows_in most scene above x y) o (on_screen scene x y)) is
 
-abbrev RootUp : List Row → ℕ → List ℕ → ℕ → Type 0
-RootUp rows client name most =
-    ends_within most rows client name ≡ true → root_in most rows client name ≡ option_map_or (root_in most rows client) (parent_of rows client name) name
-
-root_in-up : (most : ℕ) (rows : List Row) (client : ℕ) (name : List ℕ) → RootUp rows client name (suc most)
-root_in-up most rows client name ends = by (parent_of rows client name) ends
+-- A widget shows the pixels of its place that its parent shows, and one without a parent those on the screen.
+pub shows_at-up : (scene : Scene) (key : ℕ × List ℕ) (x y : ℤ) → IsPlanted scene.rows → shows_at scene key x y ≡ shown_through scene key x y (parent_in scene key)
+shows_at-up scene key x y planted = by (parent_in scene key) refl
   where
-    by : (o : Option (List ℕ)) → option_map_or (ends_within most rows client) o true ≡ true → option_map_or (root_in most rows client) o name ≡ option_map_or (root_in (suc most) rows client) o name
-    by None ends = refl
-    by (Some parent) ends = root_in-loose most rows client parent ends
+    by : (o : Option (ℕ × List ℕ)) → parent_in scene key ≡ o → shows_at scene key x y ≡ shown_through scene key x y o
+    by None is = shows_at-top scene key x y is
+    by (Some parent) is = children_show_within_parents scene key parent x y planted is
 
-pub root_key-up : (scene : Scene) (key parent : ℕ × List ℕ) → Ends scene → parent_in scene key ≡ Some parent → root_key scene.rows key ≡ root_key scene.rows parent
-root_key-up scene key parent ends hangs =
-    let up = IsUp-from scene key parent hangs in
-    let step = at_most_levels (RootUp scene.rows key.0 key.1) (λ most. root_in-up most scene.rows key.0 key.1) (ends key) in
-    let named : root_in most_levels scene.rows key.0 key.1 ≡ root_in most_levels scene.rows key.0 parent.1 = step ∙ ap (λ (o : Option (List ℕ)). option_map_or (root_in most_levels scene.rows key.0) o key.1) up.name in
-    ap (λ (name : List ℕ). (key.0, name)) named ∙ ap (λ (client : ℕ). root_key scene.rows (client, parent.1)) up.client
+-- a child is under the window that its parent is under
+pub is_under-parent : (scene : Scene) (window key parent : ℕ × List ℕ) → IsPlanted scene.rows → parent_in scene key ≡ Some parent → is_under scene window key ≡ is_under scene window parent
+unfolding parent_in
+is_under-parent scene window key parent planted is = ap (same_key window) (children_have_their_parents_root scene.rows key parent planted is)
 
-pub root_key-top : (scene : Scene) (key : ℕ × List ℕ) → Ends scene → parent_in scene key ≡ None → root_key scene.rows key ≡ key
-root_key-top scene key ends loose =
-    let step = at_most_levels (RootUp scene.rows key.0 key.1) (λ most. root_in-up most scene.rows key.0 key.1) (ends key) in
-    ap (λ (name : List ℕ). (key.0, name)) (step ∙ ap (λ (o : Option (List ℕ)). option_map_or (root_in most_levels scene.rows key.0) o key.1) (top-from scene key loose))
+-- a widget without a parent is its own root
+pub root_key-top : (scene : Scene) (key : ℕ × List ℕ) → parent_in scene key ≡ None → root_key scene.rows key ≡ key
+root_key-top scene key is =
+    ap (λ (name : List ℕ). (key.0, name)) (at_most_levels (λ most. root_in most scene.rows key.0 key.1 ≡ key.1) (λ most. ap (λ (o : Option (List ℕ)). option_map_or (root_in most scene.rows key.0) o key.1) (parent_of-none scene key is)))

@@ -30,6 +30,15 @@ first_over test (window ∷ windows) first other found there passes apart = by (
             inner true same = absurd (true≢false (sym passes ∙ (ap test (same_key-is key window same) ∙ h)))
             inner false same = refl
 
+-- a window that is over another one stands in the order
+pub over_stands : (windows : List (ℕ × List ℕ)) (upper lower : ℕ × List ℕ) → is_over windows upper lower ≡ true → list_any (same_key upper) windows ≡ true
+over_stands [] upper lower over = absurd (true≢false (sym over))
+over_stands (window ∷ windows) upper lower over = by (over_stands windows upper lower) (same_key upper window) over
+  where
+    by : (is_over windows upper lower ≡ true → list_any (same_key upper) windows ≡ true) → (b : Bool) → cond b (list_any (same_key lower) windows) (is_over windows upper lower) ≡ true → (b || list_any (same_key upper) windows) ≡ true
+    by rest true over = refl
+    by rest false over = rest over
+
 -- what passes the one test in the one list passes the other in the other
 abbrev pub Passes : (ℕ × List ℕ → Bool) → List (ℕ × List ℕ) → (ℕ × List ℕ → Bool) → List (ℕ × List ℕ) → Type 0
 Passes test windows test' windows' =

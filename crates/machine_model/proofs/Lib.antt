@@ -12,3 +12,5 @@ pub mod DamageKeys
 pub mod DamageOrder
 pub mod DamageLevels
 pub mod DamageWay
+pub mod DamageScenes
+pub mod OutsideDamage
