@@ -1,0 +1,9 @@
+//! The layout of the widgets and what is on top: least sizes, places, and the widget on top at a pixel.
+#![tactic(auto)]
+
+mod size;
+mod spans;
+mod tracks;
+
+pub use geom_core::Rect;
+pub use size::Size;
