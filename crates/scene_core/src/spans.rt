@@ -53,7 +53,7 @@ pub(crate) fn framed(pad: u32, offset: i32, least: u32, span: Span) -> Span
 
 /// The span of a track, counted from 1, where the tracks have these lengths and the first begins where the span
 /// begins.
-#[tactic(auto, unfolding(scene_model::specs::Tracks::track_span))]
+#[tactic(auto, using(crate::proofs::Lengths::sum_take_small), unfolding(scene_model::specs::Tracks::track_span))]
 pub(crate) fn track_span(lengths: &[u32], span: Span, track: u32) -> Span
     requires first { 1 ≤ track }
     requires last { track ≤ length lengths.now }

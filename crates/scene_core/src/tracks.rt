@@ -34,6 +34,7 @@ pub(crate) fn lengths_in(tracks: &Tracks, room: u32) -> [u32; 16]
 }
 
 /// What the tracks need together, and at most 4,096.
+#[tactic(auto, using(crate::proofs::Lengths::sum_take_small))]
 pub(crate) fn least_length(tracks: &Tracks) -> u32
     requires few { tracks.now.used ≤ 16 }
     requires least_small { All (λ n. n ≤ 4128) tracks.now.least }
