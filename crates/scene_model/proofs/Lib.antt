@@ -1,0 +1,5 @@
+pub mod Lists
+pub mod Parents
+pub mod Levels
+pub mod LevelsDown
+pub mod LevelLaws
