@@ -1,6 +1,5 @@
 //! What children ask for of the tracks of a Grid, along one axis.
-ghost use Rattle.std.specs.Prelude.{◌≡◌, ◌≤◌, ◌<◌, ◌+◌, ℕ, slice_index, length, All};
-ghost use Rattle.scene_model.specs.Spans.{along};
+ghost use Rattle.std.specs.Prelude.{◌≡◌, ◌≤◌, ◌<◌, ◌+◌, ◌==◌, ℕ, slice_index, max, All, if◌then◌else◌};
 ghost use Rattle.scene_model.specs.Tracks.{asked_in, last_asked, track_in};
 ghost use Rattle.scene_core.specs.Measured.{IsMeasured, needs_seen, need_seen, side};
 
@@ -58,4 +57,14 @@ pub(crate) fn asked(axis: Axis, children: &[Child]) -> Asked
 /// Adds what the child asks for.
 fn raise(asked: &mut Asked, axis: Axis, child: Child)
     requires { IsMeasured child }
-    requires { length asked.old.rooms ≡ 16 }
+    ensures rooms { (index : ℕ) → index < 16 → slice_index asked.new.rooms index ≡ max (slice_index asked.old.rooms index) (if (need_seen axis child).track == index + 1 then (need_seen axis child).room else 0) }
+    ensures last { asked.new.last ≡ max asked.old.last (need_seen axis child).track }
+    ensures small { (need_seen axis child).room ≤ 4128 }
+    ensures within { (need_seen axis child).track ≤ 16 }
+{
+    let track = track_of(axis, child.cell);
+    let room = side(axis, child.least) + 2 * child.cell.pad;
+    let index = track as usize - 1;
+    asked.rooms[index] = asked.rooms[index].max(room);
+    asked.last = asked.last.max(track);
+}

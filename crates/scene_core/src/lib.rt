@@ -1,6 +1,8 @@
 //! The layout of the widgets and what is on top: least sizes, places, and the widget on top at a pixel.
 #![tactic(auto)]
 
+mod asked;
+mod child;
 mod size;
 mod spans;
 mod tracks;
