@@ -37,7 +37,7 @@ pub(crate) fn side(axis: Axis, size: Size) -> u32
 }
 
 /// What the children ask for.
-pub(crate) fn asked(axis: Axis, children: &[Child]) -> Asked
+pub(crate) fn all_asked(axis: Axis, children: &[Child]) -> Asked
     requires { All IsMeasured children.now }
     ensures rooms { (index : ℕ) → index < 16 → slice_index result.rooms index ≡ asked_in (needs_seen axis children.now) (index + 1) }
     ensures small { (index : ℕ) → index < 16 → slice_index result.rooms index ≤ 4128 }

@@ -1,7 +1,7 @@
 use Rattle.std.proofs.Common.{◌≡◌, ℕ, ◌+◌, ◌<◌, ◌≤◌, get_or, take}
 use Rattle.scene_model.specs.Tracks.{asked_in, last_asked}
 use Rattle.scene_core.specs.Measured.{needs_seen}
-use Rattle.scene_core.proofs.asked.asked.Given as goal
+use Rattle.scene_core.proofs.asked.all_asked.Given as goal
 
 abbrev pub invariant-loop-child : goal.invariant-loop-child
 invariant-loop-child l = record {
