@@ -6,6 +6,9 @@ mod child;
 mod size;
 mod spans;
 mod tracks;
+mod view;
 
 pub use geom_core::Rect;
 pub use size::Size;
+pub use tree_core::{Grab, Pointer};
+pub use view::View;
