@@ -14,3 +14,4 @@ pub mod DamageLevels
 pub mod DamageWay
 pub mod DamageScenes
 pub mod OutsideDamage
+pub mod DamageByKeys

@@ -29,9 +29,9 @@ IsShown : Scene → Scene → ℕ × List ℕ → ℤ → ℤ → Type 0
 IsShown before after window x y = ((is_open_in before window ≡ true) × (shows_at before window x y ≡ true)) ⊎ ((is_open_in after window ≡ true) × (shows_at after window x y ≡ true))
 
 -- such a window is not shifted, where the pixel is outside the reach
-record IsSteady (before after : Scene) (window : ℕ × List ℕ) : Type 0 where
-  open_before : is_open_in before window ≡ true
-  open_after : is_open_in after window ≡ true
+pub record IsSteady (before after : Scene) (window : ℕ × List ℕ) : Type 0 where
+  pub open_before : is_open_in before window ≡ true
+  pub open_after : is_open_in after window ≡ true
   place : place_of before window ≡ place_of after window
   unmoved : is_put_higher before after window ≡ false
 
@@ -39,7 +39,7 @@ not-false : (b : Bool) → not b ≡ false → b ≡ true
 not-false true h = refl
 not-false false h = absurd (true≢false h)
 
-IsSteady-unshifted : (before after : Scene) (window : ℕ × List ℕ) → is_shifted before after window ≡ false → IsSteady before after window
+pub IsSteady-unshifted : (before after : Scene) (window : ℕ × List ℕ) → is_shifted before after window ≡ false → IsSteady before after window
 unfolding is_shifted
 IsSteady-unshifted before after window unshifted =
     let parts = or_parts (not (is_open_in before window && is_open_in after window)) _ unshifted in

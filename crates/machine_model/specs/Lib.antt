@@ -7,3 +7,4 @@ pub mod Laws
 pub mod Reach
 pub mod Damage
 pub mod DamageLaws
+pub mod DamageKeys
