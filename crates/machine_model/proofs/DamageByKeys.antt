@@ -1,5 +1,6 @@
 -- The reach is what all widgets together give it, key by key.
 use Rattle.std.proofs.Common.{◌≡◌, ℕ, ℤ, Bool, true, false, cond, ◌&&◌, ◌||◌, List, [], ◌∷◌, ◌++◌, Some, None, refl, sym, ap, ◌∙◌, ◌⊎◌, inl, inr}
+use Rattle.std.specs.Cmp.{both_ways}
 use Rattle.std.specs.List.{list_any}
 use Rattle.std.proofs.lemmas.Bool.{true≢false, and_parts, and_from, or_left, or_right, or_cases, cond-true, cond-false, cases_Bool}
 use Rattle.std.proofs.lemmas.List.Folds.{list_any-append}
@@ -13,12 +14,6 @@ use Rattle.machine_model.proofs.DamageKeys.{same_key-own, same_key-is, same_key-
 use Rattle.machine_model.proofs.DamageLevels.{root_key-top}
 use Rattle.machine_model.proofs.DamageScenes.{shows-stands, window_alone}
 use Rattle.machine_model.proofs.OutsideDamage.{IsSteady-unshifted}
-
--- truth values of which each follows from the other are equal
-same_truth : (a b : Bool) → (a ≡ true → b ≡ true) → (b ≡ true → a ≡ true) → a ≡ b
-same_truth true b there back = sym (there refl)
-same_truth false true there back = back refl
-same_truth false false there back = refl
 
 -- a key of a list that passes a test
 record Passing (test : ℕ × List ℕ → Bool) (keys : List (ℕ × List ℕ)) : Type 0 where
@@ -139,6 +134,6 @@ taken before after x y window sound sound' h = by (cases_Bool (is_shifted before
 pub reach_is_by_keys : ReachIsByKeys
 unfolding in_reach
 reach_is_by_keys before after sound sound' x y =
-    same_truth (in_reach before after x y) (list_any (in_reach_by before after x y) (keys_in before ++ keys_in after))
+    both_ways (in_reach before after x y) (list_any (in_reach_by before after x y) (keys_in before ++ keys_in after))
     (λ h. let found = Passing-any (in_reach_of before after x y) (before.windows ++ after.windows) h in taken before after x y found.key sound sound' found.passes)
     (λ h. let found = Passing-any (in_reach_by before after x y) (keys_in before ++ keys_in after) h in given before after x y found.key sound sound' found.passes)
