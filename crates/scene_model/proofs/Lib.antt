@@ -11,3 +11,4 @@ pub mod Ranges
 pub mod Apart
 pub mod FromParents
 pub mod OwnRows
+pub mod DuePlaces

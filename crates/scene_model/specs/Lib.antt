@@ -6,6 +6,7 @@ pub mod Fit
 pub mod Tracks
 pub mod Least
 pub mod Placing
+pub mod DuePlaces
 pub mod Showing
 pub mod LookOf
 pub mod Colours
