@@ -8,3 +8,4 @@ pub mod OwnRows
 pub mod FittingValues
 pub mod Fit
 pub mod FitFilms
+pub mod Slots
