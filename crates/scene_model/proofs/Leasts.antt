@@ -27,7 +27,7 @@ use Rattle.scene_model.specs.Tracks.{Need, cell_of, track_in, need_of, needs_of,
 use Rattle.scene_model.specs.Least.{bar_size, own_size, is_grid, least_by, least_in, least_of}
 use Rattle.scene_model.proofs.Lists.{all_or, greatest-most, All-map-filter}
 use Rattle.scene_model.proofs.Parents.{IsChildOf-is_child}
-use Rattle.scene_model.proofs.FitRows.{IsText-is_text, text_of-is_text, label_of-text, count_of-takes, Takes}
+use Rattle.scene_model.proofs.FitRows.{IsTextOf-is_text, text_of-is_text, label_of-text, count_of-takes, Takes}
 
 -- all that is asked of a row's own parts
 pub record IsFitRow (row : Row) : Type 0 where
@@ -73,7 +73,7 @@ own_size-most rows axis row all fit = by row.kind refl
 
     by : (kind : Kind) → row.kind ≡ kind → along axis (own_size kind rows row).0 (own_size kind rows row).1 ≤ 4096
     by Label is = along-most axis 4096 (6 * length (label_of rows row) + 4) 12 (let text = label_of-text rows row all fit.texts in omega (arith, text.length)) (omega arith)
-    by Button is = along-most axis 4096 (6 * length (text_of Text row) + 8) 16 (let text = IsText-is_text (text_of Text row) (text_of-is_text row Text fit.texts) in omega (arith, text.length)) (omega arith)
+    by Button is = along-most axis 4096 (6 * length (text_of Text row) + 8) 16 (let text = IsTextOf-is_text (text_of Text row) (text_of-is_text row Text fit.texts) in omega (arith, text.length)) (omega arith)
     by Entry is =
         let cols = count_of-takes row Cols 1 64 (rw is (record { none = refl; words = λ text. refl; numbers = λ n. refl })) fit.values in
         along-most axis 4096 (6 * count_of Cols row + 4) 12 (omega (arith, cols.most)) (omega arith)

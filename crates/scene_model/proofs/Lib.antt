@@ -9,3 +9,5 @@ pub mod Ranges
 pub mod Apart
 pub mod FromParents
 pub mod OwnRows
+pub mod Filling
+pub mod Looks

@@ -13,6 +13,8 @@ pub mod LevelLaws
 pub mod RangeLaws
 pub mod ShowingLaws
 pub mod DependLaws
+pub mod FillLaws
+pub mod LookLaws
 pub mod Windows
 pub mod OpenWindows
 pub mod Picture
