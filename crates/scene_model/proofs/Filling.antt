@@ -1,7 +1,7 @@
 -- A Grid's tracks fill its side.
-use Rattle.std.proofs.Common.{◌≡◌, ◌<◌, ◌≤◌, max, ℕ, zero, suc, List, [], ◌∷◌, length, sum, refl, sym, ap, ◌∙◌, arith}
+use Rattle.std.proofs.Common.{◌<◌, ℕ, List, [], ◌∷◌, length, sum, sym, ◌∙◌, arith}
 use Rattle.grid_layout.proofs.Shares.{sum-widths_of}
-use Rattle.scene_model.specs.Tracks.{Need, tracks_used, track_leasts, track_weights, track_lengths}
+use Rattle.scene_model.specs.Tracks.{tracks_used, track_leasts, track_weights, track_lengths}
 use Rattle.scene_model.specs.FillLaws.{TracksFillTheRoom, WeighedTracksFillTheRoom}
 use Rattle.scene_model.proofs.Leasts.{length-track_leasts, length-track_weights}
 

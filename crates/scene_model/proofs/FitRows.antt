@@ -1,12 +1,12 @@
 -- What the limits of its values and texts say of a row, and of what it shows.
-use Rattle.std.proofs.Common.{◌≡◌, ◌≤◌, ◌<◌, ◌+◌, ◌%◌, ◌^◌, ℕ, zero, suc, ℤ, pos, negsuc, ◌≤ℤ◌, neg_ℤ, Bool, true, false, cond, ◌&&◌, nat_eq, List, [], ◌∷◌, ◌++◌, length, Option, Some, None, is_ok, Result, Ok, Err, unsigned_abs, refl, sym, ap, ◌∙◌, arith, slice_get, slice_index_or, length-append, add-suc}
+use Rattle.std.proofs.Common.{◌≡◌, ◌≤◌, ◌<◌, ◌+◌, ◌%◌, ◌^◌, ℕ, suc, ℤ, pos, negsuc, ◌≤ℤ◌, Bool, true, false, cond, nat_eq, List, [], ◌∷◌, ◌++◌, length, Option, Some, None, is_ok, Result, Ok, Err, unsigned_abs, refl, sym, ◌∙◌, arith, slice_get, length-append}
 use Rattle.std.proofs.lemmas.Bool.{true≢false, and_parts, and_from, leb-true}
 use Rattle.std.proofs.lemmas.Bool.Decides.{nat_tests}
 use Rattle.std.proofs.lemmas.Fmt.{length_signed_le, decimal_by_steps}
 use Rattle.std.proofs.lemmas.Int.{ints}
 use Rattle.std.specs.Fmt.{decimal, signed_decimal}
 use Rattle.std.specs.Int.Signed.{mag}
-use Rattle.std.specs.List.{find, list_all}
+use Rattle.std.specs.List.{list_all}
 use Rattle.std.specs.Option.{option_map, option_and_then}
 use Rattle.kind_core.specs.declared.kinds.Kind.{Kind}
 use Rattle.kind_core.specs.declared.kinds.Kind.TheVariants.{Window, Grid, Frame, Button, Label, Entry, Scale, Scrollbar, Variable, VScreen}
@@ -22,10 +22,10 @@ use Rattle.kind_core.specs.Effective.{label_text}
 use Rattle.widget_model.specs.Rows.{Row, all_attrs, attr_slot, attr_of}
 use Rattle.widget_model.specs.Named.{has_name, row_named}
 use Rattle.widget_model.specs.Fitting.{fits_attr, fits_table}
-use Rattle.widget_model.proofs.Hanging.{all_at, find-passes, find-element}
+use Rattle.widget_model.proofs.Hanging.{all_at, find-element}
 use Rattle.scene_model.specs.Fit.{fits_text, fits_texts, IsTextOf}
 use Rattle.scene_model.proofs.Lists.{all_or}
-use Rattle.scene_model.specs.Values.{number_in, text_in, number_of, count_of, text_of, linked_value, label_of}
+use Rattle.scene_model.specs.Values.{number_in, text_in, number_of, text_of, linked_value, label_of}
 
 pub record IsBetween (least greatest n : ℤ) : Type 0 where
   pub low : least ≤ℤ n

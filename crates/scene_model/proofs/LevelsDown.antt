@@ -1,6 +1,6 @@
 -- More levels change nothing for what goes down, where the widgets below are no deeper than a tree can be. So a least
 -- length comes from those of the children.
-use Rattle.std.proofs.Common.{◌≡◌, ◌≤◌, ◌+◌, ℕ, zero, suc, ℤ, Bool, true, false, cond, ◌&&◌, List, Option, Some, None, refl, sym, ap, ◌∙◌, arith, slice_get}
+use Rattle.std.proofs.Common.{◌≡◌, ◌≤◌, ◌+◌, ℕ, zero, suc, ℤ, true, false, cond, ◌&&◌, List, Option, Some, None, refl, sym, ap, ◌∙◌, arith, slice_get}
 use Rattle.std.proofs.lemmas.Bool.{true≢false, and_parts}
 use Rattle.std.specs.List.{find}
 use Rattle.std.specs.Option.{option_map, option_map_or}
@@ -12,12 +12,12 @@ use Rattle.widget_model.specs.Planted.{IsPlanted}
 use Rattle.widget_model.proofs.Hanging.{all_at, find-passes, find-element, row_named-own}
 use Rattle.scene_model.specs.declared.axis.Axis.{Axis}
 use Rattle.scene_model.specs.Spans.{along}
-use Rattle.scene_model.specs.Tracks.{Need, need_of, needs_of, rules_of, grid_least}
+use Rattle.scene_model.specs.Tracks.{Need, need_of, rules_of, grid_least}
 use Rattle.scene_model.specs.Least.{own_size, is_grid, least_by, least_in, least_of}
 use Rattle.scene_model.specs.Scene.{Scene}
 use Rattle.scene_model.specs.Showing.{shows_at, child_at, lowest_in}
 use Rattle.scene_model.proofs.Lists.{map-filter-same}
-use Rattle.scene_model.proofs.Parents.{IsFound, IsChildOf, IsChildOf-is_child, ends_within-child}
+use Rattle.scene_model.proofs.Parents.{IsChildOf-is_child, ends_within-child}
 
 -- going up from each row ends within so many levels
 pub record AllEnd (most : ℕ) (rows : List Row) : Type 0 where

@@ -1,28 +1,27 @@
 -- The numbers and texts of a look are in their ranges.
-use Rattle.std.proofs.Common.{◌≡◌, ◌≤◌, ◌<◌, ◌+◌, ◌-◌, ◌*◌, min, ℕ, zero, suc, ℤ, pos, Bool, true, false, List, length, Option, Some, None, unsigned_abs, slice_range, take, drop, refl, sym, ap, subst, ◌∙◌, arith, length-take, length-drop}
+use Rattle.std.proofs.Common.{◌≡◌, ◌≤◌, ◌<◌, ◌+◌, ◌-◌, ◌*◌, ℕ, ℤ, pos, List, length, Option, Some, None, unsigned_abs, slice_range, drop, refl, subst, arith, length-take, length-drop}
 use Rattle.std.proofs.lemmas.Int.{ints}
 use Rattle.std.proofs.Math.Nat.{mul-le-mul_right}
 use Rattle.std.specs.Option.{option_map_or, IfSome}
 use Rattle.kind_core.specs.declared.kinds.Kind.{Kind}
 use Rattle.kind_core.specs.declared.kinds.Kind.TheVariants.{Window, Grid, Frame, Button, Label, Entry, Scale, Scrollbar, Variable, VScreen}
-use Rattle.kind_core.specs.declared.kinds.Attr.TheVariants.{Title, Text, Caret, Value, Max, Real, View}
+use Rattle.kind_core.specs.declared.kinds.Attr.TheVariants.{Title, Text, Value, Max, Real, View}
 use Rattle.kind_core.specs.Effective.{raw_value, scale_value, scrollbar_value}
 use Rattle.look_core.specs.Seen as seen
 use Rattle.look_core.specs.Seen.{Seen, in_row}
-use Rattle.look_core.specs.Drawable.{IsDrawable}
 use Rattle.vscreen_core.specs.FilmState.{FilmState, IsFilm}
 use Rattle.widget_model.specs.Rows.{Row}
 use Rattle.widget_model.specs.Named.{has_name}
-use Rattle.widget_model.specs.Keys.{key_of, row_of}
+use Rattle.widget_model.specs.Keys.{row_of}
 use Rattle.widget_model.proofs.Hanging.{find-element}
-use Rattle.scene_model.specs.Fit.{IsTextOf, AreFit}
-use Rattle.scene_model.specs.Values.{number_of, count_of, text_of, label_of, linked_value, scale_of, scrollbar_of, caret_of, is_vertical}
+use Rattle.scene_model.specs.Fit.{AreFit}
+use Rattle.scene_model.specs.Values.{number_of, text_of, linked_value}
 use Rattle.scene_model.specs.Scene.{Scene}
-use Rattle.scene_model.specs.LookOf.{is_held, has_focus, look_by, look_of}
+use Rattle.scene_model.specs.LookOf.{look_by, look_of}
 use Rattle.scene_model.specs.Colours.{look_at}
 use Rattle.scene_model.specs.LookLaws.{HasFitNumbers, IsFitLook, LooksAreFit, LooksOfKeysAreFit}
 use Rattle.scene_model.proofs.Parents.{row_of-own}
-use Rattle.scene_model.proofs.FitRows.{IsBetween, IsCount, IsCount-between, Takes, count_of-takes, IsTextOf-is_text, text_of-is_text, label_of-text}
+use Rattle.scene_model.proofs.FitRows.{IsCount-between, count_of-takes, IsTextOf-is_text, text_of-is_text, label_of-text}
 use Rattle.scene_model.proofs.Leasts.{IsFitRow, IsFitRow-at}
 
 -- effective numbers
