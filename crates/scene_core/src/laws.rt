@@ -7,6 +7,7 @@ ghost use Rattle.scene_model.specs.LevelLaws.{SpansComeFromParents, LeastsComeFr
 ghost use Rattle.scene_model.specs.LookLaws.{LooksAreFit, LooksOfKeysAreFit};
 ghost use Rattle.scene_model.specs.RangeLaws.{LeastsAreSmall, TracksAreSmall, SpansAreSmall, PlacesAreInRange, PlacesOfKeysAreInRange};
 ghost use Rattle.scene_model.specs.ShowingLaws.{PlacesOfChildrenAreApart, ChildrenShareNoPixel, ShownLiesInParents, ShownLiesInPlace};
+ghost use Rattle.scene_model.specs.TopLaws.{ShowingChildIsFound, FoundChildShows, TopIsOnTop, OnTopIsTop, NoTopShowsNothing};
 
 /// A child's span is what its parent's kind, row and span make of it.
 pub fn spans_come_from_parents()
@@ -82,6 +83,32 @@ pub fn shown_lies_in_parents()
 /// A pixel that a widget shows is in its place.
 pub fn shown_lies_in_place()
     ensures { ShownLiesInPlace }
+{}
+
+/// A child that shows a pixel is the one that is found there.
+pub fn showing_child_is_found()
+    ensures { ShowingChildIsFound }
+{}
+
+/// The child that is found at a pixel hangs in the widget, and shows the pixel.
+pub fn found_child_shows()
+    ensures { FoundChildShows }
+{}
+
+/// The widget on top at a pixel is below the first window that shows the pixel, shows it, and has no child that
+/// does.
+pub fn top_is_on_top()
+    ensures { TopIsOnTop }
+{}
+
+/// A widget of which this holds is the one on top: no other is.
+pub fn on_top_is_top()
+    ensures { OnTopIsTop }
+{}
+
+/// Where no widget is on top, no open window shows the pixel.
+pub fn no_top_shows_nothing()
+    ensures { NoTopShowsNothing }
 {}
 
 /// A client's least lengths and places depend on that client's rows alone.

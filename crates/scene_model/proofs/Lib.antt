@@ -11,3 +11,4 @@ pub mod FromParents
 pub mod OwnRows
 pub mod Filling
 pub mod Looks
+pub mod TopWidget
