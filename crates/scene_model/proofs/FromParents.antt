@@ -1,18 +1,16 @@
 -- A child's place comes from its parent's place and row, and from what the children ask for.
-use Rattle.std.proofs.Common.{◌≡◌, ℕ, ℤ, List, Option, Some, refl, sym, ap, ◌∙◌}
+use Rattle.std.proofs.Common.{◌≡◌, ℕ, ℤ, List, refl, sym, ap, ◌∙◌}
 use Rattle.kind_core.specs.declared.kinds.Kind.{Kind}
 use Rattle.kind_core.specs.declared.kinds.Kind.TheVariants.{Window, Grid, Frame, Button, Label, Entry, Scale, Scrollbar, Variable, VScreen}
-use Rattle.geom_core.specs.declared.rectangle.Rect.{Rect}
 use Rattle.widget_model.specs.Rows.{Row}
-use Rattle.widget_model.specs.Keys.{key_of, row_of}
 use Rattle.scene_model.specs.declared.axis.Axis.{Axis}
 use Rattle.scene_model.specs.declared.axis.Axis.TheVariants.{Across, Down}
 use Rattle.scene_model.specs.declared.axis.Span.{Span}
 use Rattle.scene_model.specs.Spans.{span_of, rect_of, framed, inset}
 use Rattle.scene_model.specs.Values.{offset_of}
-use Rattle.scene_model.specs.Tracks.{Need, cell_of, track_in, needs_of, rules_of, track_lengths, track_span}
+use Rattle.scene_model.specs.Tracks.{Need, cell_of, track_in, rules_of, track_lengths, track_span}
 use Rattle.scene_model.specs.Least.{least_of}
-use Rattle.scene_model.specs.Placing.{grid_span, child_span, parent_row, span_along, place_in}
+use Rattle.scene_model.specs.Placing.{grid_span, child_span, span_along, place_in}
 use Rattle.scene_model.specs.DependLaws.{IsHeldAlike, PlacesComeFromParents}
 use Rattle.scene_model.proofs.LevelLaws.{spans_come_from_parents}
 

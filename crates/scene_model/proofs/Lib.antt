@@ -12,3 +12,6 @@ pub mod Apart
 pub mod FromParents
 pub mod OwnRows
 pub mod DuePlaces
+pub mod Filling
+pub mod Looks
+pub mod TopWidget

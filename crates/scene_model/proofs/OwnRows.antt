@@ -1,6 +1,5 @@
 -- A client's least lengths and places depend on its own rows alone.
-use Rattle.std.proofs.Common.{◌≡◌, ℕ, zero, suc, ◌+◌, ◌*◌, ℤ, Bool, true, false, cond, ◌&&◌, nat_eq, List, map, length, Option, Some, None, refl, sym, ap, ◌∙◌, slice_get}
-use Rattle.std.specs.List.{filter}
+use Rattle.std.proofs.Common.{◌≡◌, ℕ, zero, suc, ◌+◌, ◌*◌, ℤ, false, cond, nat_eq, List, map, length, Option, Some, None, refl, sym, ap, ◌∙◌}
 use Rattle.std.specs.Option.{option_map, option_map_or, option_and_then}
 use Rattle.std.specs.Str.{bytes_eq}
 use Rattle.kind_core.specs.declared.kinds.Kind.{Kind}
@@ -15,15 +14,15 @@ use Rattle.widget_model.proofs.OwnRows.{row_named-agree}
 use Rattle.scene_model.specs.declared.axis.Axis.{Axis}
 use Rattle.scene_model.specs.declared.axis.Axis.TheVariants.{Across, Down}
 use Rattle.scene_model.specs.declared.axis.Span.{Span}
-use Rattle.scene_model.specs.Spans.{along, rect_of, framed}
-use Rattle.scene_model.specs.Values.{number_of, text_of, linked_value, label_of, offset_of}
-use Rattle.scene_model.specs.Tracks.{Need, cell_of, need_of, needs_of, children_of, rules_of, track_in, track_lengths, track_span, grid_least}
+use Rattle.scene_model.specs.Spans.{along, rect_of}
+use Rattle.scene_model.specs.Values.{number_of, text_of, linked_value, offset_of}
+use Rattle.scene_model.specs.Tracks.{Need, need_of, needs_of, children_of, rules_of, grid_least}
 use Rattle.scene_model.specs.Least.{own_size, is_grid, least_by, least_in, least_of}
-use Rattle.scene_model.specs.Placing.{grid_span, child_span, root_span, parent_row, span_in, span_along, place_in}
-use Rattle.scene_model.specs.DependLaws.{IsPlacedAlike, PlacesDependOnOwnRows}
+use Rattle.scene_model.specs.Placing.{child_span, root_span, parent_row, span_in, span_along, place_in}
+use Rattle.scene_model.specs.DependLaws.{PlacesDependOnOwnRows}
 use Rattle.scene_model.proofs.FromParents.{child_span-alike}
 use Rattle.scene_model.proofs.Lists.{map-filter-same, filter-agree}
-use Rattle.scene_model.proofs.Parents.{HangsFrom, HangsFrom-parent_row, IsChildOf-is_child}
+use Rattle.scene_model.proofs.Parents.{HangsFrom-parent_row, IsChildOf-is_child}
 
 module _ (client : ℕ) (a b : List Row) (same : own_rows client a ≡ own_rows client b) where
   linked_value-agree : (row : Row) → row.client ≡ client → linked_value a row ≡ linked_value b row

@@ -1,7 +1,6 @@
 -- What is proved of what places depend on: a client's on its own rows alone, and a child's on its parent's place and
 -- row, and on what the children ask for.
-use Rattle.std.specs.Prelude.{◌≡◌, ℕ, List, Some}
-use Rattle.geom_core.specs.declared.rectangle.Rect.{Rect}
+use Rattle.std.specs.Prelude.{◌≡◌, List, Some}
 use Rattle.widget_model.specs.Rows.{Row}
 use Rattle.widget_model.specs.Named.{own_rows}
 use Rattle.widget_model.specs.Keys.{key_of, row_of}

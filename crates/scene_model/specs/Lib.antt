@@ -15,7 +15,10 @@ pub mod Still
 pub mod LevelLaws
 pub mod RangeLaws
 pub mod ShowingLaws
+pub mod TopLaws
 pub mod DependLaws
+pub mod FillLaws
+pub mod LookLaws
 pub mod Windows
 pub mod OpenWindows
 pub mod Picture
