@@ -1,9 +1,9 @@
 //! The layout of the widgets and what is on top: least sizes, places, and the widget on top at a pixel.
 #![tactic(auto)]
 
-<<<<<<< HEAD
 mod asked;
 mod child;
+pub mod laws;
 mod no_memory;
 mod shot;
 mod size;
@@ -19,6 +19,3 @@ pub use size::Size;
 pub use spot::Spot;
 pub use tree_core::{Grab, Pointer};
 pub use view::View;
-=======
-pub mod laws;
->>>>>>> 9f35e50ecb313fc595404a2f601197e9e359d812
