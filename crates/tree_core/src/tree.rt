@@ -1,10 +1,12 @@
 ghost use Rattle.std.specs.Prelude.{ℕ, ◌≡◌, ◌<◌, ◌≤◌, nat_eq, Some, None, true, false, is_err, IfSome, OnOk, OnErr, IfOk, IfErr};
-ghost use Rattle.std.specs.Option.{option_map, option_map_or, option_and_then};
+ghost use Rattle.std.specs.Option.{option_copied, option_map, option_map_or, option_and_then};
 ghost use Rattle.std.specs.Result.{result_err};
+ghost use Rattle.kind_core.specs.declared.kinds.Kind.TheVariants.{VScreen};
 ghost use Rattle.kind_core.specs.Attributes.{domain_of, judged};
-ghost use Rattle.widget_model.specs.Rows.{new_row, attr_of, with_attr, column_rule_of, with_column_rule, row_rule_of, with_row_rule, binding_of, with_binding, with_link, with_attached};
+ghost use Rattle.vscreen_core.specs.FilmState.{IsFilm};
+ghost use Rattle.widget_model.specs.Rows.{new_row, attr_of, with_attr, column_rule_of, with_column_rule, row_rule_of, with_row_rule, binding_of, with_binding, with_link, with_attached, with_film};
 ghost use Rattle.widget_model.specs.Nodes.{id_named, count_of, any_kind};
-ghost use Rattle.widget_model.specs.Widgets.{no_widgets, is_joined, row_at, nodes, rows_of, IsLive, IsGrid, KeepsLive, edited, with_new, removed, joined, departed, row_kind, row_client};
+ghost use Rattle.widget_model.specs.Widgets.{no_widgets, is_joined, row_at, nodes, rows_of, IsLive, IsGrid, KeepsLive, edited, with_new, removed, joined, departed, place_at, with_place, row_kind, row_client};
 ghost use Rattle.widget_model.specs.Links.{linked_id, name_at};
 ghost use Rattle.widget_model.specs.Forest.{IsWidgets};
 ghost use Rattle.widget_model.specs.Trees.{is_used};
@@ -20,10 +22,14 @@ use crate::id::Id;
 use crate::links::{link_of, name_of};
 use crate::refusal::{AddRefusal, AttachRefusal, InUse, NoMemory};
 use crate::removing::{drop_number, is_used};
+use geom_core::Rect;
 use kind_core::{Attr, AttrRefusal, Cell, EventKind, Kind, Name, Value, check};
-use row_store::{Cells, Change, Counts, Names, Store, drop_names, drop_rows, number_of, take_out};
+use row_store::{
+    Cells, Change, Counts, KeptPlaces, Names, Store, drop_names, drop_rows, number_of, take_out,
+};
 use std::alloc::Global;
 use std::marker::Model;
+use vscreen_core::Film;
 
 /// The widgets of all clients: rows in the order of making, under the names that the clients gave them.
 /// Contracts see the record `Widgets` of desk_model. See docs/MACHINE.md, "Widgets"; docs/ARCHITECTURE.md,
@@ -34,6 +40,7 @@ pub struct Tree {
     store: Store,
     cells: Cells,
     counts: Counts,
+    places: KeptPlaces,
 }
 
 impl Model for Tree {
@@ -42,9 +49,9 @@ impl Model for Tree {
 
     ghost Value = { Widgets };
 
-    ghost view = { λ t. record { clients = t.clients.items; entries = t.store } };
+    ghost view = { λ t. record { clients = t.clients.items; entries = t.store; places = t.places.slots } };
 
-    ghost invariant = { λ t. IsCounted t.clients.items t.names t.store t.cells t.counts };
+    ghost invariant = { λ t. IsCounted t.clients.items t.names t.store t.cells t.counts t.places };
 }
 
 impl Drop for Tree {
@@ -55,6 +62,7 @@ impl Drop for Tree {
             store: _,
             cells: _,
             counts: _,
+            places: _,
         } = self;
     }
 }
@@ -71,12 +79,13 @@ impl Tree {
             store: Store::new(alloc),
             cells: Cells::new(alloc),
             counts: Counts::new(),
+            places: KeptPlaces::new(alloc),
         }
     }
 
     /// Joins a client, 1 to 16, that isn't joined, as the last one. NoMemory leaves the tree as it was. It
-    /// makes 32,768 places for the children of the client's widgets, and as many for each lower number that
-    /// has none.
+    /// makes 32,768 places for the children of the client's widgets and 128 slots for their kept places, and
+    /// as many for each lower number that has none.
     pub fn join_client(&mut self, client: u32) -> Result<(), NoMemory>
         requires low { 1 ≤ client }
         requires high { client ≤ 16 }
@@ -87,6 +96,10 @@ impl Tree {
         ensures valid { IsWidgets self.new }
     {
         match self.cells.grow(client) {
+            Ok(()) => {}
+            Err(_) => return Err(NoMemory),
+        }
+        match self.places.grow(client) {
             Ok(()) => {}
             Err(_) => return Err(NoMemory),
         }
@@ -108,6 +121,7 @@ impl Tree {
         ensures live { IfOk result (λ id. IsLive self.new id.key) }
         ensures fresh { IfOk result (λ id. row_at self.old.entries id.key ≡ None) }
         ensures number { IfOk result (λ id. id.key < 2048) }
+        ensures unplaced { IfOk result (λ id. place_at self.new id.key ≡ None) }
         ensures allowed { OnOk result (add_refusal (nodes self.old.entries) client name kind ≡ None) }
         ensures refused { IfErr result (AnswersRefusal (add_refusal (nodes self.old.entries) client name kind)) }
         ensures err { OnErr result (self.new ≡ self.old) }
@@ -386,11 +400,12 @@ impl Tree {
         let kind = row.kind();
         take_out(&mut self.names, &mut self.store, id.key);
         self.counts.lose(client, kind);
+        self.places.put(id.key, None);
         Ok(())
     }
 
     /// Removes all widgets of a joined client, which then isn't joined. It walks the rows once for each of
-    /// them, and empties the client's 32,768 places for children.
+    /// them, and empties the client's 32,768 places for children and 128 slots for kept places.
     pub fn drop_client(&mut self, client: u32)
         requires { is_joined self.old.clients client ≡ true }
         ensures left { self.new ≡ departed client self.old }
@@ -402,6 +417,7 @@ impl Tree {
         drop_rows(&mut self.store, client);
         self.cells.clear(client);
         self.counts.forget(client);
+        self.places.clear(client);
     }
 
     /// The widget in which this one hangs, None exactly where it hangs in none. It costs at most two look-ups
@@ -455,5 +471,63 @@ impl Tree {
             Some((_, cell)) => Some(cell),
             None => None,
         }
+    }
+
+    /// The widget's film, lent; None exactly where it has none. Only a VScreen has one. It costs one look-up in a hash
+    /// map.
+    pub fn film(&self, id: Id) -> Option<&Film>
+        requires { IsLive self.now id.key }
+        ensures film { option_map (λ row. row.film) (row_at self.now.entries id.key) ≡ Some (option_copied result) }
+        ensures valid { IsWidgets self.now }
+    {
+        self.store.row(id.key).film()
+    }
+
+    /// Takes the film out of the widget, which then has none; None exactly where it had none. The caller changes the
+    /// film and puts it back by `set_film`. No byte of it is copied: it costs one look-up in a hash map.
+    pub fn take_film(&mut self, id: Id) -> Option<Film>
+        requires { IsLive self.old id.key }
+        ensures film { option_map (λ row. row.film) (row_at self.old.entries id.key) ≡ Some result }
+        ensures whole { IfSome result (λ film. IsFilm film) }
+        ensures taken { self.new ≡ edited id.key (with_film None) self.old }
+        ensures kept { KeepsLive self.old self.new }
+        ensures valid { IsWidgets self.new }
+    {
+        self.store.swap_film(id.key, None)
+    }
+
+    /// Puts the film into the widget, a VScreen, in place of the one that it had. No byte of it is copied: it costs
+    /// one look-up in a hash map.
+    pub fn set_film(&mut self, id: Id, film: Film)
+        requires { row_kind self.old.entries id.key ≡ Some VScreen }
+        ensures film { self.new ≡ edited id.key (with_film (Some film)) self.old }
+        ensures kept { KeepsLive self.old self.new }
+        ensures valid { IsWidgets self.new }
+    {
+        // A film's own call says that it is a whole one, as each film in the tree is.
+        let _ = film.width();
+        let _ = self.store.swap_film(id.key, Some(film));
+    }
+
+    /// The place that is kept of the widget, in pixels of the screen; None exactly where none is kept. It is the last
+    /// that `set_place` gave it, None at first. It reads one slot.
+    pub fn place_of(&self, id: Id) -> Option<Rect>
+        requires { IsLive self.now id.key }
+        ensures place { result ≡ place_at self.now id.key }
+        ensures valid { IsWidgets self.now }
+    {
+        self.places.at(id.key)
+    }
+
+    /// Keeps that place of the widget, or keeps none. No row and no other place changes. It writes one slot.
+    pub fn set_place(&mut self, id: Id, place: Option<Rect>)
+        requires { IsLive self.old id.key }
+        ensures place { self.new ≡ with_place id.key place self.old }
+        ensures now { place_at self.new id.key ≡ place }
+        ensures others { (other : ℕ) → nat_eq other id.key ≡ false → place_at self.new other ≡ place_at self.old other }
+        ensures kept { KeepsLive self.old self.new }
+        ensures valid { IsWidgets self.new }
+    {
+        self.places.put(id.key, place);
     }
 }

@@ -7,3 +7,4 @@ pub mod Planting
 pub mod OwnRows
 pub mod FittingValues
 pub mod FitFilms
+pub mod Slots
