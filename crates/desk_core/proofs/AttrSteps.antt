@@ -11,7 +11,7 @@ use Rattle.kind_core.specs.Attributes.{domain_of, judged}
 use Rattle.cmd_words.specs.declared.replies.Refusal.{Refusal}
 use Rattle.widget_model.specs.Rows.{Row, with_attr}
 use Rattle.widget_model.specs.Nodes.{node_of}
-use Rattle.desk_model.specs.Refusing.{first_refusal}
+use Rattle.desk_model.specs.Refusals.{first_refusal}
 use Rattle.desk_model.specs.AttrOptions.{told, attr_refusal, with_attrs}
 use Rattle.widget_model.specs.Widgets.{Widgets, edited}
 use Rattle.widget_model.specs.Fitting.{fits_rules}

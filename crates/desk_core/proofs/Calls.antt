@@ -10,119 +10,179 @@ use Rattle.scene_model.specs.Shapes.{IsShape}
 use Rattle.widget_model.specs.Widgets.{Widgets, nodes, no_widgets, is_joined, joined, departed}
 use Rattle.widget_model.specs.Forest.{IsWidgets, is_client}
 use Rattle.desk_model.specs.Desk.{Desk, opening_desk, is_connected}
-use Rattle.desk_model.specs.DeskFacts.{AreConnectedOnce, IsDesk}
-use Rattle.desk_model.specs.Refusing.{is_memory}
-use Rattle.desk_model.specs.Ending.{let_go}
+use Rattle.desk_model.specs.DeskFacts.{IsDesk}
+use Rattle.desk_model.specs.Refusals.{is_memory}
+use Rattle.desk_model.specs.LetGo.{is_in_window, let_go}
 use Rattle.desk_model.specs.Clients.{free_client, step_connect, step_hello, step_bye, without_client}
 use Rattle.desk_model.specs.Commands.{row_of, is_built, step}
 use Rattle.desk_model.proofs.Desks.{IsDesk-opening, IsDesk-connect, IsDesk-hello, IsDesk-bye, IsDesk-command}
-use Rattle.desk_core.specs.declared.setting.Setting.{Setting}
-use Rattle.desk_core.specs.Standing.{desk_of, is_others, IsStanding, IsKept}
-use Rattle.desk_core.specs.Did.{DidAll}
-use Rattle.desk_core.proofs.Departing.{desk_of-departed, IsStanding-departed}
-use Rattle.desk_core.proofs.Endings.{connect-joined, hello-joined, bye-gone, step-obeyed}
+use Rattle.desk_core.specs.Parts.{Stage, stage_of, windows_at, desk_of, names_window, is_others, AreParts, IsKept}
+use Rattle.desk_core.specs.Pointer.{HoldsLive}
+use Rattle.desk_core.specs.Parts.{Stage, stage_of, windows_at, desk_of, names_window, is_others, AreParts, IsKept}
+use Rattle.desk_core.specs.Pointer.{HoldsLive}
+use Rattle.desk_core.specs.Effects.{DidAll}
+use Rattle.kind_core.specs.declared.shapes.Shape.{Shape}
+use Rattle.widget_model.specs.Keys.{key_at}
+use Rattle.widget_model.specs.Pointer as model
+use Rattle.tree_core.specs.declared.pointer.Pointer.{Pointer}
+use Rattle.desk_model.proofs.Sound.{let_go-again}
+use Rattle.desk_model.proofs.ByePointer.{closed, others-inside, let_go-closed}
+use Rattle.desk_core.proofs.OthersLists.{list_all-filter, windows_at-filter, key_at-others}
+use Rattle.desk_core.proofs.PointerKept.{Holds, pointer-holds}
+use Rattle.desk_core.proofs.Departures.{desk_of-departed, AreParts-departed}
+use Rattle.desk_core.proofs.CallSteps.{connect-joined, hello-joined, bye-gone, step-obeyed}
 
 -- whether a client is connected, by the list kept beside the tree
-pub connected-joined : (setting : Setting) (clients : List ℕ) (w : Widgets) (keys : List ℕ) (client : ℕ) (there : Bool) → IsStanding clients w keys → there ≡ is_joined clients client → is_connected (desk_of setting w keys) client ≡ there
-connected-joined setting clients w keys client there kept is = ap (λ (cs : List ℕ). is_joined cs client) (sym kept.clients) ∙ sym is
+pub connected-joined : (stage : Stage) (clients : List ℕ) (w : Widgets) (keys : List ℕ) (client : ℕ) (there : Bool) → AreParts clients w keys → there ≡ is_joined clients client → is_connected (desk_of stage w keys) client ≡ there
+connected-joined stage clients w keys client there kept is = ap (λ (cs : List ℕ). is_joined cs client) (sym kept.clients) ∙ sym is
 
-pub free-joined : (setting : Setting) (clients : List ℕ) (w : Widgets) (keys : List ℕ) (free : Option ℕ) → IsStanding clients w keys → free ≡ free_client clients → free_client (desk_of setting w keys).clients ≡ free
-free-joined setting clients w keys free kept is = ap free_client (sym kept.clients) ∙ sym is
+pub free-joined : (stage : Stage) (clients : List ℕ) (w : Widgets) (keys : List ℕ) (free : Option ℕ) → AreParts clients w keys → free ≡ free_client clients → free_client (desk_of stage w keys).clients ≡ free
+free-joined stage clients w keys free kept is = ap free_client (sym kept.clients) ∙ sym is
 
 -- the parts of a desk at opening
-pub IsKept-opening : (setting : Setting) (clients : List ℕ) (w : Widgets) (keys : List ℕ) → IsShape setting.shape → desk_of setting no_widgets [] ≡ opening_desk setting.shape → clients ≡ [] → w ≡ no_widgets → keys ≡ [] → IsWidgets w → IsStack keys → IsKept setting clients w keys
-IsKept-opening setting clients w keys shape opening none_connected none none_open tree stack =
-    let P : List ℕ → Widgets → List ℕ → Type 0 = λ cs v ks. IsWidgets v → IsStack ks → IsKept setting cs v ks in
+pub IsKept-opening : (shape : Shape) (pointer : Pointer) (clients : List ℕ) (w : Widgets) (keys : List ℕ) → IsShape shape → desk_of (stage_of shape no_widgets pointer) no_widgets [] ≡ opening_desk shape → HoldsLive [] pointer → clients ≡ [] → w ≡ no_widgets → keys ≡ [] → IsWidgets w → IsStack keys → IsKept shape pointer clients w keys
+IsKept-opening shape pointer clients w keys is opening held none_connected none none_open tree stack =
+    let P : List ℕ → Widgets → List ℕ → Type 0 = λ cs v ks. IsWidgets v → IsStack ks → IsKept shape pointer cs v ks in
     subst (λ cs. P cs w keys) (sym none_connected) (subst (λ v. P [] v keys) (sym none) (subst (λ ks. P [] no_widgets ks) (sym none_open)
     (λ tree stack. record {
-      standing = record { clients = refl; once = tt; tree = tree; stack = stack; windows = refl; rules = refl };
-      desk = subst IsDesk (sym opening) (IsDesk-opening setting.shape shape);
+      parts = record { clients = refl; tree = tree; stack = stack; windows = refl };
+      held = held;
+      desk = subst IsDesk (sym opening) (IsDesk-opening shape is);
     }))) tree stack
 
 -- a client joins: the rows and the open windows stay
-IsStanding-joined : (clients now : List ℕ) (old new : Widgets) (client : ℕ) (keys : List ℕ) → IsStanding clients old keys → IsWidgets new → new ≡ joined client old → now ≡ clients ++ client ∷ [] → AreConnectedOnce now → IsStanding now new keys
-IsStanding-joined clients now old new client keys kept tree left added once =
+AreParts-joined : (clients now : List ℕ) (old new : Widgets) (client : ℕ) (keys : List ℕ) → AreParts clients old keys → IsWidgets new → new ≡ joined client old → now ≡ clients ++ client ∷ [] → AreParts now new keys
+AreParts-joined clients now old new client keys kept tree left added =
     let same : new.entries ≡ old.entries = ap (λ (w : Widgets). w.entries) left in
     record {
       clients = added ∙ ap (λ (cs : List ℕ). cs ++ client ∷ []) kept.clients ∙ sym (ap (λ (w : Widgets). w.clients) left);
-      once = once;
       tree = tree;
       stack = kept.stack;
       windows = rw same kept.windows;
-      rules = rw same kept.rules;
     }
 
--- `connect`
-pub connected-step : (setting : Setting) (w new : Widgets) (keys : List ℕ) (client : ℕ) → let_go (desk_of setting w keys) ≡ desk_of setting w keys → is_connected (desk_of setting w keys) client ≡ false → new ≡ joined client w → (Done, desk_of setting new keys) ≡ step_connect (desk_of setting w keys) client false
-connected-step setting w new keys client held absent left =
-    ap (λ (v : Widgets). (Done, desk_of setting v keys)) left ∙ connect-joined (desk_of setting w keys) client held absent
+joined-held : (pointer : Pointer) (w new : Widgets) (client : ℕ) → new ≡ joined client w → HoldsLive w.entries pointer → HoldsLive new.entries pointer
+joined-held pointer w new client left held = subst (λ (v : Widgets). HoldsLive v.entries pointer) (sym left) held
 
-pub connected-kept : (setting : Setting) (clients now : List ℕ) (w new : Widgets) (keys : List ℕ) (client : ℕ) → IsKept setting clients w keys → is_client client ≡ true → is_connected (desk_of setting w keys) client ≡ false → new ≡ joined client w → IsWidgets new → now ≡ clients ++ client ∷ [] → AreConnectedOnce now → IsKept setting now new keys
-connected-kept setting clients now w new keys client kept range absent left tree added once =
-    let steps = connected-step setting w new keys client kept.desk.held absent left in
+-- `connect`
+pub connected-step : (shape : Shape) (pointer : Pointer) (w new : Widgets) (keys : List ℕ) (client : ℕ) → let_go (desk_of (stage_of shape w pointer) w keys) ≡ desk_of (stage_of shape w pointer) w keys → is_connected (desk_of (stage_of shape w pointer) w keys) client ≡ false → new ≡ joined client w → (Done, desk_of (stage_of shape new pointer) new keys) ≡ step_connect (desk_of (stage_of shape w pointer) w keys) client false
+connected-step shape pointer w new keys client held absent left =
+    ap (λ (v : Widgets). (Done, desk_of (stage_of shape v pointer) v keys)) left ∙ connect-joined (desk_of (stage_of shape w pointer) w keys) client held absent
+
+pub connected-kept : (shape : Shape) (pointer : Pointer) (clients now : List ℕ) (w new : Widgets) (keys : List ℕ) (client : ℕ) → IsKept shape pointer clients w keys → is_client client ≡ true → is_connected (desk_of (stage_of shape w pointer) w keys) client ≡ false → new ≡ joined client w → IsWidgets new → now ≡ clients ++ client ∷ [] → IsKept shape pointer now new keys
+connected-kept shape pointer clients now w new keys client kept range absent left tree added =
+    let steps = connected-step shape pointer w new keys client kept.desk.held absent left in
     record {
-      standing = IsStanding-joined clients now w new client keys kept.standing tree left added once;
-      desk = subst IsDesk (sym (ap (λ (done : Reply × Desk). done.1) steps)) (IsDesk-connect (desk_of setting w keys) client false range kept.desk);
+      parts = AreParts-joined clients now w new client keys kept.parts tree left added;
+      held = joined-held pointer w new client left kept.held;
+      desk = subst IsDesk (sym (ap (λ (done : Reply × Desk). done.1) steps)) (IsDesk-connect (desk_of (stage_of shape w pointer) w keys) client false range kept.desk);
     }
 
 -- `hello`
-pub greeted-step : (setting : Setting) (w new : Widgets) (keys : List ℕ) (client : ℕ) → let_go (desk_of setting w keys) ≡ desk_of setting w keys → free_client (desk_of setting w keys).clients ≡ Some client → new ≡ joined client w → (Number (pos client), desk_of setting new keys) ≡ step_hello (desk_of setting w keys) false
-greeted-step setting w new keys client held free left =
-    ap (λ (v : Widgets). (Number (pos client), desk_of setting v keys)) left ∙ hello-joined (desk_of setting w keys) client held free
+pub greeted-step : (shape : Shape) (pointer : Pointer) (w new : Widgets) (keys : List ℕ) (client : ℕ) → let_go (desk_of (stage_of shape w pointer) w keys) ≡ desk_of (stage_of shape w pointer) w keys → free_client (desk_of (stage_of shape w pointer) w keys).clients ≡ Some client → new ≡ joined client w → (Number (pos client), desk_of (stage_of shape new pointer) new keys) ≡ step_hello (desk_of (stage_of shape w pointer) w keys) false
+greeted-step shape pointer w new keys client held free left =
+    ap (λ (v : Widgets). (Number (pos client), desk_of (stage_of shape v pointer) v keys)) left ∙ hello-joined (desk_of (stage_of shape w pointer) w keys) client held free
 
-pub greeted-kept : (setting : Setting) (clients now : List ℕ) (w new : Widgets) (keys : List ℕ) (client : ℕ) → IsKept setting clients w keys → free_client (desk_of setting w keys).clients ≡ Some client → new ≡ joined client w → IsWidgets new → now ≡ clients ++ client ∷ [] → AreConnectedOnce now → IsKept setting now new keys
-greeted-kept setting clients now w new keys client kept free left tree added once =
-    let steps = greeted-step setting w new keys client kept.desk.held free left in
+pub greeted-kept : (shape : Shape) (pointer : Pointer) (clients now : List ℕ) (w new : Widgets) (keys : List ℕ) (client : ℕ) → IsKept shape pointer clients w keys → free_client (desk_of (stage_of shape w pointer) w keys).clients ≡ Some client → new ≡ joined client w → IsWidgets new → now ≡ clients ++ client ∷ [] → IsKept shape pointer now new keys
+greeted-kept shape pointer clients now w new keys client kept free left tree added =
+    let steps = greeted-step shape pointer w new keys client kept.desk.held free left in
     record {
-      standing = IsStanding-joined clients now w new client keys kept.standing tree left added once;
-      desk = subst IsDesk (sym (ap (λ (done : Reply × Desk). done.1) steps)) (IsDesk-hello (desk_of setting w keys) false kept.desk);
+      parts = AreParts-joined clients now w new client keys kept.parts tree left added;
+      held = joined-held pointer w new client left kept.held;
+      desk = subst IsDesk (sym (ap (λ (done : Reply × Desk). done.1) steps)) (IsDesk-hello (desk_of (stage_of shape w pointer) w keys) false kept.desk);
     }
 
 -- a command, after which the pointer lets go
-pub obeyed-step : (setting after : Setting) (w new : Widgets) (keys keys' : List ℕ) (client : ℕ) (command : Command) (reply : Reply) → is_built command ≡ true → is_connected (desk_of setting w keys) client ≡ true → IfSome (row_of command) (λ row. DidAll (λ desk. row desk client (is_memory reply)) w new keys keys' reply) → desk_of after new keys' ≡ let_go (desk_of setting new keys') → step (desk_of setting w keys) client command (is_memory reply) ≡ Some (reply, desk_of after new keys')
-obeyed-step setting after w new keys keys' client command reply built there did end =
-    step-obeyed (desk_of setting w keys) client command (is_memory reply) reply (desk_of setting new keys') (desk_of after new keys') built there (by (row_of command) did) end
-  where
-    by : (row : Option (Desk → ℕ → Bool → Reply × Desk)) → IfSome row (λ row. DidAll (λ desk. row desk client (is_memory reply)) w new keys keys' reply) → IfSome row (λ row. (reply, desk_of setting new keys') ≡ row (desk_of setting w keys) client (is_memory reply))
-    by None did = tt
-    by (Some row) did = did.answer setting
+module _ (shape : Shape) (pointer : Pointer) (clients : List ℕ) (w new : Widgets) (keys keys' : List ℕ) (client : ℕ) (command : Command) (reply : Reply) (kept : IsKept shape pointer clients w keys) (built : is_built command ≡ true) (did : IfSome (row_of command) (λ row. DidAll (λ desk. row desk client (is_memory reply)) w new keys keys' reply)) where
+  -- what the row of a built command did
+  record DidRow : Type 0 where
+    clients_same : new.clients ≡ w.clients
+    parts : AreParts new.clients new keys'
+    holds : Holds w.entries new.entries pointer
 
--- what the row of a built command did
-pub DidAll-row : (client : ℕ) (command : Command) (w new : Widgets) (keys keys' : List ℕ) (reply : Reply) → is_built command ≡ true → IfSome (row_of command) (λ row. DidAll (λ desk. row desk client (is_memory reply)) w new keys keys' reply) → (new.clients ≡ w.clients) × IsStanding new.clients new keys'
-DidAll-row client command w new keys keys' reply built did = by (row_of command) refl did
-  where
-    by : (row : Option (Desk → ℕ → Bool → Reply × Desk)) → row_of command ≡ row → IfSome row (λ row. DidAll (λ desk. row desk client (is_memory reply)) w new keys keys' reply) → (new.clients ≡ w.clients) × IsStanding new.clients new keys'
-    by None none did = absurd (cc)
-    by (Some row) some did = (did.clients, did.kept)
+  did-row : DidRow
+  did-row = by (row_of command) refl did
+    where
+      by : (row : Option (Desk → ℕ → Bool → Reply × Desk)) → row_of command ≡ row → IfSome row (λ row. DidAll (λ desk. row desk client (is_memory reply)) w new keys keys' reply) → DidRow
+      by None none did = absurd (cc)
+      by (Some row) some did =
+          record { clients_same = did.clients; parts = did.kept; holds = pointer-holds w.entries new.entries (desk_of (stage_of shape w pointer) w keys) pointer refl kept.desk.held kept.held (did.names (stage_of shape w pointer)) }
 
-pub obeyed-kept : (setting after : Setting) (clients : List ℕ) (w new : Widgets) (keys keys' : List ℕ) (client : ℕ) (command : Command) (reply : Reply) → IsKept setting clients w keys → is_built command ≡ true → is_connected (desk_of setting w keys) client ≡ true → IfSome (row_of command) (λ row. DidAll (λ desk. row desk client (is_memory reply)) w new keys keys' reply) → desk_of after new keys' ≡ let_go (desk_of setting new keys') → IsKept after clients new keys'
-obeyed-kept setting after clients w new keys keys' client command reply kept built there did end =
-    let all = DidAll-row client command w new keys keys' reply built did in
-    record {
-      standing = subst (λ (cs : List ℕ). IsStanding cs new keys') (all.0 ∙ sym kept.standing.clients) all.1;
-      desk = IsDesk-command (desk_of setting w keys) client command (is_memory reply) reply (desk_of after new keys') kept.desk (obeyed-step setting after w new keys keys' client command reply built there did end);
-    }
+  pub obeyed-parts : AreParts new.clients new keys'
+  obeyed-parts = did-row.parts
 
--- `bye`: the client's rows and windows go, and then the pointer lets go
-pub gone-standing : (clients now : List ℕ) (w new : Widgets) (keys keys' : List ℕ) (client : ℕ) → IsStanding clients w keys → new ≡ departed client w → keys' ≡ filter (is_others (nodes w.entries) client) keys → now ≡ filter (λ other. not (nat_eq client other)) clients → IsWidgets new → IsStack keys' → AreConnectedOnce now → IsStanding now new keys'
-gone-standing clients now w new keys keys' client kept left closed gone tree stack once =
-    let P : List ℕ → Widgets → List ℕ → Type 0 = λ cs v ks. AreConnectedOnce cs → IsWidgets v → IsStack ks → IsStanding cs v ks in
-    subst (λ cs. P cs new keys') (sym gone) (subst (λ v. P (filter (λ other. not (nat_eq client other)) clients) v keys') (sym left) (subst (λ ks. P (filter (λ other. not (nat_eq client other)) clients) (departed client w) ks) (sym closed)
-    (λ once tree stack. IsStanding-departed clients w client keys kept once tree stack))) once tree stack
+  pub obeyed-held : HoldsLive new.entries pointer
+  obeyed-held = did-row.holds.live
 
-pub gone-desk : (setting : Setting) (clients : List ℕ) (w new : Widgets) (keys keys' : List ℕ) (client : ℕ) → IsStanding clients w keys → new ≡ departed client w → keys' ≡ filter (is_others (nodes w.entries) client) keys → desk_of setting new keys' ≡ without_client client (desk_of setting w keys)
-gone-desk setting clients w new keys keys' client kept left closed =
-    ap₂ (λ (v : Widgets) (ks : List ℕ). desk_of setting v ks) left closed ∙ desk_of-departed setting w client keys kept.windows
+  module _ (there : is_connected (desk_of (stage_of shape w pointer) w keys) client ≡ true) (after : Pointer) (end : desk_of (stage_of shape new after) new keys' ≡ let_go (desk_of (stage_of shape new pointer) new keys')) where
+    pub obeyed-step : step (desk_of (stage_of shape w pointer) w keys) client command (is_memory reply) ≡ Some (reply, desk_of (stage_of shape new after) new keys')
+    obeyed-step =
+        step-obeyed (desk_of (stage_of shape w pointer) w keys) client command (is_memory reply) reply (desk_of (stage_of shape w pointer) new keys') (desk_of (stage_of shape new after) new keys') built there (by (row_of command) did)
+        (end ∙ ap (λ (p : model.Pointer). let_go (desk_of (record { shape = shape; pointer = p }) new keys')) did-row.holds.same)
+      where
+        by : (row : Option (Desk → ℕ → Bool → Reply × Desk)) → IfSome row (λ row. DidAll (λ desk. row desk client (is_memory reply)) w new keys keys' reply) → IfSome row (λ row. (reply, desk_of (stage_of shape w pointer) new keys') ≡ row (desk_of (stage_of shape w pointer) w keys) client (is_memory reply))
+        by None did = tt
+        by (Some row) did = did.answer (stage_of shape w pointer)
 
-pub gone-step : (setting after : Setting) (clients : List ℕ) (w new : Widgets) (keys keys' : List ℕ) (client : ℕ) → IsStanding clients w keys → is_connected (desk_of setting w keys) client ≡ true → new ≡ departed client w → keys' ≡ filter (is_others (nodes w.entries) client) keys → desk_of after new keys' ≡ let_go (desk_of setting new keys') → (Done, desk_of after new keys') ≡ step_bye (desk_of setting w keys) client
-gone-step setting after clients w new keys keys' client kept there left closed end =
-    ap (λ (d : Desk). (Done, d)) (end ∙ ap let_go (gone-desk setting clients w new keys keys' client kept left closed))
-    ∙ bye-gone (desk_of setting w keys) client there
+    pub obeyed-kept : HoldsLive new.entries after → IsKept shape after clients new keys'
+    obeyed-kept held =
+        record {
+          parts = subst (λ (cs : List ℕ). AreParts cs new keys') (did-row.clients_same ∙ sym kept.parts.clients) did-row.parts;
+          held = held;
+          desk = IsDesk-command (desk_of (stage_of shape w pointer) w keys) client command (is_memory reply) reply (desk_of (stage_of shape new after) new keys') kept.desk obeyed-step;
+        }
 
-pub gone-kept : (setting after : Setting) (clients now : List ℕ) (w new : Widgets) (keys keys' : List ℕ) (client : ℕ) → IsKept setting clients w keys → is_connected (desk_of setting w keys) client ≡ true → new ≡ departed client w → keys' ≡ filter (is_others (nodes w.entries) client) keys → desk_of after new keys' ≡ let_go (desk_of setting new keys') → IsStanding now new keys' → IsKept after now new keys'
-gone-kept setting after clients now w new keys keys' client kept there left closed end standing =
-    let steps = gone-step setting after clients w new keys keys' client kept.standing there left closed end in
-    record {
-      standing = standing;
-      desk = subst IsDesk (sym (ap (λ (done : Reply × Desk). done.1) steps)) (IsDesk-bye (desk_of setting w keys) client kept.desk);
-    }
+-- `bye`: the client's windows close, the pointer lets go, and then the client's widgets go
+pub closed-parts : (clients : List ℕ) (w : Widgets) (keys keys' : List ℕ) (client : ℕ) → AreParts clients w keys → keys' ≡ filter (is_others (nodes w.entries) client) keys → IsStack keys' → AreParts w.clients w keys'
+closed-parts clients w keys keys' client kept closes stack =
+    record { clients = refl; tree = kept.tree; stack = stack; windows = rw closes (list_all-filter (names_window (nodes w.entries)) (is_others (nodes w.entries) client) keys kept.windows) }
+
+pub gone-parts : (clients now : List ℕ) (w new : Widgets) (keys keys' : List ℕ) (client : ℕ) → AreParts clients w keys → new ≡ departed client w → keys' ≡ filter (is_others (nodes w.entries) client) keys → now ≡ filter (λ other. not (nat_eq client other)) clients → IsWidgets new → IsStack keys' → AreParts now new keys'
+gone-parts clients now w new keys keys' client kept left closes gone tree stack =
+    let P : List ℕ → Widgets → List ℕ → Type 0 = λ cs v ks. IsWidgets v → IsStack ks → AreParts cs v ks in
+    subst (λ cs. P cs new keys') (sym gone) (subst (λ v. P (filter (λ other. not (nat_eq client other)) clients) v keys') (sym left) (subst (λ ks. P (filter (λ other. not (nat_eq client other)) clients) (departed client w) ks) (sym closes)
+    (λ tree stack. AreParts-departed clients w client keys kept tree stack))) tree stack
+
+pub gone-desk : (stage : Stage) (clients : List ℕ) (w new : Widgets) (keys keys' : List ℕ) (client : ℕ) → AreParts clients w keys → new ≡ departed client w → keys' ≡ filter (is_others (nodes w.entries) client) keys → desk_of stage new keys' ≡ without_client client (desk_of stage w keys)
+gone-desk stage clients w new keys keys' client kept left closes =
+    ap₂ (λ (v : Widgets) (ks : List ℕ). desk_of stage v ks) left closes ∙ desk_of-departed stage w client keys kept.windows
+
+module _ (shape : Shape) (pointer after : Pointer) (clients now : List ℕ) (w new : Widgets) (keys keys' : List ℕ) (client : ℕ) (kept : IsKept shape pointer clients w keys) (there : is_connected (desk_of (stage_of shape w pointer) w keys) client ≡ true) (left : new ≡ departed client w) (closes : keys' ≡ filter (is_others (nodes w.entries) client) keys) (end : desk_of (stage_of shape w after) w keys' ≡ let_go (desk_of (stage_of shape w pointer) w keys')) (held : HoldsLive w.entries after) where
+  abbrev desk : Desk
+  desk = desk_of (stage_of shape w pointer) w keys
+
+  abbrev before : Desk
+  before = desk_of (stage_of shape w after) w keys'
+
+  -- the desk with the windows closed
+  closed_is : desk_of (stage_of shape w pointer) w keys' ≡ closed client desk
+  closed_is = ap (λ (ws : List (ℕ × List ℕ)). record desk { windows = ws }) (ap (windows_at (nodes w.entries)) closes ∙ windows_at-filter (nodes w.entries) client keys)
+
+  end_is : before ≡ let_go (closed client desk)
+  end_is = end ∙ ap let_go closed_is
+
+  -- what is in a window then is another's, and keeps its number
+  names : (id : ℕ) (key : ℕ × List ℕ) → key_at w.entries id ≡ Some key → is_in_window before key ≡ true → key_at new.entries id ≡ Some key
+  names id key named inside =
+      let windows : before.windows ≡ (closed client desk).windows = ap (λ (d : Desk). d.windows) closed_is in
+      let other = others-inside client desk key (sym (ap (λ (ws : List (ℕ × List ℕ)). is_in_window (record before { windows = ws }) key) windows) ∙ inside) in
+      ap (λ (v : Widgets). key_at v.entries id) left ∙ key_at-others w.entries client id key named other
+
+  holds : Holds w.entries new.entries after
+  holds = pointer-holds w.entries new.entries before after refl (ap let_go end_is ∙ let_go-again (closed client desk) ∙ sym end_is) held names
+
+  pub gone-step : (Done, desk_of (stage_of shape new after) new keys') ≡ step_bye desk client
+  gone-step =
+      ap (λ (p : model.Pointer). (Done, desk_of (record { shape = shape; pointer = p }) new keys')) holds.same
+      ∙ ap (λ (p : model.Pointer). (Done, desk_of (record { shape = shape; pointer = p }) new keys')) (ap (λ (d : Desk). d.pointer) end_is)
+      ∙ ap (λ (d : Desk). (Done, record d { pointer = (let_go (closed client desk)).pointer })) (gone-desk (stage_of shape w pointer) clients w new keys keys' client kept.parts left closes)
+      ∙ ap (λ (d : Desk). (Done, d)) (sym (let_go-closed client desk))
+      ∙ bye-gone desk client there
+
+  pub gone-kept : now ≡ filter (λ other. not (nat_eq client other)) clients → IsWidgets new → IsStack keys' → IsKept shape after now new keys'
+  gone-kept gone tree stack =
+      record {
+        parts = gone-parts clients now w new keys keys' client kept.parts left closes gone tree stack;
+        held = holds.live;
+        desk = subst IsDesk (sym (ap (λ (done : Reply × Desk). done.1) gone-step)) (IsDesk-bye desk client kept.desk);
+      }

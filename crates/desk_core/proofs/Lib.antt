@@ -1,25 +1,25 @@
 pub mod Counting
-pub mod Joins
-pub mod Dids
+pub mod ClientLists
+pub mod Effects
 pub mod LinkSteps
 pub mod Edits
 pub mod AttrSteps
-pub mod MakeSteps
-pub mod RuleSteps
-pub mod OpenSteps
-pub mod Obeying
-pub mod Tells
-pub mod LinkTells
-pub mod SetTells
+pub mod WidgetSteps
+pub mod TrackSteps
+pub mod WindowSteps
+pub mod CommandSteps
+pub mod Changes
+pub mod LinkChanges
+pub mod AttrChanges
 pub mod WindowPlaces
-pub mod Leaving
-pub mod HangSteps
+pub mod OthersLists
+pub mod PlaceSteps
 pub mod LiftSteps
 pub mod DropSteps
-pub mod Departing
+pub mod Departures
 pub mod Linked
-pub mod Valid
-pub mod ByeTells
+pub mod ByeChanges
 mod InWindows
-mod Endings
+mod PointerKept
+mod CallSteps
 mod Calls

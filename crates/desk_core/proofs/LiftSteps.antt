@@ -14,11 +14,11 @@ use Rattle.widget_model.specs.Relatives.{parent_id}
 use Rattle.widget_model.specs.Widgets.{Widgets, nodes, rows_of, row_at}
 use Rattle.widget_model.specs.Forest.{IsWidgets}
 use Rattle.desk_model.specs.Desk.{Desk}
-use Rattle.desk_model.specs.Refusing.{when, first_refusal, outcome, unless_there}
-use Rattle.desk_model.specs.Hanging.{lift_effect, step_lift}
+use Rattle.desk_model.specs.Refusals.{when, first_refusal, outcome, unless_there}
+use Rattle.desk_model.specs.Placement.{lift_effect, step_lift}
 use Rattle.widget_model.proofs.Naming.{row_named-found, row_named-parts}
-use Rattle.desk_core.specs.Did.{IsFound}
-use Rattle.desk_core.proofs.Dids.{found-parts}
+use Rattle.desk_core.specs.Lookup.{IsFound}
+use Rattle.desk_core.proofs.Effects.{found-parts}
 
 pub step_lift-by : (desk : Desk) (client : ℕ) (parent child : List ℕ) (upper lower : Option Row) → row_named desk.rows client parent ≡ upper → row_named desk.rows client child ≡ lower → step_lift desk client parent child ≡ outcome desk (first_refusal (unless_there upper ∷ unless_there lower ∷ when (not (option_map_or (bytes_eq parent) (option_and_then (λ row. option_map (λ attached. attached.0) row.attached) lower) false)) NotHere ∷ [])) (lift_effect desk client child)
 unfolding step_lift

@@ -8,8 +8,9 @@ use Rattle.cmd_words.specs.declared.replies.Refusal.TheVariants.{WrongKind}
 use Rattle.widget_model.specs.Rows.{Row}
 use Rattle.widget_model.specs.Named.{row_named, is_kind_of}
 use Rattle.desk_model.specs.Desk.{Desk}
-use Rattle.desk_model.specs.Refusing.{when, first_refusal, outcome, unless_there, unless_kind}
-use Rattle.desk_model.specs.Linking.{link_effect, unlink_effect, bind_effect, step_link, step_unlink, step_bind}
+use Rattle.desk_model.specs.Refusals.{when, first_refusal, outcome, unless_there, unless_kind}
+use Rattle.desk_model.specs.Links.{link_effect, unlink_effect, step_link, step_unlink}
+use Rattle.desk_model.specs.Bindings.{bind_effect, step_bind}
 use Rattle.widget_model.specs.Kinds.{can_link, is_variable_kind}
 
 pub variable_kind : (kind : Kind) → is_variable_kind kind ≡ true → kind ≡ Variable

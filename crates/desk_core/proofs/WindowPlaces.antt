@@ -4,7 +4,7 @@ use Rattle.std.proofs.lemmas.Bool.{true≢false, and_parts}
 use Rattle.std.specs.List.{list_all}
 use Rattle.std.specs.Option.{option_map}
 use Rattle.kind_core.specs.declared.kinds.Attr.TheVariants.{X, Y, W, H}
-use Rattle.desk_core.specs.declared.setting.Setting.{Setting}
+use Rattle.desk_core.specs.Parts.{Stage}
 use Rattle.kind_core.specs.declared.values.Value as value
 use Rattle.widget_model.specs.Rows.{Row, attr_of}
 use Rattle.widget_model.specs.Nodes.{Node, node_of, node_at}
@@ -12,7 +12,7 @@ use Rattle.widget_model.specs.Named.{row_named}
 use Rattle.widget_model.specs.Widgets.{Widgets, nodes, rows_of, row_at}
 use Rattle.widget_model.proofs.Naming.{row_named-found, id_named-row}
 use Rattle.tree_core.proofs.ForestLemmas.{node_at-nodes}
-use Rattle.desk_core.specs.Standing.{title_at, windows_at, desk_of, names_window, IsStanding}
+use Rattle.desk_core.specs.Parts.{title_at, windows_at, desk_of, names_window, AreParts}
 use Rattle.geom_core.specs.declared.rectangle.Rect.{Rect}
 use Rattle.scene_model.specs.OpenWindows.{place_of_window, place_of_row}
 use Rattle.scene_model.specs.Values.{number_in}
@@ -38,7 +38,7 @@ slice_get-past [] i h = omega arith
 slice_get-past (y ∷ ys) zero h = absurd (cc)
 slice_get-past (y ∷ ys) (suc i) h = omega (arith, slice_get-past ys i h)
 
--- a key at an index names a Rect, which has a row
+-- a key at an index names a Window, which has a row
 slice_get-window : (ns : List (ℕ × Node)) (keys : List ℕ) (i key : ℕ) → list_all (names_window ns) keys ≡ true → slice_get keys i ≡ Some key → names_window ns key ≡ true
 slice_get-window ns [] i key windows there = absurd (cc)
 slice_get-window ns (k ∷ ks) zero key windows there =
@@ -56,7 +56,7 @@ window_live w keys i key windows there = by (row_at w.entries key) refl (node_at
     by (Some row) p q h = refl
 
 -- the row of the title is the row of the number
-title_row : (w : Widgets) (clients : List ℕ) (keys : List ℕ) (key : ℕ) → IsStanding clients w keys → is_some (row_at w.entries key) ≡ true → row_named (rows_of w) (title_at (nodes w.entries) key).0 (title_at (nodes w.entries) key).1 ≡ row_at w.entries key
+title_row : (w : Widgets) (clients : List ℕ) (keys : List ℕ) (key : ℕ) → AreParts clients w keys → is_some (row_at w.entries key) ≡ true → row_named (rows_of w) (title_at (nodes w.entries) key).0 (title_at (nodes w.entries) key).1 ≡ row_at w.entries key
 title_row w clients keys key kept live = by (row_at w.entries key) refl (node_at-nodes w.entries key) live
   where
     by : (o : Option Row) → row_at w.entries key ≡ o → node_at (nodes w.entries) key ≡ option_map node_of (row_at w.entries key) → is_some o ≡ true → row_named (rows_of w) (title_at (nodes w.entries) key).0 (title_at (nodes w.entries) key).1 ≡ row_at w.entries key
@@ -71,18 +71,18 @@ sides_of_row None x y w h a b d e = absurd (cc)
 sides_of_row (Some row) x y w h a b d e = cc
 
 -- the place of the window with that index is that of its number's row
-pub open_windows-key : (setting : Setting) (w : Widgets) (clients : List ℕ) (keys : List ℕ) (i key : ℕ) → IsStanding clients w keys → slice_get keys i ≡ Some key → slice_get (open_windows (desk_of setting w keys)) i ≡ Some (place_of_row (row_at w.entries key))
+pub open_windows-key : (stage : Stage) (w : Widgets) (clients : List ℕ) (keys : List ℕ) (i key : ℕ) → AreParts clients w keys → slice_get keys i ≡ Some key → slice_get (open_windows (desk_of stage w keys)) i ≡ Some (place_of_row (row_at w.entries key))
 unfolding open_windows window_places
-open_windows-key setting w clients keys i key kept there =
+open_windows-key stage w clients keys i key kept there =
     let ns = nodes w.entries in
     let found : slice_get (windows_at ns keys) i ≡ Some (title_at ns key) = slice_get-map (title_at ns) keys i ∙ ap (option_map (title_at ns)) there in
     slice_get-map (place_of_window (rows_of w)) (windows_at ns keys) i
     ∙ ap (option_map (place_of_window (rows_of w))) found
     ∙ ap (λ (o : Option Row). Some (place_of_row o)) (title_row w clients keys key kept (window_live w keys i key kept.windows there))
 
-pub open_windows-past : (setting : Setting) (w : Widgets) (keys : List ℕ) (i : ℕ) → slice_get keys i ≡ None → slice_get (open_windows (desk_of setting w keys)) i ≡ None
+pub open_windows-past : (stage : Stage) (w : Widgets) (keys : List ℕ) (i : ℕ) → slice_get keys i ≡ None → slice_get (open_windows (desk_of stage w keys)) i ≡ None
 unfolding open_windows window_places
-open_windows-past setting w keys i past =
+open_windows-past stage w keys i past =
     let ns = nodes w.entries in
     let none : slice_get (windows_at ns keys) i ≡ None = slice_get-map (title_at ns) keys i ∙ ap (option_map (title_at ns)) past in
     slice_get-map (place_of_window (rows_of w)) (windows_at ns keys) i ∙ ap (option_map (place_of_window (rows_of w))) none

@@ -1,7 +1,8 @@
-pub mod Joined
-pub mod Standing
-pub mod Did
-pub mod Finding
-pub mod Told
-pub mod Ruling
-pub mod Given
+pub mod ClientList
+pub mod Pointer
+pub mod Parts
+pub mod View
+pub mod Effects
+pub mod Lookup
+pub mod TreeRefusals
+pub mod Tracks

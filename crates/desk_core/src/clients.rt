@@ -2,7 +2,6 @@ ghost use Rattle.std.specs.Prelude.{◌≡◌, ◌≤◌, ◌+◌, ◌∷◌, �
 ghost use Rattle.std.specs.List.{filter};
 ghost use Rattle.stack_core.specs.Stack.{holds_key};
 ghost use Rattle.desk_model.specs.Clients.{free_client};
-ghost use Rattle.desk_model.specs.DeskFacts.{AreConnectedOnce};
 ghost use Rattle.widget_model.specs.Widgets.{is_joined};
 
 use arrayvec::ArrayVec;
@@ -16,7 +15,7 @@ pub(crate) struct Clients {
 
 impl Model for Clients {
     ghost use Rattle.std.specs.Prelude.{ℕ, List};
-    ghost use Rattle.desk_core.specs.Joined.{IsJoined};
+    ghost use Rattle.desk_core.specs.ClientList.{IsJoined};
 
     ghost Value = { List ℕ };
 
@@ -65,7 +64,6 @@ impl Clients {
         requires high { client ≤ 16 }
         requires new_client { is_joined self.old client ≡ false }
         ensures added { self.new ≡ self.old ++ client ∷ [] }
-        ensures once { AreConnectedOnce self.new }
     {
         self.numbers.push(client);
     }
@@ -73,11 +71,10 @@ impl Clients {
     /// Takes the client out; the others keep their order.
     pub(crate) fn leave(&mut self, client: u32)
         ensures left { self.new ≡ filter (λ other. not (nat_eq client other)) self.old }
-        ensures once { AreConnectedOnce self.new }
     {
-        match place_of(self.numbers.as_slice(), client) {
-            Some(place) => {
-                self.numbers.remove(place);
+        match index_of(self.numbers.as_slice(), client) {
+            Some(index) => {
+                self.numbers.remove(index);
             }
             None => {}
         }
@@ -100,13 +97,13 @@ fn is_joined(numbers: &[u32], client: u32) -> bool
 }
 
 /// The index of the client, or None where it isn't there.
-fn place_of(numbers: &[u32], client: u32) -> Option<usize>
+fn index_of(numbers: &[u32], client: u32) -> Option<usize>
     ensures { MatchOption result (holds_key numbers.now client ≡ false)
-        (λ place. slice_get numbers.now place ≡ Some client) }
+        (λ index. slice_get numbers.now index ≡ Some client) }
 {
-    for (place, other) in numbers.iter().enumerate() {
+    for (index, other) in numbers.iter().enumerate() {
         if *other == client {
-            return Some(place);
+            return Some(index);
         }
     }
     None

@@ -1,25 +1,30 @@
 //! Which command is answered by which function.
 
 ghost use Rattle.std.specs.Prelude.{◌≡◌, true, IfSome};
-ghost use Rattle.widget_model.specs.Widgets.{is_joined};
+ghost use Rattle.std.specs.List.{list_all};
+ghost use Rattle.widget_model.specs.Fitting.{fits_rules};
+ghost use Rattle.widget_model.specs.Widgets.{is_joined, rows_of};
 ghost use Rattle.desk_model.specs.Commands.{is_built, row_of};
-ghost use Rattle.desk_core.specs.Standing.{IsStanding};
-ghost use Rattle.desk_model.specs.Refusing.{is_memory};
-ghost use Rattle.desk_core.specs.Did.{DidAll, TellsAll};
+ghost use Rattle.desk_core.specs.Parts.{AreParts};
+ghost use Rattle.desk_model.specs.Refusals.{is_memory};
+ghost use Rattle.desk_core.specs.Effects.{DidAll, TellsAll};
 
 use crate::answer::Answer;
-use crate::hanging::{drop_widget, lift, place};
-use crate::linking::{bind, link, unlink};
-use crate::making::{get, make, set};
-use crate::opening::open_window;
-use crate::rules::{rule_column, rule_row};
+use crate::bindings::bind;
+use crate::links::{link, unlink};
+use crate::placement::{lift, place};
+use crate::tracks::rule_track;
+use crate::widgets::{drop_widget, get, make, set};
+use crate::windows::open_window;
 use cmd_words::Command;
+use scene_model::Axis;
 use stack_core::Stack;
 use tree_core::Tree;
 
 /// The answer to a connected client's command, one of those that are built.
 pub(crate) fn obey(tree: &mut Tree, windows: &mut Stack, client: u32, command: &Command) -> Answer
-    requires standing { IsStanding tree.old.clients tree.old windows.old }
+    requires parts { AreParts tree.old.clients tree.old windows.old }
+    requires fits { list_all fits_rules (rows_of tree.old) ≡ true }
     requires connected { is_joined tree.old.clients client ≡ true }
     requires built { is_built command.now ≡ true }
     ensures tells { TellsAll tree.old tree.new windows.old windows.new result.changed }
@@ -40,12 +45,12 @@ pub(crate) fn obey(tree: &mut Tree, windows: &mut Stack, client: u32, command: &
             name,
             index,
             options,
-        } => rule_column(tree, client, name, *index, options.as_slice()),
+        } => rule_track(tree, Axis::Across, client, name, *index, options.as_slice()),
         Command::RowConfig {
             name,
             index,
             options,
-        } => rule_row(tree, client, name, *index, options.as_slice()),
+        } => rule_track(tree, Axis::Down, client, name, *index, options.as_slice()),
         Command::Link { name, variable } => link(tree, client, name, variable),
         Command::Unlink { name } => unlink(tree, client, name),
         Command::Bind { name, event, tag } => bind(tree, client, name, *event, Some(*tag)),

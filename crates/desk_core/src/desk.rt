@@ -1,32 +1,32 @@
-ghost use Rattle.std.specs.Prelude.{◌≡◌, ◌<◌, ◌≤◌, ◌↔◌, IsSome, Some, true, false, [], length, slice_get};
+ghost use Rattle.std.specs.Prelude.{◌≡◌, ◌<◌, ◌≤◌, ◌↔◌, IsSome, IfSome, Some, true, false, [], length, slice_get};
 ghost use Rattle.std.specs.Option.{option_map};
 ghost use Rattle.desk_model.specs.Desk.{opening_desk};
 ghost use Rattle.desk_model.specs.DeskFacts.{IsDesk};
 ghost use Rattle.desk_model.specs.Seen.{open_windows};
-ghost use Rattle.desk_model.specs.Clients.{step_bye, step_connect, step_hello};
+ghost use Rattle.desk_model.specs.Clients.{free_client, step_bye, step_connect, step_hello};
 ghost use Rattle.scene_model.specs.Shapes.{IsShape};
 ghost use Rattle.desk_model.specs.Commands.{is_built, step};
 ghost use Rattle.desk_model.specs.OwnPart.{LeavesOthers};
-ghost use Rattle.desk_core.specs.Standing.{TellsChange};
-ghost use Rattle.desk_model.specs.Refusing.{is_memory};
+ghost use Rattle.desk_core.specs.View.{TellsChange};
+ghost use Rattle.desk_model.specs.Refusals.{is_memory};
 
 use crate::clients::Clients;
 use crate::commands::obey;
-use crate::holding::let_go;
-use crate::opening::{close_windows, place_of};
-use crate::setting::Setting;
+use crate::pointer::let_go;
+use crate::windows::{close_windows, place_of};
 use cmd_words::{Command, Refusal, Reply};
-use scene_model::{Grab, Pointer, Shape};
+use scene_model::Shape;
 use stack_core::Stack;
 use std::alloc::Global;
 use std::marker::Model;
-use tree_core::{Id, Tree};
+use tree_core::{Grab, Id, Pointer, Tree};
 
 /// The desk: the connected clients, their widgets, the order of the open windows and the pointer. It answers each
-/// client's command. Contracts see the record `Standing`: the desk of desk_model, and whether the last call changed it.
+/// client's command. Contracts see the record `DeskView`: the desk of desk_model, and whether the last call changed it.
 /// See docs/MACHINE.md, "The desk".
 pub struct Desk {
-    setting: Setting,
+    shape: Shape,
+    pointer: Pointer,
     clients: Clients,
     tree: Tree,
     windows: Stack,
@@ -34,19 +34,21 @@ pub struct Desk {
 }
 
 impl Model for Desk {
-    ghost use Rattle.desk_core.specs.Standing.{Standing, desk_of, IsKept};
+    ghost use Rattle.desk_core.specs.Parts.{desk_of, stage_of, IsKept};
+    ghost use Rattle.desk_core.specs.View.{DeskView};
 
-    ghost Value = { Standing };
+    ghost Value = { DeskView };
 
-    ghost view = { λ d. record { desk = desk_of d.setting d.tree d.windows; changed = d.changed } };
+    ghost view = { λ d. record { desk = desk_of (stage_of d.shape d.tree d.pointer) d.tree d.windows; changed = d.changed } };
 
-    ghost invariant = { λ d. IsKept d.setting d.clients d.tree d.windows };
+    ghost invariant = { λ d. IsKept d.shape d.pointer d.clients d.tree d.windows };
 }
 
 impl Drop for Desk {
     fn drop(self) {
         let Desk {
-            setting: _,
+            shape: _,
+            pointer: _,
             clients: _,
             tree: _,
             windows: _,
@@ -71,7 +73,8 @@ impl Desk {
             focus: None,
         };
         Desk {
-            setting: Setting { shape, pointer },
+            shape,
+            pointer,
             clients: Clients::new(),
             tree: Tree::new(alloc),
             windows: Stack::new(),
@@ -106,6 +109,7 @@ impl Desk {
     /// where all are connected, and else Memory where there is none. See docs/GUIDE.md, "Commands".
     pub fn hello(&mut self) -> Reply
         ensures step { (result, self.new.desk) ≡ step_hello self.old.desk (is_memory result) }
+        ensures others { IfSome (free_client self.old.desk.clients) (λ client. LeavesOthers client self.old.desk self.new.desk) }
         ensures valid { IsDesk self.new.desk }
         ensures changed { TellsChange self.old self.new }
         ensures unchanged { self.new.changed ≡ false }
@@ -142,7 +146,7 @@ impl Desk {
             return Reply::Refused(Refusal::NotConnected);
         }
         let answer = obey(&mut self.tree, &mut self.windows, client, command);
-        let_go(&self.tree, &self.windows, &mut self.setting);
+        let_go(&self.tree, &self.windows, &mut self.pointer);
         self.changed = answer.changed;
         answer.reply
     }
@@ -163,10 +167,10 @@ impl Desk {
         }
         let count = self.tree.count(client);
         close_windows(&self.tree, &mut self.windows, client);
+        let pointer = &mut self.pointer;
+        let_go(&self.tree, &self.windows, pointer);
         self.tree.drop_client(client);
         self.clients.leave(client);
-        let setting = &mut self.setting;
-        let_go(&self.tree, &self.windows, setting);
         self.changed = count > 0;
         Reply::Done
     }

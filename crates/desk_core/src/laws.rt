@@ -1,8 +1,8 @@
 //! Laws of the desk, over the definitions alone. Each is a function without parameters whose contract is the
 //! law. docs/MACHINE.md reads them in prose.
 
-ghost use Rattle.desk_model.specs.OwnPart.{CommandsLeaveOthers, ConnectsLeaveOthers, ByesLeaveOthers, AnswersDependOnOwnPart, ConnectsDependOnOwnPart, ByesDependOnOwnPart};
-ghost use Rattle.desk_model.specs.Keeping.{OpeningIsADesk, ConnectsKeepDesks, HellosKeepDesks, ByesKeepDesks, CommandsKeepDesks};
+ghost use Rattle.desk_model.specs.OwnPart.{CommandsLeaveOthers, ConnectsLeaveOthers, HellosLeaveOthers, ByesLeaveOthers, AnswersDependOnOwnPart, ConnectsDependOnOwnPart, ByesDependOnOwnPart};
+ghost use Rattle.desk_model.specs.DeskLaws.{OpeningIsADesk, ConnectsKeepDesks, HellosKeepDesks, ByesKeepDesks, CommandsKeepDesks, RefusedConnectsChangeNothing, RefusedHellosChangeNothing, RefusedByesChangeNothing, RefusedCommandsChangeNothing};
 
 /// What holds of a desk holds at opening.
 pub fn the_opening_desk_is_a_desk()
@@ -29,6 +29,26 @@ pub fn a_command_keeps_what_holds()
     ensures { CommandsKeepDesks }
 {}
 
+/// A refused connect leaves a desk of which all that holds of a desk holds as it was, the pointer's grab and focus too.
+pub fn a_refused_connect_changes_nothing()
+    ensures { RefusedConnectsChangeNothing }
+{}
+
+/// A refused hello does the same.
+pub fn a_refused_hello_changes_nothing()
+    ensures { RefusedHellosChangeNothing }
+{}
+
+/// A refused bye does the same.
+pub fn a_refused_bye_changes_nothing()
+    ensures { RefusedByesChangeNothing }
+{}
+
+/// A refused command does the same, whatever it is and whichever refusal it is.
+pub fn a_refused_command_changes_nothing()
+    ensures { RefusedCommandsChangeNothing }
+{}
+
 /// What a client's command does leaves every other client's part as it was: whether it is connected, its rows,
 /// its open windows in their order, its admissions and its events; and the shape, and the pointer but for what it
 /// holds of the client's own widgets.
@@ -39,6 +59,11 @@ pub fn a_command_leaves_the_others_parts()
 /// A client that connects leaves every other client's part and the shape as they were, and the pointer as above.
 pub fn a_connect_leaves_the_others_parts()
     ensures { ConnectsLeaveOthers }
+{}
+
+/// A client that says hello, under the least free number, does the same.
+pub fn a_hello_leaves_the_others_parts()
+    ensures { HellosLeaveOthers }
 {}
 
 /// A client that says bye leaves every other client's part and the shape as they were, and the pointer as above.

@@ -2,18 +2,21 @@
 #![tactic(auto)]
 
 mod answer;
+mod bindings;
 mod clients;
 mod commands;
 mod desk;
-mod finding;
-mod hanging;
-mod holding;
+mod kinds;
 pub mod laws;
-mod linking;
-mod making;
-mod opening;
-mod places;
-mod rules;
-mod setting;
+mod links;
+mod lookup;
+mod place_options;
+mod placement;
+mod pointer;
+mod ranges;
+mod rule_options;
+mod tracks;
+mod widgets;
+mod windows;
 
 pub use desk::Desk;

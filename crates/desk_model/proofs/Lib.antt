@@ -18,3 +18,4 @@ pub mod KeptPlacement
 pub mod KeptTracks
 pub mod KeptLinks
 pub mod Desks
+pub mod ByePointer

@@ -143,7 +143,7 @@ LeavesApart-without_client client desk = record {
 }
 
 -- another client's widget is in a window as it was
-is_in_window-others : (client other : ℕ) (name : List ℕ) (old new : Desk) → nat_eq client other ≡ false → LeavesApart client old new → is_in_window new (other, name) ≡ is_in_window old (other, name)
+pub is_in_window-others : (client other : ℕ) (name : List ℕ) (old new : Desk) → nat_eq client other ≡ false → LeavesApart client old new → is_in_window new (other, name) ≡ is_in_window old (other, name)
 is_in_window-others client other name old new differ leaves =
     let others : (x : ℕ) → nat_eq other x ≡ true → not (nat_eq client x) ≡ true = λ x e. rw (← eqb-true other x e, differ) refl in
     let rows : own_rows other new.rows ≡ own_rows other old.rows =

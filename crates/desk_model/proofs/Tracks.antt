@@ -15,7 +15,7 @@ use Rattle.desk_model.specs.Tracks.{rule_given, with_track}
 use Rattle.desk_model.proofs.Refusals.{passed, unless_within-none}
 
 -- a rule that is read fits, and so do the rules with one that is written
-read_fits : (rules : List (ℕ × ℕ)) (i : ℕ) → list_all fits_rule rules ≡ true → fits_rule (slice_index_or rules i (0, 0)) ≡ true
+pub read_fits : (rules : List (ℕ × ℕ)) (i : ℕ) → list_all fits_rule rules ≡ true → fits_rule (slice_index_or rules i (0, 0)) ≡ true
 read_fits [] i h = refl
 read_fits (rule ∷ rules) zero h = (and_parts (fits_rule rule) (list_all fits_rule rules) h).0
 read_fits (rule ∷ rules) (suc i) h = read_fits rules i (and_parts (fits_rule rule) (list_all fits_rule rules) h).1

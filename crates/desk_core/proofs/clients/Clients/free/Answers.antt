@@ -1,5 +1,5 @@
 use Rattle.std.proofs.Common.{sym, ◌∙◌}
-use Rattle.desk_core.proofs.Joins.{free_further}
+use Rattle.desk_core.proofs.ClientLists.{free_further}
 use Rattle.desk_core.proofs.clients.Clients.free.Goals as goal
 
 pub loop-client-preserved : goal.loop-client-preserved

@@ -1,4 +1,4 @@
-use Rattle.std.proofs.Common.{◌≡◌, ◌↔◌, IsTrue, ℕ, List, nat_lt, true, false, sym, ap, ◌∙◌, subst, arith}
+use Rattle.std.proofs.Common.{◌≡◌, ◌↔◌, IsTrue, nat_lt, true, false, sym, ap, ◌∙◌, subst, arith}
 use Rattle.std.proofs.lemmas.Bool.{ltb-true, lt-ltb}
 use Rattle.cmd_words.specs.declared.replies.Reply.{Reply}
 use Rattle.widget_model.specs.Nodes.{any_kind}
@@ -9,44 +9,43 @@ use Rattle.desk_model.specs.Clients.{step_bye, without_client}
 use Rattle.desk_model.specs.OwnPart.{LeavesOthers}
 use Rattle.widget_model.proofs.Naming.{count_of-nodes}
 use Rattle.desk_model.proofs.OwnPart.{byes_leave_others}
-use Rattle.desk_core.specs.Standing.{Standing, desk_of, IsStanding}
-use Rattle.desk_core.proofs.ByeTells.{tells_bye}
-use Rattle.desk_core.proofs.Endings.{bye-absent}
-use Rattle.desk_core.proofs.Calls.{connected-joined, gone-standing, gone-desk, gone-step, gone-kept}
+use Rattle.desk_core.specs.Parts.{desk_of, stage_of}
+use Rattle.desk_core.specs.View.{DeskView}
+use Rattle.desk_core.proofs.ByeChanges.{tells_bye}
+use Rattle.desk_core.proofs.CallSteps.{bye-absent}
+use Rattle.desk_core.proofs.Calls.{connected-joined, closed-parts, gone-desk, gone-step, gone-kept}
 use Rattle.desk_core.proofs.desk.Desk.bye.Goals as goal
 
 pub returns-then-not-has-clause-step : goal.returns-then-not-has-clause-step
 returns-then-not-has-clause-step c =
     let i = c.self.inside in
-    bye-absent (desk_of i.setting i.tree i.windows) c.args.client c.self.invariant.desk.held (connected-joined i.setting i.clients i.tree i.windows c.args.client false c.self.invariant.standing c.if-not-has.ensures)
-    ∙ ap (λ (s : Standing). step_bye s.desk c.args.client) c.self.view_is
+    bye-absent (desk_of (stage_of i.shape i.tree i.pointer) i.tree i.windows) c.args.client c.self.invariant.desk.held (connected-joined (stage_of i.shape i.tree i.pointer) i.clients i.tree i.windows c.args.client false c.self.invariant.parts c.if-not-has.ensures)
+    ∙ ap (λ (s : DeskView). step_bye s.desk c.args.client) c.self.view_is
 
-pub let_go-requires : goal.let_go-requires
-let_go-requires c =
+pub let_go-requires-clause-parts : goal.let_go-requires-clause-parts
+let_go-requires-clause-parts c =
     let i = c.self.inside in
-    let kept = gone-standing i.clients c.leave.new.self i.tree c.drop_client.new.self i.windows c.close_windows.new.windows c.args.client c.self.invariant.standing c.drop_client.ensures.left c.close_windows.ensures.closed c.leave.ensures.left c.drop_client.ensures.valid c.close_windows.ensures.valid c.leave.ensures.once in
-    let S : List ℕ → Type 0 = λ cs. IsStanding cs c.drop_client.new.self c.close_windows.new.windows in
-    subst S kept.clients kept
+    closed-parts i.clients i.tree i.windows c.close_windows.new.windows c.args.client c.self.invariant.parts c.close_windows.ensures.closed c.close_windows.ensures.valid
 
 pub invariant_of-self-2 : goal.invariant_of-self-2
 invariant_of-self-2 c =
     let i = c.self.inside in
-    gone-kept i.setting c.let_go.new.setting i.clients c.leave.new.self i.tree c.drop_client.new.self i.windows c.close_windows.new.windows c.args.client c.self.invariant
-    (connected-joined i.setting i.clients i.tree i.windows c.args.client true c.self.invariant.standing c.if-not-has.ensures)
-    c.drop_client.ensures.left c.close_windows.ensures.closed c.let_go.ensures
-    (gone-standing i.clients c.leave.new.self i.tree c.drop_client.new.self i.windows c.close_windows.new.windows c.args.client c.self.invariant.standing c.drop_client.ensures.left c.close_windows.ensures.closed c.leave.ensures.left c.drop_client.ensures.valid c.close_windows.ensures.valid c.leave.ensures.once)
+    gone-kept i.shape i.pointer c.let_go.new.pointer i.clients c.leave.new.self i.tree c.drop_client.new.self i.windows c.close_windows.new.windows c.args.client c.self.invariant
+    (connected-joined (stage_of i.shape i.tree i.pointer) i.clients i.tree i.windows c.args.client true c.self.invariant.parts c.if-not-has.ensures)
+    c.drop_client.ensures.left c.close_windows.ensures.closed (c.let_go.ensures.left i.shape) c.let_go.ensures.live
+    c.leave.ensures.left c.drop_client.ensures.valid c.close_windows.ensures.valid
 
 pub returns-clause-step : goal.returns-clause-step
 returns-clause-step c =
     let i = c.self.inside in
-    gone-step i.setting c.let_go.new.setting i.clients i.tree c.drop_client.new.self i.windows c.close_windows.new.windows c.args.client c.self.invariant.standing
-    (connected-joined i.setting i.clients i.tree i.windows c.args.client true c.self.invariant.standing c.if-not-has.ensures)
-    c.drop_client.ensures.left c.close_windows.ensures.closed c.let_go.ensures
-    ∙ ap (λ (s : Standing). step_bye s.desk c.args.client) c.self.view_is
+    gone-step i.shape i.pointer c.let_go.new.pointer i.clients c.leave.new.self i.tree c.drop_client.new.self i.windows c.close_windows.new.windows c.args.client c.self.invariant
+    (connected-joined (stage_of i.shape i.tree i.pointer) i.clients i.tree i.windows c.args.client true c.self.invariant.parts c.if-not-has.ensures)
+    c.drop_client.ensures.left c.close_windows.ensures.closed (c.let_go.ensures.left i.shape) c.let_go.ensures.live
+    ∙ ap (λ (s : DeskView). step_bye s.desk c.args.client) c.self.view_is
 
 pub returns-clause-others : goal.returns-clause-others
 returns-clause-others c =
-    let D : Standing → Type 0 = λ s. IsDesk s.desk in
+    let D : DeskView → Type 0 = λ s. IsDesk s.desk in
     let P : Desk → Type 0 = λ d. LeavesOthers c.args.client c.args.self.now.desk d in
     subst P (sym (ap (λ (done : Reply × Desk). done.1) (returns-clause-step c))) (byes_leave_others c.args.self.now.desk c.args.client (subst D c.self.view_is c.self.invariant.desk))
 
@@ -56,13 +55,13 @@ returns-clause-changed c =
     let w = i.tree in
     let client = c.args.client in
     let old = c.args.self.now.desk in
-    let D : Standing → Type 0 = λ s. IsDesk s.desk in
+    let D : DeskView → Type 0 = λ s. IsDesk s.desk in
     let fine = subst D c.self.view_is c.self.invariant.desk in
-    let left : desk_of i.setting c.drop_client.new.self c.close_windows.new.windows ≡ without_client client old =
-    gone-desk i.setting i.clients w c.drop_client.new.self i.windows c.close_windows.new.windows client c.self.invariant.standing c.drop_client.ensures.left c.close_windows.ensures.closed
-    ∙ ap (λ (s : Standing). without_client client s.desk) c.self.view_is in
+    let left : desk_of (stage_of i.shape w i.pointer) c.drop_client.new.self c.close_windows.new.windows ≡ without_client client old =
+    gone-desk (stage_of i.shape w i.pointer) i.clients w c.drop_client.new.self i.windows c.close_windows.new.windows client c.self.invariant.parts c.drop_client.ensures.left c.close_windows.ensures.closed
+    ∙ ap (λ (s : DeskView). without_client client s.desk) c.self.view_is in
     let many : c.count-count.result ≡ rows_counted client any_kind old.rows =
-    c.count-count.ensures.count ∙ count_of-nodes w.entries client any_kind ∙ ap (λ (s : Standing). rows_counted client any_kind s.desk.rows) c.self.view_is in
+    c.count-count.ensures.count ∙ count_of-nodes w.entries client any_kind ∙ ap (λ (s : DeskView). rows_counted client any_kind s.desk.rows) c.self.view_is in
     let T : Desk → Type 0 = λ d. IsTrue (nat_lt 0 c.count-count.result) ↔ ((d.rows ≡ old.rows) × (d.windows ≡ old.windows) → ⊥) in
     subst T (sym left)
     (tells_bye client old.rows old.windows (nat_lt 0 c.count-count.result) (λ h. omega (arith, many, ltb-true 0 c.count-count.result h), λ h. lt-ltb 0 c.count-count.result (omega (arith, many, h))) fine.windows)

@@ -1,44 +1,72 @@
-use Rattle.std.proofs.Common.{false, true, Some, None, ap, ◌∙◌, ◌≡◌, ℤ, pos, ◌≤◌, arith, to_z, w32}
+use Rattle.std.proofs.Common.{Bool, false, true, Some, None, sym, subst, ap, ◌∙◌, ◌≡◌, ℤ, pos, ◌≤◌, arith, to_z, w32}
 use Rattle.std.proofs.lemmas.Int.{to_z_pos}
 use Rattle.cmd_words.specs.declared.replies.Reply.TheVariants.{Refused, Number}
 use Rattle.cmd_words.specs.declared.replies.Refusal.TheVariants.{Memory}
 use Rattle.widget_model.specs.Widgets.{Widgets}
-use Rattle.desk_model.specs.Clients.{step_hello}
-use Rattle.desk_core.specs.Standing.{Standing, desk_of}
-use Rattle.desk_core.proofs.Endings.{hello-full, hello-short}
+use Rattle.std.specs.Prelude.{IfSome}
+use Rattle.cmd_words.specs.declared.replies.Reply.{Reply}
+use Rattle.desk_model.specs.Desk.{Desk}
+use Rattle.desk_model.specs.DeskFacts.{IsDesk}
+use Rattle.desk_model.specs.OwnPart.{LeavesOthers}
+use Rattle.desk_model.proofs.OwnPart.{hellos_leave_others}
+use Rattle.desk_model.specs.Clients.{free_client, step_hello}
+use Rattle.desk_core.specs.Parts.{desk_of, stage_of}
+use Rattle.desk_core.specs.View.{DeskView}
+use Rattle.desk_core.proofs.CallSteps.{hello-full, hello-short}
 use Rattle.desk_core.proofs.Calls.{free-joined, greeted-step, greeted-kept}
 use Rattle.desk_core.proofs.desk.Desk.hello.Goals as goal
+
+-- the clause on the others follows from that on the step
+others_of : (old new : Desk) (short : Bool) (reply : Reply) → IsDesk old → (reply, new) ≡ step_hello old short → IfSome (free_client old.clients) (λ client. LeavesOthers client old new)
+others_of old new short reply kept is =
+    let P : Desk → Type 0 = λ d. IfSome (free_client old.clients) (λ client. LeavesOthers client old d) in
+    subst P (sym (ap (λ (done : Reply × Desk). done.1) is)) (hellos_leave_others old short kept)
 
 pub returns-in-None-clause-step : goal.returns-in-None-clause-step
 returns-in-None-clause-step c =
     let i = c.self.inside in
-    hello-full (desk_of i.setting i.tree i.windows) false c.self.invariant.desk.held (free-joined i.setting i.clients i.tree i.windows None c.self.invariant.standing c.in-None.ensures.free)
-    ∙ ap (λ (s : Standing). step_hello s.desk false) c.self.view_is
+    hello-full (desk_of (stage_of i.shape i.tree i.pointer) i.tree i.windows) false c.self.invariant.desk.held (free-joined (stage_of i.shape i.tree i.pointer) i.clients i.tree i.windows None c.self.invariant.parts c.in-None.ensures.free)
+    ∙ ap (λ (s : DeskView). step_hello s.desk false) c.self.view_is
 
 pub returns-in-Err-clause-step : goal.returns-in-Err-clause-step
 returns-in-Err-clause-step c =
     let i = c.self.inside in
-    ap (λ (w : Widgets). (Refused Memory, desk_of i.setting w i.windows)) c.in-Err.ensures.err
-    ∙ hello-short (desk_of i.setting i.tree i.windows) c.in-Some.client c.self.invariant.desk.held (free-joined i.setting i.clients i.tree i.windows (Some c.in-Some.client) c.self.invariant.standing c.in-Some.ensures.free)
-    ∙ ap (λ (s : Standing). step_hello s.desk true) c.self.view_is
+    ap (λ (w : Widgets). (Refused Memory, desk_of (stage_of i.shape w i.pointer) w i.windows)) c.in-Err.ensures.err
+    ∙ hello-short (desk_of (stage_of i.shape i.tree i.pointer) i.tree i.windows) c.in-Some.client c.self.invariant.desk.held (free-joined (stage_of i.shape i.tree i.pointer) i.clients i.tree i.windows (Some c.in-Some.client) c.self.invariant.parts c.in-Some.ensures.free)
+    ∙ ap (λ (s : DeskView). step_hello s.desk true) c.self.view_is
 
 pub invariant_of-self-2 : goal.invariant_of-self-2
 invariant_of-self-2 c =
     let i = c.self.inside in
-    greeted-kept i.setting i.clients c.join.new.self i.tree c.join_client.new.self i.windows c.in-Some.client c.self.invariant
-    (free-joined i.setting i.clients i.tree i.windows (Some c.in-Some.client) c.self.invariant.standing c.in-Some.ensures.free)
-    c.in-Ok.ensures.ok c.join_client.ensures.valid c.join.ensures.added c.join.ensures.once
+    greeted-kept i.shape i.pointer i.clients c.join.new.self i.tree c.join_client.new.self i.windows c.in-Some.client c.self.invariant
+    (free-joined (stage_of i.shape i.tree i.pointer) i.clients i.tree i.windows (Some c.in-Some.client) c.self.invariant.parts c.in-Some.ensures.free)
+    c.in-Ok.ensures.ok c.join_client.ensures.valid c.join.ensures.added
 
 pub returns-clause-step : goal.returns-clause-step
 returns-clause-step c =
     let i = c.self.inside in
     let most : c.in-Some.client ≤ 16 = c.in-Some.ensures.high in
     let number : to_z w32 c.in-Some.client ≡ pos c.in-Some.client = to_z_pos w32 c.in-Some.client (omega (arith, most)) in
-    ap (λ (n : ℤ). (Number n, desk_of i.setting c.join_client.new.self i.windows)) number
-    ∙ greeted-step i.setting i.tree c.join_client.new.self i.windows c.in-Some.client c.self.invariant.desk.held
-    (free-joined i.setting i.clients i.tree i.windows (Some c.in-Some.client) c.self.invariant.standing c.in-Some.ensures.free)
+    ap (λ (n : ℤ). (Number n, desk_of (stage_of i.shape c.join_client.new.self i.pointer) c.join_client.new.self i.windows)) number
+    ∙ greeted-step i.shape i.pointer i.tree c.join_client.new.self i.windows c.in-Some.client c.self.invariant.desk.held
+    (free-joined (stage_of i.shape i.tree i.pointer) i.clients i.tree i.windows (Some c.in-Some.client) c.self.invariant.parts c.in-Some.ensures.free)
     c.in-Ok.ensures.ok
-    ∙ ap (λ (s : Standing). step_hello s.desk false) c.self.view_is
+    ∙ ap (λ (s : DeskView). step_hello s.desk false) c.self.view_is
 
 pub returns-clause-valid : goal.returns-clause-valid
 returns-clause-valid c = (invariant_of-self-2 c).desk
+
+pub returns-in-None-clause-others : goal.returns-in-None-clause-others
+returns-in-None-clause-others c =
+    let D : DeskView → Type 0 = λ s. IsDesk s.desk in
+    others_of _ _ false _ (subst D c.self.view_is c.self.invariant.desk) (returns-in-None-clause-step c)
+
+pub returns-in-Err-clause-others : goal.returns-in-Err-clause-others
+returns-in-Err-clause-others c =
+    let D : DeskView → Type 0 = λ s. IsDesk s.desk in
+    others_of _ _ true _ (subst D c.self.view_is c.self.invariant.desk) (returns-in-Err-clause-step c)
+
+pub returns-clause-others : goal.returns-clause-others
+returns-clause-others c =
+    let D : DeskView → Type 0 = λ s. IsDesk s.desk in
+    others_of _ _ false _ (subst D c.self.view_is c.self.invariant.desk) (returns-clause-step c)

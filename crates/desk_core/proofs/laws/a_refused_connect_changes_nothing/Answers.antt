@@ -1,0 +1,5 @@
+use Rattle.desk_model.proofs.Refused.{refused_connects_change_nothing}
+use Rattle.desk_core.proofs.laws.a_refused_connect_changes_nothing.Goals as goal
+
+pub returns : goal.returns
+returns c = refused_connects_change_nothing

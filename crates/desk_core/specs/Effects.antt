@@ -1,0 +1,38 @@
+-- Inner words of the proofs: what a command did.
+use Rattle.std.specs.Prelude.{ℕ, ◌≡◌, ◌↔◌, IsTrue, Bool, true, is_some, List, Some}
+use Rattle.cmd_words.specs.declared.replies.Reply.{Reply}
+use Rattle.widget_model.specs.Rows.{Row}
+use Rattle.widget_model.specs.Nodes.{node_at}
+use Rattle.widget_model.specs.Keys.{key_at}
+use Rattle.widget_model.specs.Widgets.{Widgets, nodes, rows_of}
+use Rattle.desk_model.specs.Desk.{Desk}
+use Rattle.desk_model.specs.LetGo.{is_in_window}
+use Rattle.desk_core.specs.Parts.{Stage, windows_at, desk_of, AreParts}
+
+-- the desk with other rows
+abbrev pub with_rows : List Row → Desk → Desk
+with_rows rows desk = record desk { rows = rows }
+
+-- On any desk with the old rows the step gives that reply, and a desk that has the new rows and is the same for the
+-- rest. The clients stay, and so does the node of each number that was live.
+pub record Did (step : Desk → Reply × Desk) (old new : Widgets) (reply : Reply) : Type 0 where
+  pub answer : (desk : Desk) → (reply, with_rows (rows_of new) desk) ≡ step (with_rows (rows_of old) desk)
+  pub clients : new.clients ≡ old.clients
+  pub kept : (id : ℕ) → is_some (node_at (nodes old.entries) id) ≡ true → node_at (nodes new.entries) id ≡ node_at (nodes old.entries) id
+
+-- whether it is told rightly that the rows changed
+abbrev pub TellsRows : Widgets → Widgets → Bool → Type 0
+TellsRows old new changed = IsTrue changed ↔ ¬ (rows_of new ≡ rows_of old)
+
+-- the same of the rows and the open windows
+abbrev pub TellsAll : Widgets → Widgets → List ℕ → List ℕ → Bool → Type 0
+TellsAll old new keys keys' changed =
+    IsTrue changed ↔ ¬ ((rows_of new ≡ rows_of old) × (windows_at (nodes new.entries) keys' ≡ windows_at (nodes old.entries) keys))
+
+-- On the desk of the old widgets and open windows the step gives that reply, and the desk of the new ones, which
+-- keep what holds of them. A number that named an open window or a widget under one names it still.
+pub record DidAll (step : Desk → Reply × Desk) (old new : Widgets) (keys keys' : List ℕ) (reply : Reply) : Type 0 where
+  pub answer : (stage : Stage) → (reply, desk_of stage new keys') ≡ step (desk_of stage old keys)
+  pub clients : new.clients ≡ old.clients
+  pub kept : AreParts new.clients new keys'
+  pub names : (stage : Stage) (id : ℕ) (key : ℕ × List ℕ) → key_at old.entries id ≡ Some key → is_in_window (desk_of stage old keys) key ≡ true → key_at new.entries id ≡ Some key
