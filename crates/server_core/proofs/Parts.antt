@@ -41,11 +41,7 @@ at_pixel f w x y within =
     ap (λ m. f m ((y * w + x) / w)) (mod-mul-add y w x within) ∙ ap (λ m. f x m) (div-mul-add y w x within)
 
 -- after it has followed, the windows are the desk's open ones
-<<<<<<< HEAD
-followed_windows : (before after : Standing) (windows new_windows : List Rect) → windows ≡ open_windows before.desk → TellsChange before after → new_windows ≡ cond after.changed (open_windows after.desk) windows → new_windows ≡ open_windows after.desk
-=======
-followed_windows : (before after : DeskView) (windows new_windows : List Window) → windows ≡ open_windows before.desk → TellsChange before after → new_windows ≡ cond after.changed (open_windows after.desk) windows → new_windows ≡ open_windows after.desk
->>>>>>> 50b19964b8f464c4aa0f64f27fe4df9956561502
+followed_windows : (before after : DeskView) (windows new_windows : List Rect) → windows ≡ open_windows before.desk → TellsChange before after → new_windows ≡ cond after.changed (open_windows after.desk) windows → new_windows ≡ open_windows after.desk
 followed_windows before after windows new_windows were tells are = by after.changed (IsTouched-told before.desk after.desk after.changed tells) are
   where
     by : (changed : Bool) → IsTouched changed before.desk after.desk → new_windows ≡ cond changed (open_windows after.desk) windows → new_windows ≡ open_windows after.desk
@@ -62,11 +58,7 @@ reach_at before after changed windows new_windows width x y were are within =
     ∙ ap (λ (ws : List Rect). shown_by_any (open_windows before) x y || shown_by_any ws x y) are)
 
 -- what follows a call on the desk is a change of the state
-<<<<<<< HEAD
-Changed-followed : (before after : Standing) (windows : List Rect) (bytes : List ℕ) (dirt : List Bool) (new_windows : List Rect) (count : ℕ) (new_dirt : List Bool) (width : ℕ) → IsState (state_of before.desk bytes dirt) → width ≡ before.desk.shape.width → windows ≡ open_windows before.desk → after.desk.shape ≡ before.desk.shape → TellsChange before after → Followed after width windows dirt new_windows count new_dirt → Changed (state_of before.desk bytes dirt) after.desk (state_of after.desk bytes new_dirt)
-=======
-Changed-followed : (before after : DeskView) (windows : List Window) (bytes : List ℕ) (dirt : List Bool) (new_windows : List Window) (count : ℕ) (new_dirt : List Bool) (width : ℕ) → IsState (state_of before.desk bytes dirt) → width ≡ before.desk.shape.width → windows ≡ open_windows before.desk → after.desk.shape ≡ before.desk.shape → TellsChange before after → Followed after width windows dirt new_windows count new_dirt → Changed (state_of before.desk bytes dirt) after.desk (state_of after.desk bytes new_dirt)
->>>>>>> 50b19964b8f464c4aa0f64f27fe4df9956561502
+Changed-followed : (before after : DeskView) (windows : List Rect) (bytes : List ℕ) (dirt : List Bool) (new_windows : List Rect) (count : ℕ) (new_dirt : List Bool) (width : ℕ) → IsState (state_of before.desk bytes dirt) → width ≡ before.desk.shape.width → windows ≡ open_windows before.desk → after.desk.shape ≡ before.desk.shape → TellsChange before after → Followed after width windows dirt new_windows count new_dirt → Changed (state_of before.desk bytes dirt) after.desk (state_of after.desk bytes new_dirt)
 Changed-followed before after windows bytes dirt new_windows count new_dirt width is wide were same tells f =
     let wide_after : after.desk.shape.width ≡ width = ap (λ (s : Shape). s.width) same ∙ sym wide in
     let high_after : after.desk.shape.height ≡ before.desk.shape.height = ap (λ (s : Shape). s.height) same in
@@ -89,11 +81,7 @@ Changed-followed before after windows bytes dirt new_windows count new_dirt widt
     }
 
 -- What a call on the desk, and following it, make of the parts: a change of the state, and parts that serve on.
-<<<<<<< HEAD
-pub change_of_parts : {shape : Shape} {windows : List Rect} {canvas : Screen} {dirt : List Bool} {dirty : ℕ} {new_windows : List Rect} {count : ℕ} {new_dirt : List Bool} (before after : Standing) → after.desk.shape ≡ before.desk.shape → IsDesk after.desk → IsServing shape before.desk windows canvas dirt dirty → TellsChange before after → Followed after shape.width windows dirt new_windows count new_dirt → Changed (state_of before.desk canvas.bytes dirt) after.desk (state_of after.desk canvas.bytes new_dirt) × IsServing shape after.desk new_windows canvas new_dirt count
-=======
-pub change_of_parts : {shape : Shape} {windows : List Window} {canvas : Screen} {dirt : List Bool} {dirty : ℕ} {new_windows : List Window} {count : ℕ} {new_dirt : List Bool} (before after : DeskView) → after.desk.shape ≡ before.desk.shape → IsDesk after.desk → IsServing shape before.desk windows canvas dirt dirty → TellsChange before after → Followed after shape.width windows dirt new_windows count new_dirt → Changed (state_of before.desk canvas.bytes dirt) after.desk (state_of after.desk canvas.bytes new_dirt) × IsServing shape after.desk new_windows canvas new_dirt count
->>>>>>> 50b19964b8f464c4aa0f64f27fe4df9956561502
+pub change_of_parts : {shape : Shape} {windows : List Rect} {canvas : Screen} {dirt : List Bool} {dirty : ℕ} {new_windows : List Rect} {count : ℕ} {new_dirt : List Bool} (before after : DeskView) → after.desk.shape ≡ before.desk.shape → IsDesk after.desk → IsServing shape before.desk windows canvas dirt dirty → TellsChange before after → Followed after shape.width windows dirt new_windows count new_dirt → Changed (state_of before.desk canvas.bytes dirt) after.desk (state_of after.desk canvas.bytes new_dirt) × IsServing shape after.desk new_windows canvas new_dirt count
 change_of_parts {shape} {windows} {canvas} {dirt} {dirty} {new_windows} {count} {new_dirt} before after same fine is tells f =
     let old = state_of before.desk canvas.bytes dirt in
     let new = state_of after.desk canvas.bytes new_dirt in
@@ -112,11 +100,7 @@ change_of_parts {shape} {windows} {canvas} {dirt} {dirty} {new_windows} {count} 
     )
 
 -- The same as a step of the machine.
-<<<<<<< HEAD
-pub step_of_parts : {shape : Shape} {windows : List Rect} {canvas : Screen} {dirt : List Bool} {dirty : ℕ} {new_windows : List Rect} {count : ℕ} {new_dirt : List Bool} (before after : Standing) (stepped : Bool → Reply × Desk) (reply : Reply) → ((short : Bool) → (stepped short).1.shape ≡ before.desk.shape) → IsDesk after.desk → IsServing shape before.desk windows canvas dirt dirty → (reply, after.desk) ≡ stepped (is_memory reply) → TellsChange before after → Followed after shape.width windows dirt new_windows count new_dirt → Answered (state_of before.desk canvas.bytes dirt) stepped reply (state_of after.desk canvas.bytes new_dirt) × IsServing shape after.desk new_windows canvas new_dirt count
-=======
-pub step_of_parts : {shape : Shape} {windows : List Window} {canvas : Screen} {dirt : List Bool} {dirty : ℕ} {new_windows : List Window} {count : ℕ} {new_dirt : List Bool} (before after : DeskView) (stepped : Bool → Reply × Desk) (reply : Reply) → ((short : Bool) → (stepped short).1.shape ≡ before.desk.shape) → IsDesk after.desk → IsServing shape before.desk windows canvas dirt dirty → (reply, after.desk) ≡ stepped (is_memory reply) → TellsChange before after → Followed after shape.width windows dirt new_windows count new_dirt → Answered (state_of before.desk canvas.bytes dirt) stepped reply (state_of after.desk canvas.bytes new_dirt) × IsServing shape after.desk new_windows canvas new_dirt count
->>>>>>> 50b19964b8f464c4aa0f64f27fe4df9956561502
+pub step_of_parts : {shape : Shape} {windows : List Rect} {canvas : Screen} {dirt : List Bool} {dirty : ℕ} {new_windows : List Rect} {count : ℕ} {new_dirt : List Bool} (before after : DeskView) (stepped : Bool → Reply × Desk) (reply : Reply) → ((short : Bool) → (stepped short).1.shape ≡ before.desk.shape) → IsDesk after.desk → IsServing shape before.desk windows canvas dirt dirty → (reply, after.desk) ≡ stepped (is_memory reply) → TellsChange before after → Followed after shape.width windows dirt new_windows count new_dirt → Answered (state_of before.desk canvas.bytes dirt) stepped reply (state_of after.desk canvas.bytes new_dirt) × IsServing shape after.desk new_windows canvas new_dirt count
 step_of_parts {shape} {windows} {canvas} {dirt} {dirty} {new_windows} {count} {new_dirt} before after stepped reply keeps fine is step tells f =
     let old = state_of before.desk canvas.bytes dirt in
     let new = state_of after.desk canvas.bytes new_dirt in
@@ -128,11 +112,7 @@ step_of_parts {shape} {windows} {canvas} {dirt} {dirty} {new_windows} {count} {n
     )
 
 -- The same of a client's command.
-<<<<<<< HEAD
-pub obeyed_of_parts : {shape : Shape} {windows : List Rect} {canvas : Screen} {dirt : List Bool} {dirty : ℕ} {new_windows : List Rect} {count : ℕ} {new_dirt : List Bool} (before after : Standing) (client : ℕ) (command : Command) (reply : Reply) → IsDesk after.desk → IsServing shape before.desk windows canvas dirt dirty → step before.desk client command (is_memory reply) ≡ Some (reply, after.desk) → TellsChange before after → Followed after shape.width windows dirt new_windows count new_dirt → Obeyed (state_of before.desk canvas.bytes dirt) client command reply (state_of after.desk canvas.bytes new_dirt) × IsServing shape after.desk new_windows canvas new_dirt count
-=======
-pub obeyed_of_parts : {shape : Shape} {windows : List Window} {canvas : Screen} {dirt : List Bool} {dirty : ℕ} {new_windows : List Window} {count : ℕ} {new_dirt : List Bool} (before after : DeskView) (client : ℕ) (command : Command) (reply : Reply) → IsDesk after.desk → IsServing shape before.desk windows canvas dirt dirty → step before.desk client command (is_memory reply) ≡ Some (reply, after.desk) → TellsChange before after → Followed after shape.width windows dirt new_windows count new_dirt → Obeyed (state_of before.desk canvas.bytes dirt) client command reply (state_of after.desk canvas.bytes new_dirt) × IsServing shape after.desk new_windows canvas new_dirt count
->>>>>>> 50b19964b8f464c4aa0f64f27fe4df9956561502
+pub obeyed_of_parts : {shape : Shape} {windows : List Rect} {canvas : Screen} {dirt : List Bool} {dirty : ℕ} {new_windows : List Rect} {count : ℕ} {new_dirt : List Bool} (before after : DeskView) (client : ℕ) (command : Command) (reply : Reply) → IsDesk after.desk → IsServing shape before.desk windows canvas dirt dirty → step before.desk client command (is_memory reply) ≡ Some (reply, after.desk) → TellsChange before after → Followed after shape.width windows dirt new_windows count new_dirt → Obeyed (state_of before.desk canvas.bytes dirt) client command reply (state_of after.desk canvas.bytes new_dirt) × IsServing shape after.desk new_windows canvas new_dirt count
 obeyed_of_parts before after client command reply fine is steps tells f =
     let same : after.desk.shape ≡ before.desk.shape = shape-step_command before.desk client command (is_memory reply) reply after.desk steps in
     let made = change_of_parts before after same fine is tells f in

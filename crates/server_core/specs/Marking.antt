@@ -31,11 +31,7 @@ pub record MarkedAll (windows : List Rect) (width : ℕ) (marks : List Bool) (co
 
 -- Where the desk was changed, the windows are its open ones now, and the map has been marked where one of them or
 -- of the earlier ones shows a pixel; else nothing has changed. `count` is how many marks are true.
-<<<<<<< HEAD
-pub record Followed (desk : Standing) (width : ℕ) (windows : List Rect) (marks : List Bool) (new_windows : List Rect) (count : ℕ) (new_marks : List Bool) : Type 0 where
-=======
-pub record Followed (desk : DeskView) (width : ℕ) (windows : List Window) (marks : List Bool) (new_windows : List Window) (count : ℕ) (new_marks : List Bool) : Type 0 where
->>>>>>> 50b19964b8f464c4aa0f64f27fe4df9956561502
+pub record Followed (desk : DeskView) (width : ℕ) (windows : List Rect) (marks : List Bool) (new_windows : List Rect) (count : ℕ) (new_marks : List Bool) : Type 0 where
   pub windows_are : new_windows ≡ (if desk.changed then open_windows desk.desk else windows)
   pub size : length new_marks ≡ length marks
   pub each : (k : ℕ) → k < length marks → mark_at new_marks k ≡ (mark_at marks k || (desk.changed && (shown_at windows width k || shown_at new_windows width k)))
