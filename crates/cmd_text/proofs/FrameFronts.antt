@@ -1,5 +1,5 @@
 -- Reading of the front of a frame line.
-use Rattle.std.proofs.Common.{◌≡◌, ℕ, Bool, true, List, [], codes, Result, Ok, Err, ◌↔◌, refl, sym, ◌∙◌, is_ok}
+use Rattle.std.proofs.Common.{◌≡◌, ℕ, Bool, true, List, [], codes, Result, Ok, Err, ◌↔◌, ◌⊎◌, inl, inr, refl, sym, ◌∙◌, is_ok}
 use Rattle.std.proofs.lemmas.Bool.{false≢true}
 use Rattle.kind_core.specs.Bytes.{is_name_byte}
 use Rattle.cmd_words.specs.Language.{Language, ◌▹◌, ◌▸◌, word}
@@ -7,7 +7,7 @@ use Rattle.cmd_words.specs.Productions.{is_space, sp, name}
 use Rattle.cmd_text.specs.FrameLine.{anything, frame_front, IsFrameLine}
 use Rattle.cmd_text.specs.Reading.{◌>>=◌, expect_at, skip_at, name_at}
 use Rattle.cmd_text.specs.ReadingLines.{frame_front_at}
-use Rattle.cmd_text.specs.CommandOf.{begins_frame}
+use Rattle.cmd_text.specs.Laws.{FrameLinesAreTold}
 use Rattle.cmd_text.proofs.Settling.{Settles, Reads}
 use Rattle.cmd_text.proofs.Parts.{lit_reads, lit_apart, sp_reads, sp_apart, name_reads, name_apart}
 
@@ -60,7 +60,10 @@ frame_told xs b e = by (frame_front_at xs) e (frame_reads.settles xs)
     by (Ok t) e s = (λ _. s.0, λ _. e)
     by (Err left) e s = (λ q. absurd (false≢true (sym e ∙ q)), λ h. absurd (s.none tt h))
 
--- the test holds exactly at frame lines
-pub frame_lines_are_told : (xs : List ℕ) → (begins_frame xs ≡ true) ↔ IsFrameLine xs
-unfolding begins_frame
-frame_lines_are_told xs = frame_told xs (is_ok (frame_front_at xs)) refl
+-- a line is a frame line or isn't one
+pub frame_lines_are_told : FrameLinesAreTold
+frame_lines_are_told xs = by (frame_front_at xs) (frame_reads.settles xs)
+  where
+    by : (r : Answer) → Settles frame_front xs r → IsFrameLine xs ⊎ (¬ IsFrameLine xs)
+    by (Ok t) s = inl s.0
+    by (Err left) s = inr (λ h. s.none tt h)

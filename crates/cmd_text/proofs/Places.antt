@@ -1,10 +1,11 @@
 -- What the reading of a line says of the grammar.
-use Rattle.std.proofs.Common.{◌≡◌, ◌↔◌, ℕ, ◌-◌, ◌≤◌, List, ◌++◌, length, take, drop, Result, Ok, Err, refl, sym, ap, subst, ◌∙◌, arith, length-append, length-drop, take-append-drop}
+use Rattle.std.proofs.Common.{◌≡◌, ◌⊎◌, inl, inr, ℕ, ◌-◌, ◌≤◌, List, ◌++◌, length, take, drop, Result, Ok, Err, refl, sym, ap, subst, ◌∙◌, arith, length-append, length-drop, take-append-drop}
 use Rattle.std.proofs.Math.Seq.{take-append_seam}
 use Rattle.cmd_words.specs.declared.commands.Command.{Command}
 use Rattle.cmd_words.specs.Grammar.{command_line, Begins, IsPlace}
 use Rattle.cmd_text.specs.ReadingLines.{line_at}
-use Rattle.cmd_text.specs.CommandOf.{with_place, command_of}
+use Rattle.cmd_text.specs.Misread.{IsMisread}
+use Rattle.cmd_text.specs.Laws.{EachLineIsTold, OnePlace}
 use Rattle.cmd_text.proofs.Settling.{Stuck, Settles, left_le}
 use Rattle.cmd_text.proofs.Lines.{line_reads}
 
@@ -39,32 +40,17 @@ place_is xs left e =
       longest = λ q l b. let k : left ≤ length (drop q xs) = s.longest (take q xs) (drop q xs) b.0 b.1 (sym (take-append-drop q xs)) b.2 in omega (arith, k, length-drop q xs, left_le command_line xs left s);
     }
 
--- the command that reading gives is the line's on the grammar
-pub command_of_a_line : (xs : List ℕ) (c : Command) → (command_of xs ≡ Ok c) ↔ command_line xs c
-unfolding command_of
-command_of_a_line xs c = by (line_at xs) refl
+-- each line stands for a command or is misread at a place
+pub each_line_is_told : EachLineIsTold
+each_line_is_told xs = by (line_at xs) refl
   where
-    by : (r : Result Command ℕ) → r ≡ line_at xs → (with_place xs r ≡ Ok c) ↔ command_line xs c
-    by (Ok d) e =
-        let make : Command → Result Command ℕ = λ z. Ok z in
-        (λ q. let same : d ≡ c = cc in subst (command_line xs) same (found_line xs d e), λ h. ap make (only_line xs d c e h))
-    by (Err left) e = (λ q. absurd (cc), λ h. absurd (no_line xs left c e h))
+    by : (r : Result Command ℕ) → r ≡ line_at xs → ((c : Command) × command_line xs c) ⊎ ((p : ℕ) × IsMisread xs p)
+    by (Ok c) e = inl (c, found_line xs c e)
+    by (Err left) e = inr (length xs - left, record { none = λ c h. no_line xs left c e h; place = place_is xs left e })
 
--- and else what it gives is the line's place
-pub place_of_a_line : (xs : List ℕ) (p : ℕ) → command_of xs ≡ Err p → IsPlace xs p
-unfolding command_of
-place_of_a_line xs p = by (line_at xs) refl
-  where
-    by : (r : Result Command ℕ) → r ≡ line_at xs → with_place xs r ≡ Err p → IsPlace xs p
-    by (Ok d) e q = absurd (cc)
-    by (Err left) e q = let same : length xs - left ≡ p = cc in subst (IsPlace xs) same (place_is xs left e)
-
--- what reading gives of a line that was read
-pub command_of-found : (xs : List ℕ) (c : Command) → Ok c ≡ line_at xs → command_of xs ≡ Ok c
-unfolding command_of
-command_of-found xs c e = ap (with_place xs) (sym e)
-
--- and of one where reading stopped
-pub command_of-stuck : (xs : List ℕ) (left : ℕ) → Err left ≡ line_at xs → command_of xs ≡ Err (length xs - left)
-unfolding command_of
-command_of-stuck xs left e = ap (with_place xs) (sym e)
+-- a line has at most one place
+pub one_place : OnePlace
+one_place xs p q a b =
+    let up : p ≤ q = b.longest p a.within a.begins in
+    let down : q ≤ p = a.longest q b.within b.begins in
+    omega arith

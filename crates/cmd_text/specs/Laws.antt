@@ -1,10 +1,10 @@
 -- The laws of the language.
-use Rattle.std.specs.Prelude.{◌≡◌, ◌↔◌, ℕ, List, Ok, Err, IsTrue}
+use Rattle.std.specs.Prelude.{◌≡◌, ◌⊎◌, ℕ, List}
 use Rattle.cmd_words.specs.declared.commands.Command.{Command}
 use Rattle.cmd_words.specs.Grammar.{command_line, IsPlace}
 use Rattle.cmd_print.specs.Printed.{printed}
 use Rattle.cmd_text.specs.FrameLine.{IsFrameLine}
-use Rattle.cmd_text.specs.CommandOf.{command_of, begins_frame}
+use Rattle.cmd_text.specs.Misread.{IsMisread}
 
 -- a line stands for at most one command
 abbrev pub OneCommand : Type 0
@@ -14,14 +14,14 @@ OneCommand = (xs : List ℕ) (c d : Command) → command_line xs c → command_l
 abbrev pub PrintedIsALine : Type 0
 PrintedIsALine = (xs : List ℕ) (c : Command) → command_line xs c → command_line (printed c) c
 
--- the command of a line is the one that it stands for on the grammar
-abbrev pub CommandOfALine : Type 0
-CommandOfALine = (xs : List ℕ) (c : Command) → (command_of xs ≡ Ok c) ↔ command_line xs c
+-- each line, of any length, stands for a command or is misread at a place
+abbrev pub EachLineIsTold : Type 0
+EachLineIsTold = (xs : List ℕ) → ((c : Command) × command_line xs c) ⊎ ((p : ℕ) × IsMisread xs p)
 
--- what it gives in place of a command is the line's place
-abbrev pub PlaceOfALine : Type 0
-PlaceOfALine = (xs : List ℕ) (p : ℕ) → command_of xs ≡ Err p → IsPlace xs p
+-- a line has at most one place
+abbrev pub OnePlace : Type 0
+OnePlace = (xs : List ℕ) (p q : ℕ) → IsPlace xs p → IsPlace xs q → p ≡ q
 
--- the test for a frame line holds exactly at frame lines
+-- each line is a frame line or isn't one
 abbrev pub FrameLinesAreTold : Type 0
-FrameLinesAreTold = (xs : List ℕ) → IsTrue (begins_frame xs) ↔ IsFrameLine xs
+FrameLinesAreTold = (xs : List ℕ) → IsFrameLine xs ⊎ (¬ IsFrameLine xs)

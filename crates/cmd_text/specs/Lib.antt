@@ -3,5 +3,5 @@ pub mod Reading
 pub mod ReadingWords
 pub mod ReadingOptions
 pub mod ReadingLines
-pub mod CommandOf
+pub mod Misread
 pub mod Laws

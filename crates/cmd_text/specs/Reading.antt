@@ -1,7 +1,6 @@
--- How the private functions read the small parts of a line, from left to right: spaces, names and numbers. Only
--- their contracts and CommandOf cite this and the files ReadingWords, ReadingOptions and ReadingLines, and none of it
--- needs to be believed: `parse` and the laws promise the grammar, and that this reading meets it is proved. What is
--- read is Ok with the bytes after it, or Err with how many bytes were left where reading stopped.
+-- Inner words of the proofs: how the private functions read the small parts of a line, from left to right: spaces,
+-- names and numbers. What is read is Ok with the bytes after it, or Err with how many bytes were left where reading
+-- stopped. That this reading meets the grammar is proved.
 use Rattle.std.specs.Prelude.{◌≡◌, ℕ, zero, suc, ℤ, pos, neg_ℤ, Bool, false, ◌==◌, if◌then◌else◌, List, [], ◌∷◌, length, take, drop, Result, Ok, Err}
 use Rattle.kind_core.specs.Bytes.{is_letter, is_name_byte, is_digit}
 use Rattle.cmd_text.specs.declared.reading.Class.{Class}

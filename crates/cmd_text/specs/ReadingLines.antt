@@ -1,4 +1,4 @@
--- How commands and whole lines are read, and the front of a frame line.
+-- Inner words of the proofs: how commands and whole lines are read, and the front of a frame line.
 use Rattle.std.specs.Prelude.{ℕ, ◌&&◌, ◌==◌, if◌then◌else◌, List, [], ◌∷◌, length, codes, Result, Ok, Err}
 use Rattle.std.specs.Str.{bytes_eq}
 use Rattle.cmd_words.specs.declared.commands.Command.{Command}

@@ -1,4 +1,4 @@
--- How texts, values and lists of options are read.
+-- Inner words of the proofs: how texts, values and lists of options are read.
 use Rattle.std.specs.Prelude.{ℕ, zero, suc, ℤ, Bool, ◌&&◌, ◌||◌, ◌==◌, if◌then◌else◌, List, [], ◌∷◌, ◌++◌, length, codes, Result, Ok, Err}
 use Rattle.kind_core.specs.Bytes.{is_printable}
 use Rattle.kind_core.specs.declared.kinds.Attr.{Attr}

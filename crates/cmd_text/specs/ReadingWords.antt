@@ -1,4 +1,4 @@
--- How the words of kinds, attributes, events, options and methods are read.
+-- Inner words of the proofs: how the words of kinds, attributes, events, options and methods are read.
 use Rattle.std.specs.Prelude.{ℕ, min, List, [], ◌∷◌, length, Result, Ok, Err}
 use Rattle.kind_core.specs.declared.kinds.Kind.{Kind}
 use Rattle.kind_core.specs.declared.kinds.Kind.TheVariants as kinds

@@ -1,5 +1,6 @@
-//! The laws of the command language.
-ghost use Rattle.cmd_text.specs.Laws.{OneCommand, PrintedIsALine, CommandOfALine, PlaceOfALine, FrameLinesAreTold};
+//! The laws of the command language, over the definitions alone. Each is a function without parameters whose
+//! contract is the law.
+ghost use Rattle.cmd_text.specs.Laws.{OneCommand, PrintedIsALine, EachLineIsTold, OnePlace, FrameLinesAreTold};
 
 /// A line stands for at most one command.
 pub fn one_command()
@@ -12,17 +13,17 @@ pub fn printed_is_a_line()
     ensures { PrintedIsALine }
 {}
 
-/// `command_of` gives a command exactly where the line stands for it on the grammar; of a line of any length.
-pub fn command_of_a_line()
-    ensures { CommandOfALine }
+/// Each line stands for a command, or stands for none and has a place; of a line of any length.
+pub fn each_line_is_told()
+    ensures { EachLineIsTold }
 {}
 
-/// What `command_of` gives in place of a command is the line's place.
-pub fn place_of_a_line()
-    ensures { PlaceOfALine }
+/// A line has at most one place.
+pub fn one_place()
+    ensures { OnePlace }
 {}
 
-/// `begins_frame` holds exactly at frame lines.
+/// Each line is a frame line or isn't one.
 pub fn frame_lines_are_told()
     ensures { FrameLinesAreTold }
 {}

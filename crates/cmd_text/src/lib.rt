@@ -2,7 +2,9 @@
 //! it is printed stand in cmd_words and cmd_print, and are named here too. Nothing here takes memory.
 #![tactic(auto)]
 
+mod command_lines;
 mod frames;
+mod fronts;
 pub mod laws;
 mod optioning;
 mod parsing;
@@ -11,5 +13,5 @@ mod reading;
 
 pub use cmd_print::{print, print_reply};
 pub use cmd_words::{Command, ConfigOption, Drew, Input, Options, PlaceOption, Refusal, Reply};
+pub use command_lines::{BadLine, parse};
 pub use frames::is_frame_line;
-pub use parsing::{BadLine, parse};

@@ -1,11 +1,8 @@
 //! Lines are read from left to right, in one pass.
-ghost use Rattle.std.specs.Prelude.{◌≡◌, ◌≤◌, ◌-◌, [], length, codes, Ok, Err, IfOk, IfErr, MatchResult};
+ghost use Rattle.std.specs.Prelude.{◌≡◌, ◌-◌, [], length, codes, Ok, Err};
 ghost use Rattle.std.specs.Str.{bytes_eq};
-ghost use Rattle.cmd_words.specs.Grammar.{command_line, IsPlace};
-ghost use Rattle.cmd_words.specs.declared.commands.Command.{Command};
 ghost use Rattle.cmd_text.specs.Reading.{Gives};
 ghost use Rattle.cmd_text.specs.ReadingLines.{open_at, comma_at, end_at, finish_at, close_at, place_rest_at, arguments_at, called_at, made_at, body_at, line_at};
-ghost use Rattle.cmd_text.specs.CommandOf.{command_of};
 ghost use Rattle.cmd_words.specs.declared.methods.Method.TheVariants as method;
 
 use crate::optioning::options;
@@ -13,7 +10,6 @@ use crate::picking::{attr, event, kind, method};
 use crate::reading::{begins, count, expect, name, number, skip, skip_some};
 use cmd_words::{Command, Method, Options};
 use kind_core::Name;
-use thiserror::Error;
 
 /// `(` with the spaces before and after it.
 #[tactic(auto, unfolding(crate::specs::ReadingLines::open_at))]
@@ -312,44 +308,11 @@ fn body(name: Name, bytes: &[u8]) -> Result<Command, usize>
 
 /// The command of a line, or how many bytes are left after its longest front that begins some line.
 #[tactic(auto, unfolding(crate::specs::ReadingLines::line_at))]
-fn read_line(bytes: &[u8]) -> Result<Command, usize>
+pub(crate) fn read_line(bytes: &[u8]) -> Result<Command, usize>
     ensures { result ≡ line_at bytes.now }
 {
     match name(skip(bytes)) {
         Ok((name, rest)) => body(name, skip(rest)),
         Err(left) => Err(left),
-    }
-}
-
-/// A line that is no command.
-#[derive(Clone, Copy, Debug, Drop, PartialEq, Eq, Error)]
-#[error("no command: stuck after {place} bytes")]
-pub struct BadLine {
-    /// How many bytes its longest front has that begins some line of the grammar.
-    pub place: u32,
-}
-
-/// The command that a line stands for (docs/GUIDE.md, "Grammar"). A line off the grammar is refused with
-/// its place: how many bytes its longest front has with which some line of the grammar begins.
-pub fn parse(line: &[u8]) -> Result<Command, BadLine>
-    requires { length line.now ≤ 512 }
-
-    // What is read is on the grammar.
-    ensures found { IfOk result (λ c. command_line line.now c) }
-
-    // What is on the grammar is read, as the command that it stands for.
-    ensures all { (c : Command) → command_line line.now c → result ≡ Ok c }
-
-    // What is off it is refused with its place.
-    ensures place { IfErr result (λ bad. IsPlace line.now bad.place) }
-
-    // The same as a value: what the line is read as.
-    ensures reads { MatchResult result (λ command. command_of line.now ≡ Ok command) (λ bad. command_of line.now ≡ Err bad.place) }
-{
-    match read_line(line) {
-        Ok(command) => Ok(command),
-        Err(left) => Err(BadLine {
-            place: (line.len() - left) as u32,
-        }),
     }
 }

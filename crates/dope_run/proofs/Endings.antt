@@ -1,5 +1,5 @@
 -- How a run ends, from what its player did.
-use Rattle.std.proofs.Common.{◌≡◌, ◌≢◌, ℕ, ◌+◌, ◌≤◌, List, [], ◌∷◌, ◌++◌, length, take, drop, Option, Some, refl, sym, ap, subst, ◌∙◌, inl, inr, arith, lit≤, append-nil, append_assoc, length-append}
+use Rattle.std.proofs.Common.{◌≡◌, ◌≢◌, ℕ, ◌+◌, ◌≤◌, List, [], ◌∷◌, ◌++◌, length, take, drop, Option, refl, sym, ap, subst, ◌∙◌, inl, inr, arith, lit≤, append-nil, append_assoc, length-append}
 use Rattle.std.specs.Io.KnownBytes.{Consumes, Keeps, IsAtEnd}
 use Rattle.std.proofs.lemmas.List.{take-append-drop}
 use Rattle.outside_io.specs.Outbox.{Output, Puts, PutsFront, flushed}
@@ -19,7 +19,7 @@ use Rattle.dope_run.specs.declared.status.Status.{Status}
 use Rattle.dope_run.specs.declared.status.Status.TheVariants.{Done, ReadFault, WriteFault, Usage, BadScript, NoMemory, TooMuch}
 use Rattle.dope_run.specs.declared.player.Player.{Player}
 use Rattle.dope_run.specs.Framing.{Item, IsLine, AreWhole, IsUnended, bytes_of, wants_of, script_limit, read_limit}
-use Rattle.dope_run.specs.Script.{EndsUnread}
+use Rattle.dope_run.specs.Script.{AskFor, EndsUnread}
 use Rattle.dope_run.specs.Text.{text_of}
 use Rattle.dope_run.specs.Transcript.{Plays, Covers, LastRead, Gains, IsLeft, Ended, AreCutShort, IsRefused}
 use Rattle.dope_run.specs.Playing.{IsPlayer, Fed, LineDone, LineUnread, IsFresh, Going, Finished, bare_item}
@@ -175,7 +175,7 @@ ended_unwritten shape start between player count bytes s0 s1 s2 k0 k1 k2 fresh v
     let played = plays_from shape WriteFault start player all (flushed k0) (flushed k2) fresh fed in
     let behind = lines_of fed.rest in
     let more = some_run (state_after (opening shape) fed.moments) behind.events (events-come behind.items behind.events behind.script) (IsState-run (opening shape) fed.moments fresh.valid played.run) in
-    let further : Plays (state_after (opening shape) fed.moments) behind.items more.0 = record { whole = behind.whole; script = behind.script ∙ ap Some (sym more.1); run = more.2 } in
+    let further : Plays (state_after (opening shape) fed.moments) behind.items more.0 = record { whole = behind.whole; script = subst (AskFor behind.items) (sym more.1) behind.script; run = more.2 } in
     let parts = ap (λ ms. ms ++ more.0) first ∙ append_assoc going.fed.moments cut.moments more.0 in
     let broken : PutsFront (flushed k1) (flushed k2) (text_of (cut.moments ++ more.0)) =
     subst (PutsFront (flushed k1) (flushed k2)) (sym (text_of-append cut.moments more.0)) (PutsFront-longer (flushed k1) (flushed k2) (text_of cut.moments) (text_of more.0) cut.says) in

@@ -13,33 +13,32 @@ use Rattle.machine_model.specs.State.{State}
 use Rattle.machine_model.specs.Run.{state_after}
 use Rattle.script_lines.specs.declared.order.Order.{Order}
 use Rattle.script_lines.specs.declared.order.Order.TheVariants.{Nothing}
-use Rattle.script_lines.specs.Lines.{line_order}
+use Rattle.script_lines.specs.Lines.{asks, IsOff}
 use Rattle.dope_run.specs.declared.cut.Cut.{Cut}
 use Rattle.dope_run.specs.declared.cut.Cut.TheVariants.{Unread, Unwritten}
 use Rattle.dope_run.specs.declared.status.Status.{Status}
 use Rattle.dope_run.specs.declared.status.Status.TheVariants.{Done, WriteFault, BadScript}
 use Rattle.dope_run.specs.declared.player.Player.{Player}
 use Rattle.dope_run.specs.Framing.{Item, IsItem, IsLine, wants_of, bytes_of, bytes_of_item, has_feed, line_limit}
-use Rattle.dope_run.specs.Script.{events_of_order, BeginsOff, BeginsUnread, BeginsTooLong}
+use Rattle.dope_run.specs.Script.{events_of_order, AskFor, BeginsOff, BeginsUnread, BeginsTooLong}
 use Rattle.dope_run.specs.Transcript.{Plays}
 use Rattle.dope_run.specs.Obeying.{Obeyed, Says, Leaves}
 use Rattle.dope_run.specs.Playing.{FirstFeed, LineDone, LineUnread, LineCut, Fed, EndsSo, bare_item}
 use Rattle.dope_run.specs.Cutting.{status_of}
 use Rattle.dope_run.proofs.Gaining.{text_of-append, Says-none, Says-after, Leaves-after}
-use Rattle.dope_run.proofs.Reading.{read_script-nil, read_script-cons, Plays-append}
+use Rattle.dope_run.proofs.Reading.{AskFor-nil, AskFor-cons, Plays-append}
 
 pub IsItem-bare : (line : List ℕ) → IsLine line → IsItem (bare_item line)
 unfolding wants_of
 IsItem-bare line is = record { line = is; payload = refl }
 
 -- a line that was read, and carried out
-pub line_done : (status : Status) (line : List ℕ) (old new : Player) (before after : Output) (order : Order) → IsLine line → line_order line ≡ Some order → Obeyed status (events_of_order order) old.server.state new.server.state before after → new.lines ≡ old.lines + 1 → new.line.items ≡ [] → LineDone status line old new before after
+pub line_done : (status : Status) (line : List ℕ) (old new : Player) (before after : Output) (order : Order) → IsLine line → asks line order → Obeyed status (events_of_order order) old.server.state new.server.state before after → new.lines ≡ old.lines + 1 → new.line.items ≡ [] → LineDone status line old new before after
 line_done status line old new before after order is read obeyed counts cleared = record {
   moments = obeyed.moments;
   plays = record {
     whole = All-cons IsItem (bare_item line) [] (IsItem-bare line is) (All-nil IsItem);
-    script = read_script-cons (bare_item line) [] order [] read read_script-nil
-        ∙ ap Some (append-nil (events_of_order order) ∙ sym obeyed.answers);
+    script = subst (AskFor (bare_item line ∷ [])) (append-nil (events_of_order order) ∙ sym obeyed.answers) (AskFor-cons (bare_item line) [] order [] read AskFor-nil);
     run = obeyed.run;
   };
   says = obeyed.says;
@@ -52,7 +51,7 @@ line_done status line old new before after order is read obeyed counts cleared =
 obeyed_nothing : (from to : State) (out : Output) → to ≡ from → Obeyed Done [] from to out out
 obeyed_nothing from to out same = record { moments = []; answers = refl; run = tt; says = Says-none out; leaves = same }
 
-pub line_silent : (line : List ℕ) (old new : Player) (out : Output) → IsLine line → line_order line ≡ Some Nothing → new.server.state ≡ old.server.state → new.lines ≡ old.lines + 1 → new.line.items ≡ [] → LineDone Done line old new out out
+pub line_silent : (line : List ℕ) (old new : Player) (out : Output) → IsLine line → asks line Nothing → new.server.state ≡ old.server.state → new.lines ≡ old.lines + 1 → new.line.items ≡ [] → LineDone Done line old new out out
 line_silent line old new out is read same counts cleared = line_done Done line old new out out Nothing is read (obeyed_nothing old.server.state new.server.state out same) counts cleared
 
 -- how a line went does not depend on the bytes that a player keeps
@@ -70,7 +69,7 @@ line_moved status line own a b c before after same_line same_state same_lines mo
 
 pub cut_moved : (cut : Cut) (line own : List ℕ) (a b c : Player) (before after : Output) → line ≡ own → b.server.state ≡ a.server.state → b.lines ≡ a.lines → LineCut cut line b c before after → LineCut cut own a c before after
 cut_moved (Unread place) line own a b c before after same_line same_state same_lines off = record {
-  unread = ap line_order (sym same_line) ∙ off.unread;
+  unread = subst IsOff same_line off.unread;
   same_state = off.same_state ∙ same_state;
   same_output = off.same_output;
   counts = off.counts ∙ same_lines;
@@ -95,7 +94,7 @@ bytes_of-bare line = append-nil (line ++ 10 ∷ [])
 
 -- no line at all
 pub Plays-nil : (from : State) → Plays from [] []
-Plays-nil from = record { whole = All-nil IsItem; script = read_script-nil; run = tt }
+Plays-nil from = record { whole = All-nil IsItem; script = AskFor-nil; run = tt }
 
 -- a line's end, where the line was carried out, or its writing broke off
 line_spelled : (kept bytes line : List ℕ) → kept ++ bytes ≡ line ++ 10 ∷ [] → kept ++ bytes ≡ bytes_of (bare_item line ∷ []) ++ []

@@ -1,5 +1,5 @@
 -- Any bytes are whole lines up to the first that is off the grammar, and what is behind them.
-use Rattle.std.proofs.Common.{◌≡◌, ◌⊎◌, ◌==◌, ℕ, zero, suc, ◌+◌, ◌≤◌, Bool, true, false, ◌||◌, List, [], ◌∷◌, ◌++◌, length, take, Option, Some, None, refl, sym, ap, ◌∙◌, inl, inr, arith, leb, append_assoc, length-append}
+use Rattle.std.proofs.Common.{◌≡◌, ◌⊎◌, ◌==◌, ℕ, zero, suc, ◌+◌, ◌≤◌, Bool, true, false, ◌||◌, List, [], ◌∷◌, ◌++◌, length, take, refl, sym, ap, ◌∙◌, inl, inr, arith, leb, append_assoc, length-append}
 use Rattle.std.specs.List.{All}
 use Rattle.std.proofs.lemmas.Bool.Decides.{nat_tests}
 use Rattle.std.proofs.lemmas.List.{take-append-le, take-append-drop}
@@ -7,11 +7,12 @@ use Rattle.std.proofs.lemmas.List.Elements.{All-nil, All-cons}
 use Rattle.std.proofs.lemmas.List.Folds.{list_any-append}
 use Rattle.machine_model.specs.Events.{Event}
 use Rattle.script_lines.specs.declared.order.Order.{Order}
-use Rattle.script_lines.specs.Lines.{line_order}
+use Rattle.script_lines.specs.Lines.{asks, IsOff}
+use Rattle.script_lines.proofs.Telling.{each_line_is_told}
 use Rattle.dope_run.specs.Framing.{Item, IsItem, IsLine, IsPartial, bytes_of, has_feed, line_limit}
-use Rattle.dope_run.specs.Script.{read_script, events_of_order, BeginsOff}
+use Rattle.dope_run.specs.Script.{AskFor, events_of_order, BeginsOff}
 use Rattle.dope_run.specs.Playing.{bare_item}
-use Rattle.dope_run.proofs.Reading.{read_script-nil, read_script-cons}
+use Rattle.dope_run.proofs.Reading.{AskFor-nil, AskFor-cons}
 use Rattle.dope_run.proofs.Feedings.{IsItem-bare, bytes_of-nil, bytes_of-cons}
 
 pub record LinesOf (bytes : List ℕ) : Type 0 where
@@ -19,7 +20,7 @@ pub record LinesOf (bytes : List ℕ) : Type 0 where
   pub events : List Event
   pub rest : List ℕ
   pub whole : All IsItem items
-  pub script : read_script items ≡ Some events
+  pub script : AskFor items events
   pub spelled : bytes ≡ bytes_of items ++ rest
   pub ends : IsPartial rest ⊎ BeginsOff rest
 
@@ -54,7 +55,7 @@ none_of bytes ends = record {
   events = [];
   rest = bytes;
   whole = All-nil IsItem;
-  script = read_script-nil;
+  script = AskFor-nil;
   spelled = sym (ap (λ xs. xs ++ bytes) bytes_of-nil);
   ends = ends;
 }
@@ -68,13 +69,13 @@ unended bytes true is clear = none_of bytes (inl (inl (record { no_feed = clear;
 unended bytes false is clear = too_long bytes (let long : line_limit + 1 ≤ length bytes = grind (arith, nat_tests) in long) (has_feed-take (line_limit + 1) bytes clear)
 
 -- a line that is read, and what was found behind it
-line_and : (bytes line more : List ℕ) (order : Order) → IsLine line → bytes ≡ line ++ 10 ∷ more → line_order line ≡ Some order → LinesOf more → LinesOf bytes
+line_and : (bytes line more : List ℕ) (order : Order) → IsLine line → bytes ≡ line ++ 10 ∷ more → asks line order → LinesOf more → LinesOf bytes
 line_and bytes line more order is spelled read behind = record {
   items = bare_item line ∷ behind.items;
   events = events_of_order order ++ behind.events;
   rest = behind.rest;
   whole = All-cons IsItem (bare_item line) behind.items (IsItem-bare line is) behind.whole;
-  script = read_script-cons (bare_item line) behind.items order behind.events read behind.script;
+  script = AskFor-cons (bare_item line) behind.items order behind.events read behind.script;
   spelled = spelled ∙ ap (λ xs. line ++ 10 ∷ xs) behind.spelled ∙ sym (append_assoc line (10 ∷ bytes_of behind.items) behind.rest) ∙ ap (λ xs. xs ++ behind.rest) (sym (bytes_of-cons line behind.items));
   ends = behind.ends;
 }
@@ -83,15 +84,15 @@ line_and bytes line more order is spelled read behind = record {
 abbrev Fewer : ℕ → Type 0
 Fewer steps = (bytes : List ℕ) → length bytes ≤ steps → LinesOf bytes
 
-lines_by_order : (steps : ℕ) → Fewer steps → (bytes line more : List ℕ) (read : Option Order) → line_order line ≡ read → IsLine line → bytes ≡ line ++ 10 ∷ more → length more ≤ steps → LinesOf bytes
-lines_by_order steps behind bytes line more None is is_line spelled fewer =
-    none_of bytes (inr (inl (record { line = line; later = more; is_line = is_line; spelled = spelled; unread = is })))
-lines_by_order steps behind bytes line more (Some read) is is_line spelled fewer =
-    line_and bytes line more read is_line spelled is (behind more fewer)
+lines_by_order : (steps : ℕ) → Fewer steps → (bytes line more : List ℕ) → ((order : Order) × asks line order) ⊎ IsOff line → IsLine line → bytes ≡ line ++ 10 ∷ more → length more ≤ steps → LinesOf bytes
+lines_by_order steps behind bytes line more (inr off) is_line spelled fewer =
+    none_of bytes (inr (inl (record { line = line; later = more; is_line = is_line; spelled = spelled; unread = off })))
+lines_by_order steps behind bytes line more (inl on) is_line spelled fewer =
+    line_and bytes line more on.0 is_line spelled on.1 (behind more fewer)
 
 lines_by_size : (steps : ℕ) → Fewer steps → (bytes line more : List ℕ) (short : Bool) → leb (length line) line_limit ≡ short → bytes ≡ line ++ 10 ∷ more → has_feed line ≡ false → length more ≤ steps → LinesOf bytes
 lines_by_size steps behind bytes line more true is spelled clear fewer =
-    lines_by_order steps behind bytes line more (line_order line) refl (record { no_feed = clear; short = (let short : length line ≤ line_limit = grind (arith, nat_tests) in short) }) spelled fewer
+    lines_by_order steps behind bytes line more (each_line_is_told line) (record { no_feed = clear; short = (let short : length line ≤ line_limit = grind (arith, nat_tests) in short) }) spelled fewer
 lines_by_size steps behind bytes line more false is spelled clear fewer =
     let long : line_limit + 1 ≤ length line = grind (arith, nat_tests) in
     too_long bytes (omega (arith, ap length spelled, length-append line (10 ∷ more)))

@@ -9,3 +9,4 @@ pub mod Endings
 pub mod Readings
 pub mod Refusals
 pub mod Coming
+pub mod PlayWords

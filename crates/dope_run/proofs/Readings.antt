@@ -1,5 +1,5 @@
 -- The bytes of a script are read in one way.
-use Rattle.std.proofs.Common.{◌≡◌, ◌⊎◌, ◌==◌, ℕ, suc, ◌+◌, ◌-◌, ◌≤◌, Bool, true, false, ◌||◌, List, [], ◌∷◌, ◌++◌, length, take, Option, Some, None, refl, sym, ap, ◌∙◌, inl, inr, arith, append_assoc, length-append}
+use Rattle.std.proofs.Common.{subst, ◌≡◌, ◌⊎◌, ◌==◌, ℕ, suc, ◌+◌, ◌-◌, ◌≤◌, Bool, true, false, ◌||◌, List, [], ◌∷◌, ◌++◌, length, take, refl, sym, ap, ◌∙◌, inl, inr, arith, append_assoc, length-append}
 use Rattle.std.specs.List.{All}
 use Rattle.std.proofs.lemmas.Bool.Decides.{nat_tests}
 use Rattle.std.proofs.Math.Seq.{take-append-add}
@@ -7,10 +7,10 @@ use Rattle.std.proofs.lemmas.List.Elements.{All-head, All-tail}
 use Rattle.std.proofs.lemmas.List.Folds.{list_any-append}
 use Rattle.machine_model.specs.Events.{Event}
 use Rattle.script_lines.specs.declared.order.Order.{Order}
-use Rattle.script_lines.specs.Lines.{line_order}
+use Rattle.script_lines.specs.Lines.{asks, IsOff}
 use Rattle.dope_run.specs.Framing.{Item, IsItem, IsPartial, bytes_of, has_feed, line_limit, wants_of}
-use Rattle.dope_run.specs.Script.{read_script, BeginsOff}
-use Rattle.dope_run.proofs.Reading.{read_script-parts}
+use Rattle.dope_run.specs.Script.{AskFor, BeginsOff}
+use Rattle.dope_run.proofs.Reading.{AskFor-parts}
 
 -- a byte that is a line feed, and one that isn't
 feed_first : (x : ℕ) (xs : List ℕ) → x ≡ 10 → has_feed (x ∷ xs) ≡ false → ⊥
@@ -62,11 +62,8 @@ same_front (a ∷ as_) (b ∷ bs) x y same e =
 pub both : (b : Bool) → b ≡ true → b ≡ false → ⊥
 both b holds fails = cc
 
-none_some : {A : Type 0} (o : Option A) (x : A) → o ≡ None → o ≡ Some x → ⊥
-none_some o x none some = cc
-
 -- what stands behind whole lines doesn't begin with an item that is read
-no_item : (item : Item) (more rest : List ℕ) (read : Order) → IsItem item → line_order item.line ≡ Some read → IsPartial rest ⊎ BeginsOff rest → rest ≡ item.line ++ 10 ∷ (item.payload ++ more) → ⊥
+no_item : (item : Item) (more rest : List ℕ) (read : Order) → IsItem item → asks item.line read → IsPartial rest ⊎ BeginsOff rest → rest ≡ item.line ++ 10 ∷ (item.payload ++ more) → ⊥
 no_item item more rest read is reads (inl (inl line)) spelled =
     both (has_feed rest) (ap has_feed spelled ∙ has_feed-line item.line (item.payload ++ more)) line.no_feed
 no_item item more rest read is reads (inl (inr short)) spelled =
@@ -75,7 +72,7 @@ no_item item more rest read is reads (inl (inr short)) spelled =
     omega (arith, short.missing, wants, is.payload, ap length same.1, length-append item.payload more)
 no_item item more rest read is reads (inr (inl unread)) spelled =
     let same = one_first_feed unread.line item.line unread.later (item.payload ++ more) unread.is_line.no_feed is.line.no_feed (sym unread.spelled ∙ spelled) in
-    none_some (line_order item.line) read (ap line_order (sym same.0) ∙ unread.unread) reads
+    subst IsOff same.0 unread.unread read reads
 no_item item more rest read is reads (inr (inr long)) spelled =
     both (has_feed (take (line_limit + 1) rest)) (ap (λ xs. has_feed (take (line_limit + 1) xs)) spelled ∙ feed_within line_limit item.line (item.payload ++ more) is.line.short) long.no_feed
 
@@ -88,17 +85,17 @@ no_bytes : (rest : List ℕ) → bytes_of [] ++ rest ≡ rest
 unfolding bytes_of
 no_bytes rest = refl
 
-pub one_reading : (a b : List Item) (r q : List ℕ) (ea eb : List Event) → All IsItem a → All IsItem b → read_script a ≡ Some ea → read_script b ≡ Some eb → IsPartial r ⊎ BeginsOff r → IsPartial q ⊎ BeginsOff q → bytes_of a ++ r ≡ bytes_of b ++ q → (a ≡ b) × (r ≡ q)
+pub one_reading : (a b : List Item) (r q : List ℕ) (ea eb : List Event) → All IsItem a → All IsItem b → AskFor a ea → AskFor b eb → IsPartial r ⊎ BeginsOff r → IsPartial q ⊎ BeginsOff q → bytes_of a ++ r ≡ bytes_of b ++ q → (a ≡ b) × (r ≡ q)
 one_reading [] [] r q ea eb wa wb sa sb na nb e = (refl, sym (no_bytes r) ∙ e ∙ no_bytes q)
 one_reading [] (j ∷ b) r q ea eb wa wb sa sb na nb e =
-    let parts = read_script-parts j b eb sb in
+    let parts = AskFor-parts j b eb sb in
     absurd (no_item j (bytes_of b ++ q) r parts.0 (All-head IsItem j b wb) parts.2 na (sym (no_bytes r) ∙ e ∙ bytes_of-item j b q))
 one_reading (i ∷ a) [] r q ea eb wa wb sa sb na nb e =
-    let parts = read_script-parts i a ea sa in
+    let parts = AskFor-parts i a ea sa in
     absurd (no_item i (bytes_of a ++ r) q parts.0 (All-head IsItem i a wa) parts.2 nb (sym (no_bytes q) ∙ sym e ∙ bytes_of-item i a r))
 one_reading (i ∷ a) (j ∷ b) r q ea eb wa wb sa sb na nb e =
-    let left = read_script-parts i a ea sa in
-    let right = read_script-parts j b eb sb in
+    let left = AskFor-parts i a ea sa in
+    let right = AskFor-parts j b eb sb in
     let is = All-head IsItem i a wa in
     let isn = All-head IsItem j b wb in
     let lines = one_first_feed i.line j.line (i.payload ++ (bytes_of a ++ r)) (j.payload ++ (bytes_of b ++ q)) is.line.no_feed isn.line.no_feed (sym (bytes_of-item i a r) ∙ e ∙ bytes_of-item j b q) in

@@ -6,14 +6,14 @@ use Rattle.machine_model.specs.State.{State}
 use Rattle.machine_model.specs.Events.{Event}
 use Rattle.machine_model.specs.Run.{events_of}
 use Rattle.dope_run.specs.declared.status.Status.TheVariants.{BadScript, TooMuch}
-use Rattle.script_lines.specs.Lines.{line_order}
+use Rattle.script_lines.specs.Lines.{asks, IsOff}
 use Rattle.dope_run.specs.Framing.{Item, IsItem, IsLine, IsPartial, IsUnended, IsShortOfPayload, bytes_of, has_feed, line_limit, script_limit, read_limit, wants_of}
-use Rattle.dope_run.specs.Script.{read_script, BeginsOff, EndsOff}
+use Rattle.dope_run.specs.Script.{AskFor, BeginsOff, EndsOff}
 use Rattle.dope_run.specs.Transcript.{Ended}
 use Rattle.dope_run.specs.ScriptLaws.{IsReading, IsScript, BytesHaveAReading, ReadingsAreOne, PartsAreNotOff, ScriptsAreNotRefused, LittleIsReadAhead}
 use Rattle.script_lines.specs.declared.order.Order.{Order}
 use Rattle.dope_run.specs.Playing.{bare_item}
-use Rattle.dope_run.proofs.Reading.{read_script-cons, read_script-parts, read_script-nil}
+use Rattle.dope_run.proofs.Reading.{AskFor-cons, AskFor-parts, AskFor-nil}
 use Rattle.dope_run.proofs.Feedings.{IsLine-nil, off_more}
 use Rattle.std.proofs.lemmas.List.Elements.{All-nil, All-cons, All-head, All-tail}
 use Rattle.dope_run.proofs.Framings.{lines_of}
@@ -63,28 +63,25 @@ all_parts (item ∷ front) behind all =
 -- the lines before the last, and the last
 record BeforeLast (front : List Item) (item : Item) : Type 0 where
   events : List Event
-  script : read_script front ≡ Some events
+  script : AskFor front events
   order : Order
-  last : line_order item.line ≡ Some order
+  last : asks item.line order
 
-before_last : (front : List Item) (item : Item) (events : List Event) → read_script (front ++ item ∷ []) ≡ Some events → BeforeLast front item
+before_last : (front : List Item) (item : Item) (events : List Event) → AskFor (front ++ item ∷ []) events → BeforeLast front item
 before_last [] item events script =
-    let parts = read_script-parts item [] events script in
-    record { events = []; script = read_script-nil; order = parts.0; last = parts.2 }
+    let parts = AskFor-parts item [] events script in
+    record { events = []; script = AskFor-nil; order = parts.0; last = parts.2 }
 before_last (first ∷ front) item events script =
-    let parts = read_script-parts first (front ++ item ∷ []) events script in
+    let parts = AskFor-parts first (front ++ item ∷ []) events script in
     let rest = before_last front item parts.1 parts.3 in
-    record { events = _; script = read_script-cons first front parts.0 rest.events parts.2 rest.script; order = rest.order; last = rest.last }
+    record { events = _; script = AskFor-cons first front parts.0 rest.events parts.2 rest.script; order = rest.order; last = rest.last }
 
 record WholeReading (bytes : List ℕ) : Type 0 where
   items : List Item
   rest : List ℕ
   reading : IsReading bytes items rest
   partial : IsPartial rest
-  last : rest ≢ [] → line_order rest ≡ None → ⊥
-
-some_read : {A : Type 0} (o : Option A) (x : A) → o ≡ Some x → o ≡ None → ⊥
-some_read o x some none = cc
+  last : rest ≢ [] → ¬ IsOff rest
 
 whole_reading : (bytes : List ℕ) → (script : IsScript bytes) → WholeReading bytes
 whole_reading bytes script = whole_reading_by bytes script script.whole
@@ -100,20 +97,20 @@ whole_reading bytes script = whole_reading_by bytes script script.whole
     whole_reading_by bytes script (inr unended) =
         let item = bare_item unended.last in
         let lines : All IsItem (unended.front ++ item ∷ []) = subst (All IsItem) unended.listed script.lines in
-        let before = before_last unended.front item script.events (subst (λ items. read_script items ≡ Some script.events) unended.listed script.script) in
+        let before = before_last unended.front item script.events (subst (λ items. AskFor items script.events) unended.listed script.script) in
         let is_line : IsLine unended.last = (All-head IsItem item [] (all_parts unended.front (item ∷ []) lines).1).line in
         record {
           items = unended.front;
           rest = unended.last;
           reading = record { events = before.events; whole = (all_parts unended.front (item ∷ []) lines).0; script = before.script; spelled = unended.spelled; ends = inl (inl is_line) };
           partial = inl is_line;
-          last = λ some none. some_read (line_order unended.last) before.order before.last none;
+          last = λ some off. off before.order before.last;
         }
 
 -- ---- what a refusal would say
 
 -- a line off the grammar, with more behind it
-no_off : (bytes taken left : List ℕ) (items : List Item) (events : List Event) (rest : List ℕ) → IsScript bytes → bytes ≡ taken ++ left → All IsItem items → read_script items ≡ Some events → taken ≡ bytes_of items ++ rest → BeginsOff rest → ⊥
+no_off : (bytes taken left : List ℕ) (items : List Item) (events : List Event) (rest : List ℕ) → IsScript bytes → bytes ≡ taken ++ left → All IsItem items → AskFor items events → taken ≡ bytes_of items ++ rest → BeginsOff rest → ⊥
 no_off bytes taken left items events rest script all whole read spelled off =
     let found = whole_reading bytes script in
     let more = off_more rest left off in
@@ -128,7 +125,7 @@ no_off bytes taken left items events rest script all whole read spelled off =
     parts_are_not_off (rest ++ left) (subst IsPartial (sym same.1) found.partial) more
 
 -- a last line off the grammar
-no_off_at_end : (bytes : List ℕ) (items : List Item) (events : List Event) (rest : List ℕ) → IsScript bytes → All IsItem items → read_script items ≡ Some events → bytes ≡ bytes_of items ++ rest → EndsOff rest → ⊥
+no_off_at_end : (bytes : List ℕ) (items : List Item) (events : List Event) (rest : List ℕ) → IsScript bytes → All IsItem items → AskFor items events → bytes ≡ bytes_of items ++ rest → EndsOff rest → ⊥
 no_off_at_end bytes items events rest script whole read spelled (inr short) = no_short rest short
 no_off_at_end bytes items events rest script whole read spelled (inl unread) =
     let found = whole_reading bytes script in
@@ -140,7 +137,7 @@ no_off_at_end bytes items events rest script whole read spelled (inl unread) =
       ends = inl (inl unread.is_line);
     } in
     let same = readings_are_one bytes items found.items rest found.rest other found.reading in
-    found.last (subst (λ xs. xs ≢ []) same.1 unread.some) (subst (λ xs. line_order xs ≡ None) same.1 unread.unread)
+    found.last (subst (λ xs. xs ≢ []) same.1 unread.some) (subst IsOff same.1 unread.unread)
 
 not_bad : (shape : Shape) (bytes : List ℕ) (line : ℕ) (left sink_old sink_new : Option (List ℕ)) (state : State) → IsScript bytes → Ended shape (BadScript line) (Some bytes) left sink_old sink_new state → ⊥
 not_bad shape bytes line None sink_old sink_new state script run = run.consumes

@@ -1,6 +1,6 @@
 -- Inner words of the proofs: how a player of a script goes through bytes: which whole lines they make, which run they ask for, what was
 -- put out of it, and how far the player has come.
-use Rattle.std.specs.Prelude.{◌≡◌, ◌≢◌, ◌⊎◌, ℕ, ◌+◌, ◌<◌, false, List, [], ◌∷◌, ◌++◌, length, take, slice_index, Option, None}
+use Rattle.std.specs.Prelude.{◌≡◌, ◌≢◌, ◌⊎◌, ℕ, ◌+◌, ◌<◌, false, List, [], ◌∷◌, ◌++◌, length, take, slice_index, Option}
 use Rattle.std.specs.Io.KnownBytes.{Consumes}
 use Rattle.outside_io.specs.Outbox.{Output, flushed}
 use Rattle.kind_core.specs.declared.shapes.Shape.{Shape}
@@ -11,7 +11,7 @@ use Rattle.dope_run.specs.declared.status.Status.TheVariants.{Done, WriteFault, 
 use Rattle.dope_run.specs.declared.cut.Cut.{Cut}
 use Rattle.dope_run.specs.declared.cut.Cut.TheVariants.{Unread, Unwritten}
 use Rattle.dope_run.specs.declared.player.Player.{Player}
-use Rattle.script_lines.specs.Lines.{line_order}
+use Rattle.script_lines.specs.Lines.{IsOff}
 use Rattle.dope_run.specs.Framing.{Item, IsLine, bytes_of, has_feed}
 use Rattle.dope_run.specs.Script.{BeginsOff}
 use Rattle.dope_run.specs.Text.{text_of}
@@ -44,7 +44,7 @@ pub record LineDone (status : Status) (line : List ℕ) (old new : Player) (befo
 
 -- The line, which has this place in the script, from 1, is off the grammar; nothing happened.
 pub record LineUnread (place : ℕ) (line : List ℕ) (old new : Player) (before after : Output) : Type 0 where
-  pub unread : line_order line ≡ None
+  pub unread : IsOff line
   pub same_state : new.server.state ≡ old.server.state
   pub same_output : after ≡ before
   pub counts : new.lines ≡ old.lines

@@ -1,10 +1,9 @@
--- What a script's lines ask the machine for, one after another, up to the first line off the grammar.
-use Rattle.std.specs.Prelude.{◌≡◌, ◌≢◌, ◌⊎◌, ℕ, ◌+◌, ◌≤◌, false, List, [], ◌∷◌, ◌++◌, length, take, replicate, Option, Some, None}
+-- What a script's lines ask the machine for, one after another, and which line is off the grammar.
+use Rattle.std.specs.Prelude.{◌≡◌, ◌≢◌, ◌⊎◌, ℕ, ◌+◌, ◌≤◌, false, List, [], ◌∷◌, ◌++◌, length, take, replicate}
 use Rattle.machine_model.specs.Events.{Event}
 use Rattle.script_lines.specs.declared.order.Order.{Order}
 use Rattle.script_lines.specs.declared.order.Order.TheVariants.{Nothing, Connect, Bye, Ask, Misread, Ticks, Dirty, Pixel, Dump}
-use Rattle.script_lines.specs.Lines.{line_order}
-use Rattle.script_lines.specs.Steps.{◌>>=◌}
+use Rattle.script_lines.specs.Lines.{asks, IsOff}
 use Rattle.dope_run.specs.Framing.{Item, IsLine, IsShortOfPayload, line_limit, has_feed}
 
 -- the events of what a line asks for
@@ -19,13 +18,11 @@ events_of_order Dirty = Event.CountDirty ∷ []
 events_of_order (Pixel x y) = Event.LookAt x y ∷ []
 events_of_order Dump = Event.Dump ∷ []
 
--- the events of a script's lines; none where a line is off the grammar
-unfoldable pub read_script : List Item → Option (List Event)
-read_script [] = Some []
-read_script (item ∷ items) = do
-  order ← line_order item.line
-  events ← read_script items
-  Some (events_of_order order ++ events)
+-- A script's lines ask for these events, one line after another; so none of them is off the grammar.
+unfoldable pub AskFor : List Item → List Event → Type 0
+AskFor [] events = events ≡ []
+AskFor (item ∷ items) events =
+    (order : Order) × (later : List Event) × asks item.line order × AskFor items later × (events ≡ events_of_order order ++ later)
 
 -- The bytes begin with a whole line that is off the grammar.
 pub record BeginsUnread (bytes : List ℕ) : Type 0 where
@@ -33,7 +30,7 @@ pub record BeginsUnread (bytes : List ℕ) : Type 0 where
   pub later : List ℕ
   pub is_line : IsLine line
   pub spelled : bytes ≡ line ++ 10 ∷ later
-  pub unread : line_order line ≡ None
+  pub unread : IsOff line
 
 -- The bytes begin with a line that has more bytes than a line may have.
 pub record BeginsTooLong (bytes : List ℕ) : Type 0 where
@@ -48,7 +45,7 @@ BeginsOff bytes = BeginsUnread bytes ⊎ BeginsTooLong bytes
 pub record EndsUnread (bytes : List ℕ) : Type 0 where
   pub is_line : IsLine bytes
   pub some : bytes ≢ []
-  pub unread : line_order bytes ≡ None
+  pub unread : IsOff bytes
 
 abbrev pub EndsOff : List ℕ → Type 0
 EndsOff bytes = EndsUnread bytes ⊎ IsShortOfPayload bytes

@@ -8,14 +8,14 @@ use Rattle.machine_model.specs.Events.{Event}
 use Rattle.machine_model.specs.Run.{Moment}
 use Rattle.dope_run.specs.declared.status.Status.TheVariants.{BadScript, TooMuch}
 use Rattle.dope_run.specs.Framing.{Item, IsItem, IsPartial, AreWhole, bytes_of, line_limit, script_limit, read_limit}
-use Rattle.dope_run.specs.Script.{read_script, BeginsOff}
+use Rattle.dope_run.specs.Script.{AskFor, BeginsOff}
 use Rattle.dope_run.specs.Transcript.{LastRead, Ended}
 
 -- The bytes are these lines, each read, and then a part that is no whole line or is off the grammar.
 pub record IsReading (bytes : List ℕ) (items : List Item) (rest : List ℕ) : Type 0 where
   pub events : List Event
   pub whole : All IsItem items
-  pub script : read_script items ≡ Some events
+  pub script : AskFor items events
   pub spelled : bytes ≡ bytes_of items ++ rest
   pub ends : IsPartial rest ⊎ BeginsOff rest
 
@@ -37,7 +37,7 @@ pub record IsScript (bytes : List ℕ) : Type 0 where
   pub items : List Item
   pub events : List Event
   pub lines : All IsItem items
-  pub script : read_script items ≡ Some events
+  pub script : AskFor items events
   pub whole : AreWhole bytes items
   pub short : length bytes ≤ script_limit
 

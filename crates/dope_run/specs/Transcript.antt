@@ -1,5 +1,5 @@
 -- The transcript of a script: what is written while the machine runs through its lines, from opening on.
-use Rattle.std.specs.Prelude.{◌≡◌, ℕ, ◌+◌, ◌≤◌, ◌⊎◌, List, ◌++◌, length, take, Option, Some}
+use Rattle.std.specs.Prelude.{◌≡◌, ℕ, ◌+◌, ◌≤◌, ◌⊎◌, List, ◌++◌, length, take, Option}
 use Rattle.std.specs.List.{All}
 use Rattle.std.specs.Io.KnownBytes.{Appends, Consumes, IsAtEnd}
 use Rattle.kind_core.specs.declared.shapes.Shape.{Shape}
@@ -9,13 +9,13 @@ use Rattle.machine_model.specs.Laws.{KeepsLaws}
 use Rattle.dope_run.specs.declared.status.Status.{Status}
 use Rattle.dope_run.specs.declared.status.Status.TheVariants.{Done, ReadFault, WriteFault, Usage, BadScript, NoMemory, TooMuch}
 use Rattle.dope_run.specs.Framing.{Item, IsItem, IsPartial, AreWhole, bytes_of, script_limit, read_limit}
-use Rattle.dope_run.specs.Script.{read_script, BeginsOff, EndsOff}
+use Rattle.dope_run.specs.Script.{AskFor, BeginsOff, EndsOff}
 use Rattle.dope_run.specs.Text.{text_of}
 
--- The items are read, and the moments are a run over their events.
+-- The moments are a run over the events that the items ask for.
 pub record Plays (from : State) (items : List Item) (moments : List Moment) : Type 0 where
   pub whole : All IsItem items
-  pub script : read_script items ≡ Some (events_of moments)
+  pub script : AskFor items (events_of moments)
   pub run : Run from moments
 
 -- The items are all whole lines of the bytes, up to one that is off the grammar.

@@ -1,36 +1,22 @@
--- The plain form of `play`: the command, then each option in this order with its number in range.
-use Rattle.std.specs.Prelude.{ℕ, if◌then◌else◌, List, [], ◌∷◌, Option, Some, None, bytes_eq, codes}
+-- The words of a command line, without the program's name, that ask for a script to be played:
+-- `play --width <w> --height <h> --budget <b> --spare <s>`, in this order.
+use Rattle.std.specs.Prelude.{◌≡◌, List, [], ◌∷◌, ℕ, codes}
 use Rattle.kind_core.specs.declared.shapes.Shape.{Shape}
-use Rattle.script_lines.specs.Steps.{◌>>=◌}
-use Rattle.dope_run.specs.Numbers.{number_in}
+use Rattle.cmd_words.specs.Productions.{count}
+use Rattle.scene_model.specs.Shapes.{IsShape}
 
--- the number behind an option of this name
-abbrev pub option_in : List ℕ → ℕ → ℕ → List ℕ → List ℕ → Option ℕ
-option_in name least most word value = if bytes_eq word name then number_in least most value else None
+-- The numbers of a shape are in their ranges, and each is written by 1 to 7 digits.
+pub record AreNumbersOf (shape : Shape) (width height budget spare : List ℕ) : Type 0 where
+  pub width_is : count width shape.width
+  pub height_is : count height shape.height
+  pub budget_is : count budget shape.budget
+  pub spare_is : count spare shape.spare
+  pub in_range : IsShape shape
 
--- the screen's width and height
-unfoldable pub screen_behind : List ℕ → List ℕ → List ℕ → List ℕ → Option (ℕ × ℕ)
-screen_behind a width b height = do
-  w ← option_in (codes "--width") 16 1024 a width
-  h ← option_in (codes "--height") 16 768 b height
-  Some (w, h)
-
--- the budget, and the spare, which is at most the budget
-unfoldable pub budget_behind : List ℕ → List ℕ → List ℕ → List ℕ → Option (ℕ × ℕ)
-budget_behind c budget d spare = do
-  most ← option_in (codes "--budget") 1 786432 c budget
-  kept ← option_in (codes "--spare") 1 most d spare
-  Some (most, kept)
-
--- the numbers behind the options of `play`
-abbrev pub shape_behind : List (List ℕ) → Option Shape
-shape_behind (a ∷ width ∷ b ∷ height ∷ c ∷ budget ∷ d ∷ spare ∷ []) = do
-  screen ← screen_behind a width b height
-  pixels ← budget_behind c budget d spare
-  Some (record { width = screen.0; height = screen.1; budget = pixels.0; spare = pixels.1 })
-shape_behind _ = None
-
--- what the words of a command line ask to be played
-unfoldable pub play_shape : List (List ℕ) → Option Shape
-play_shape [] = None
-play_shape (command ∷ options) = if bytes_eq command (codes "play") then shape_behind options else None
+pub record AsksToPlay (words : List (List ℕ)) (shape : Shape) : Type 0 where
+  pub width : List ℕ
+  pub height : List ℕ
+  pub budget : List ℕ
+  pub spare : List ℕ
+  pub spelled : words ≡ codes "play" ∷ codes "--width" ∷ width ∷ codes "--height" ∷ height ∷ codes "--budget" ∷ budget ∷ codes "--spare" ∷ spare ∷ []
+  pub numbers : AreNumbersOf shape width height budget spare

@@ -5,7 +5,6 @@
 mod cut;
 mod ending;
 pub mod laws;
-mod number;
 mod obeying;
 mod outcome;
 mod player;

@@ -4,7 +4,7 @@ ghost use Rattle.outside_io.specs.Count.{Rose};
 ghost use Rattle.outside_io.specs.Outbox.{Output, output, flushed};
 ghost use Rattle.machine_model.specs.State.{IsState};
 ghost use Rattle.script_lines.specs.declared.order.Order.TheVariants.{Nothing};
-ghost use Rattle.script_lines.specs.Lines.{is_silent, line_order};
+ghost use Rattle.script_lines.specs.Lines.{asks};
 ghost use Rattle.dope_run.specs.declared.status.Status.TheVariants.{Done};
 ghost use Rattle.dope_run.specs.Cutting.{status_of};
 ghost use Rattle.dope_run.specs.Framing.{IsLine, has_feed};
@@ -49,10 +49,8 @@ fn feed_in(bytes: &[u8]) -> Option<usize>
 }
 
 /// Whether the line is empty or a comment, so that it asks for nothing and need not be read.
-#[tactic(auto, unfolding(script_lines::specs::Lines::is_silent))]
 fn is_silent(line: &[u8]) -> bool
-    ensures silent { result ≡ is_silent line.now }
-    ensures nothing { result ≡ true → line_order line.now ≡ Some Nothing }
+    ensures { result ≡ true → asks line.now Nothing }
 {
     comments_ask_for_nothing();
     match line {

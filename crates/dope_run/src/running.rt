@@ -1,7 +1,8 @@
 //! The run of the program: from its words to its status.
-ghost use Rattle.std.specs.Prelude.{◌≡◌, ◌≢◌, ◌≤◌, ◌↔◌, map, string_bytes, None, IsNone, IfSome, IsSomeAnd};
+ghost use Rattle.std.specs.Prelude.{◌≡◌, ◌≢◌, ◌≤◌, ◌↔◌, map, string_bytes, None, IsNone, IsSomeAnd};
+ghost use Rattle.kind_core.specs.declared.shapes.Shape.{Shape};
 ghost use Rattle.outside_io.specs.Count.{Rose};
-ghost use Rattle.dope_run.specs.Words.{play_shape};
+ghost use Rattle.dope_run.specs.Words.{AsksToPlay};
 ghost use Rattle.dope_run.specs.Transcript.{Ended, IsRefused, IsPlayed};
 
 use crate::playing::play;
@@ -30,11 +31,11 @@ pub fn run<S: Source, K: Sink>(
     kept: &mut Option<Server>,
 ) -> Status
     requires none_kept { IsNone kept.old }
-    ensures usage { (result ≡ Status.Usage) ↔ (play_shape (map string_bytes words.now) ≡ None) }
+    ensures usage { (result ≡ Status.Usage) ↔ ((shape : Shape) → ¬ AsksToPlay (map string_bytes words.now) shape) }
     ensures untouched { IsRefused result → (source.new ≡ source.old) × (sink.new ≡ sink.old) × (kept.new ≡ None) }
-    ensures played { IsPlayed result → IfSome (play_shape (map string_bytes words.now)) (λ shape.
-        IsSomeAnd kept.new (λ server. Ended shape result (S.left source.old) (S.left source.new)
-        (K.held sink.old) (K.held sink.new) server.state)) }
+    ensures played { IsPlayed result → (shape : Shape) × AsksToPlay (map string_bytes words.now) shape
+        × IsSomeAnd kept.new (λ server. Ended shape result (S.left source.old) (S.left source.new)
+        (K.held sink.old) (K.held sink.new) server.state) }
     ensures read_later { S.faults source.old ≤ S.faults source.new }
     ensures read_cause { result ≡ Status.ReadFault → Rose (S.faults source.old) (S.faults source.new) }
     ensures read_steady { result ≢ Status.ReadFault → S.faults source.new ≡ S.faults source.old }

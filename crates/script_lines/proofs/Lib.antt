@@ -1,3 +1,5 @@
-pub mod Spoken
-pub mod Heard
-pub mod Suiting
+pub mod Numerals
+pub mod Parting
+pub mod PlainLines
+pub mod SaidLines
+pub mod Telling

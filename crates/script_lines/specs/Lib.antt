@@ -1,7 +1,7 @@
-pub mod Steps
 pub mod Numbers
-pub mod Parts
-pub mod ClientLines
+pub mod Sayings
 pub mod Lines
 pub mod Suits
 pub mod Laws
+pub mod Reading
+pub mod Saying

@@ -1,47 +1,39 @@
--- What each line of a script asks for.
-use Rattle.std.specs.Prelude.{ℕ, Bool, true, ◌==◌, if◌then◌else◌, List, [], ◌∷◌, codes, Option, Some, None}
-use Rattle.std.specs.Str.{bytes_eq}
+-- The grammar of a script's lines: which line asks for what. Words are parted by exactly one space.
+use Rattle.std.specs.Prelude.{◌≡◌, ◌⊎◌, ℕ, List, [], IsTrue}
+use Rattle.cmd_words.specs.Language.{Language, ◌▹◌, ◌▸◌, ◌⊕◌, stands_for, word}
+use Rattle.cmd_words.specs.Grammar.{command_line}
+use Rattle.cmd_text.specs.FrameLine.{anything}
+use Rattle.cmd_text.specs.Misread.{IsMisread}
+use Rattle.desk_model.specs.Commands.{is_built}
 use Rattle.script_lines.specs.declared.order.Order.{Order}
-use Rattle.script_lines.specs.declared.order.Order.TheVariants.{Nothing, Ticks, Dirty, Pixel, Dump}
-use Rattle.script_lines.specs.Steps.{◌>>=◌, first_some}
-use Rattle.script_lines.specs.Numbers.{number_in}
-use Rattle.script_lines.specs.Parts.{after, parted}
-use Rattle.script_lines.specs.ClientLines.{client_order}
+use Rattle.script_lines.specs.declared.order.Order.TheVariants.{Nothing, Connect, Bye, Ask, Misread, Ticks, Dirty, Pixel, Dump}
+use Rattle.script_lines.specs.Numbers.{number_from, client_number}
+use Rattle.script_lines.specs.Sayings.{Says}
 
--- An empty line and a comment, which begins with `#`, ask for nothing.
-unfoldable pub is_silent : List ℕ → Bool
-is_silent [] = true
-is_silent (first ∷ rest) = first == 35
+-- an empty line, or a comment, which begins with `#`
+abbrev pub silent : List ℕ → Type 0
+silent line = (line ≡ []) ⊎ (word "#" ▹ anything) line tt
 
--- `tick` is one tick; `dirty` asks how many pixels are dirty, and `dump` for the screen.
-unfoldable pub word_order : List ℕ → Option Order
-word_order line =
-    if bytes_eq line (codes "tick") then Some (Ticks 1)
-    else (if bytes_eq line (codes "dirty") then Some Dirty
-    else (if bytes_eq line (codes "dump") then Some Dump else None))
+-- `tick` is one tick, and `tick <n>` n ticks, 1 to 1,000
+abbrev pub ticks : Language ℕ
+ticks = (word "tick" ▹ stands_for 1) ⊕ (word "tick " ▹ number_from 1 1000)
 
--- `tick <n>`: n ticks, 1 to 1,000.
-unfoldable pub tick_order : List ℕ → Option Order
-tick_order line = do
-  digits ← after (codes "tick ") line
-  count ← number_in 1 1000 digits
-  Some (Ticks count)
+-- `pixel <x> <y>`, each 0 to 9,999
+abbrev pub pixel : Language (ℕ × ℕ)
+pixel = word "pixel " ▹ number_from 0 9999 ▸ λ x. word " " ▹ number_from 0 9999 ▸ λ y. stands_for (x, y)
 
--- `pixel <x> <y>`: what the pixel (x, y) shows; x and y are 0 to 9,999.
-unfoldable pub pixel_order : List ℕ → Option Order
-pixel_order line = do
-  place ← after (codes "pixel ") line
-  sides ← parted place
-  x ← number_in 0 9999 sides.0
-  y ← number_in 0 9999 sides.1
-  Some (Pixel x y)
+-- What a client says is a command that is built, or it is misread; a command that isn't built is off the grammar.
+unfoldable pub asks : Language Order
+asks line Nothing = silent line
+asks line (Connect client) = (word "connect " ▹ client_number) line client
+asks line (Bye client) = (word "bye " ▹ client_number) line client
+asks line (Ask client command) = (said : List ℕ) × Says line client said × command_line said command × IsTrue (is_built command)
+asks line (Misread client place) = (said : List ℕ) × Says line client said × IsMisread said place
+asks line (Ticks count) = ticks line count
+asks line Dirty = word "dirty" line
+asks line (Pixel x y) = pixel line (x, y)
+asks line Dump = word "dump" line
 
--- The line of a screen is one of these.
-unfoldable pub screen_order : List ℕ → Option Order
-screen_order line = first_some (word_order line ∷ tick_order line ∷ pixel_order line ∷ [])
-
--- What a line asks for; none where the line is off the script's grammar.
-unfoldable pub line_order : List ℕ → Option Order
-line_order line =
-    if is_silent line then Some Nothing
-    else first_some (screen_order line ∷ client_order line ∷ [])
+-- any other line
+abbrev pub IsOff : List ℕ → Type 0
+IsOff line = (order : Order) → ¬ asks line order

@@ -1,16 +1,17 @@
--- The numbers in the lines of a script.
-use Rattle.std.specs.Prelude.{ℕ, Bool, false, ◌&&◌, ◌==◌, nat_le, if◌then◌else◌, List, [], ◌∷◌, Option, Some, None}
-use Rattle.cmd_words.specs.Productions.{are_digits, number_of}
+-- The numbers of a script and of a command line.
+use Rattle.std.specs.Prelude.{◌≡◌, ℕ, ◌≤◌, decimal}
+use Rattle.cmd_words.specs.Language.{Language}
+use Rattle.cmd_words.specs.Productions.{count}
 
--- A number is 1 to 7 decimal digits, in its range; it may begin with 0.
-unfoldable pub number_in : ℕ → ℕ → List ℕ → Option ℕ
-number_in least most digits =
-    if are_digits digits && nat_le least (number_of digits) && nat_le (number_of digits) most then Some (number_of digits) else None
+-- A number is 1 to 7 decimal digits, which may begin with 0; what they write is from least to most.
+abbrev pub number_from : ℕ → ℕ → Language ℕ
+number_from least most digits n = count digits n × (least ≤ n) × (n ≤ most)
 
-abbrev pub begins_with_zero : List ℕ → Bool
-begins_with_zero [] = false
-begins_with_zero (first ∷ rest) = first == 48
+-- a number that a client may have
+pub record IsClient (client : ℕ) : Type 0 where
+  pub least : 1 ≤ client
+  pub greatest : client ≤ 16
 
--- A client is a number from 1 to 16 that doesn't begin with 0.
-unfoldable pub client_in : List ℕ → Option ℕ
-client_in digits = if begins_with_zero digits then None else number_in 1 16 digits
+-- A client is written in decimal, without a leading zero.
+abbrev pub client_number : Language ℕ
+client_number digits client = (digits ≡ decimal client) × IsClient client

@@ -1,13 +1,9 @@
 -- What is known of an order that a line asks for.
-use Rattle.std.specs.Prelude.{ℕ, ◌≤◌, IsTrue}
+use Rattle.std.specs.Prelude.{◌≤◌, IsTrue}
 use Rattle.desk_model.specs.Commands.{is_built}
 use Rattle.script_lines.specs.declared.order.Order.{Order}
 use Rattle.script_lines.specs.declared.order.Order.TheVariants.{Connect, Bye, Ask, Misread, Ticks}
-
--- a number that a client may have
-pub record IsClient (client : ℕ) : Type 0 where
-  pub least : 1 ≤ client
-  pub greatest : client ≤ 16
+use Rattle.script_lines.specs.Numbers.{IsClient}
 
 -- The client is one that there may be, the ticks are 1 to 1,000, and the command is built.
 abbrev pub Suits : Order → Type 0

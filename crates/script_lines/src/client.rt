@@ -1,44 +1,37 @@
-//! The lines of clients.
-ghost use Rattle.std.specs.Prelude.{◌≡◌, ◌≤◌, length, IfSome};
-ghost use Rattle.cmd_text.specs.CommandOf.{command_of};
-ghost use Rattle.script_lines.specs.ClientLines.{connect_order, bye_order, asked_by, command_limit, is_refused, command_order, said_order, client_order};
-ghost use Rattle.script_lines.specs.Suits.{IsClient, Suits};
+//! The lines in which clients say something.
+ghost use Rattle.std.specs.Prelude.{◌≡◌, Some, IfSome, IsTrue, IsFalse, option_map};
+ghost use Rattle.script_lines.specs.declared.order.Order.{Order};
+ghost use Rattle.script_lines.specs.Numbers.{IsClient};
+ghost use Rattle.script_lines.specs.Sayings.{IsSayable};
+ghost use Rattle.script_lines.specs.Lines.{asks};
+ghost use Rattle.script_lines.specs.Reading.{said_at};
+ghost use Rattle.script_lines.specs.Saying.{IsSaying, saying};
 
 use crate::built::is_built;
-use crate::number::client_in;
+use crate::digits::client_at;
 use crate::order::Order;
-use crate::parts::{after, parted};
+use crate::parts::parted;
 use cmd_text::{is_frame_line, parse};
 
 /// How many bytes a client's command has at most.
 const COMMAND_LIMIT: usize = 512;
 
-#[tactic(auto, unfolding(crate::specs::ClientLines::connect_order))]
-fn connect_order(line: &[u8]) -> Option<Order>
-    ensures order { result ≡ connect_order line.now }
-    ensures suits { IfSome result Suits }
+/// The client, and what it says.
+#[tactic(auto, unfolding(crate::specs::Reading::said_at))]
+fn said_at(line: &[u8]) -> Option<(u32, &[u8])>
+    ensures said { option_map (λ parts. (parts.0, parts.1.now)) result ≡ said_at line.now }
+    ensures within { IfSome result (λ parts. IsClient parts.0) }
 {
-    let digits = after(b"connect ", line)?;
-    let client = client_in(digits)?;
-    Some(Order::Connect { client })
+    let (digits, said) = parted(line)?;
+    let client = client_at(digits)?;
+    Some((client, said))
 }
 
-#[tactic(auto, unfolding(crate::specs::ClientLines::bye_order))]
-fn bye_order(line: &[u8]) -> Option<Order>
-    ensures order { result ≡ bye_order line.now }
-    ensures suits { IfSome result Suits }
-{
-    let digits = after(b"bye ", line)?;
-    let client = client_in(digits)?;
-    Some(Order::Bye { client })
-}
-
-/// What the client asks for by a line that isn't too long.
+/// What the client asks for by what it may say.
 fn asked_by(client: u32, said: &[u8]) -> Option<Order>
-    requires client { IsClient client }
-    requires short { length said.now ≤ command_limit }
-    ensures order { result ≡ asked_by client (command_of said.now) }
-    ensures suits { IfSome result Suits }
+    requires { IsSayable said.now }
+    ensures found { IfSome result (saying client said.now) }
+    ensures all { (order : Order) → saying client said.now order → result ≡ Some order }
 {
     match parse(said) {
         Ok(command) => {
@@ -57,17 +50,16 @@ fn asked_by(client: u32, said: &[u8]) -> Option<Order>
 
 /// Whether what the client says is off the script's grammar in any case.
 fn is_refused(said: &[u8]) -> bool
-    ensures refused { result ≡ is_refused said.now }
+    ensures refused { IsTrue result → ¬ IsSayable said.now }
+    ensures sayable { IsFalse result → IsSayable said.now }
 {
     said.len() > COMMAND_LIMIT || is_frame_line(said)
 }
 
 /// What the client asks for by what it says.
-#[tactic(auto, unfolding(crate::specs::ClientLines::command_order))]
 fn command_order(client: u32, said: &[u8]) -> Option<Order>
-    requires { IsClient client }
-    ensures order { result ≡ command_order client said.now }
-    ensures suits { IfSome result Suits }
+    ensures found { IfSome result (saying client said.now) }
+    ensures all { (order : Order) → saying client said.now order → result ≡ Some order }
 {
     if is_refused(said) {
         return None;
@@ -75,27 +67,13 @@ fn command_order(client: u32, said: &[u8]) -> Option<Order>
     asked_by(client, said)
 }
 
-#[tactic(auto, unfolding(crate::specs::ClientLines::said_order))]
-fn said_order(line: &[u8]) -> Option<Order>
-    ensures order { result ≡ said_order line.now }
-    ensures suits { IfSome result Suits }
+/// What a line asks for in which a client says something.
+pub(crate) fn said_order(line: &[u8]) -> Option<Order>
+    ensures found { IfSome result (asks line.now) }
+    ensures all { (order : Order) → IsSaying order → asks line.now order → result ≡ Some order }
 {
-    let (digits, said) = parted(line)?;
-    let client = client_in(digits)?;
-    command_order(client, said)
-}
-
-/// What the line of a client asks for.
-#[tactic(auto, unfolding(crate::specs::ClientLines::client_order))]
-pub(crate) fn client_order(line: &[u8]) -> Option<Order>
-    ensures order { result ≡ client_order line.now }
-    ensures suits { IfSome result Suits }
-{
-    match connect_order(line) {
-        Some(order) => Some(order),
-        None => match bye_order(line) {
-            Some(order) => Some(order),
-            None => said_order(line),
-        },
+    match said_at(line) {
+        Some((client, said)) => command_order(client, said),
+        None => None,
     }
 }

@@ -1,6 +1,16 @@
 //! Laws of a script's lines, over the definitions alone. Each is a function without parameters whose contract
 //! is the law.
-ghost use Rattle.script_lines.specs.Laws.{CommentsAskForNothing, CommandsAreAsked, OthersAreMisread, AskedWasSaid, MisreadWasSaid};
+ghost use Rattle.script_lines.specs.Laws.{OneOrder, EachLineIsTold, CommentsAskForNothing, CommandsAreAsked, OthersAreMisread, AskedWasSaid, MisreadWasSaid};
+
+/// A line asks for at most one thing.
+pub fn one_order()
+    ensures { OneOrder }
+{}
+
+/// Each line, of any length, asks for something or is off the grammar.
+pub fn each_line_is_told()
+    ensures { EachLineIsTold }
+{}
 
 /// An empty line and each comment ask for nothing.
 pub fn comments_ask_for_nothing()

@@ -4,13 +4,16 @@
 
 mod built;
 mod client;
+mod digits;
 pub mod laws;
 mod line;
 mod number;
 mod order;
 mod parts;
+mod plain;
 
 pub use built::is_built;
 pub use cmd_text::Command;
 pub use line::line_order;
+pub use number::number_in;
 pub use order::Order;

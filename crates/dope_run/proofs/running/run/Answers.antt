@@ -1,6 +1,7 @@
 use Rattle.std.proofs.Common.{refl, rules, sym, subst}
 use Rattle.dope_run.specs.Playing.{IsFresh}
 use Rattle.dope_run.proofs.Endings.{not_refused}
+use Rattle.dope_run.proofs.PlayWords.{no_shape}
 use Rattle.dope_run.proofs.running.run.Goals as goal
 
 pub play-status-requires-clause-fresh : goal.play-status-requires-clause-fresh
@@ -13,4 +14,7 @@ pub returns-clause-untouched : goal.returns-clause-untouched
 returns-clause-untouched g c = λ refused. absurd (not_refused _ c.play-status.result _ _ _ _ _ c.play-status.ensures.ended refused)
 
 pub returns-clause-played : goal.returns-clause-played
-returns-clause-played g c = λ played. rw (← c.in-Some.ensures.shape, ← c.in-Ok.ensures.shape, c.into_server.ensures) c.play-status.ensures.ended
+returns-clause-played g c = λ played. (c.in-Some.shape, c.in-Some.ensures.found, rw (← c.in-Ok.ensures.shape, c.into_server.ensures) c.play-status.ensures.ended)
+
+pub returns-in-None-clause-usage : goal.returns-in-None-clause-usage
+returns-in-None-clause-usage g c = (λ usage shape asks. no_shape shape (c.in-None.ensures.all shape asks), λ none. refl)

@@ -1,4 +1,4 @@
-use Rattle.script_lines.proofs.Spoken.{commands_are_asked}
+use Rattle.script_lines.proofs.Telling.{commands_are_asked}
 use Rattle.script_lines.proofs.laws.commands_are_asked.Goals as goal
 
 pub returns : goal.returns

@@ -1,4 +1,4 @@
-use Rattle.script_lines.proofs.Heard.{misread_was_said}
+use Rattle.script_lines.proofs.Telling.{misread_was_said}
 use Rattle.script_lines.proofs.laws.misread_was_said.Goals as goal
 
 pub returns : goal.returns

@@ -1,4 +1,4 @@
-use Rattle.script_lines.proofs.Spoken.{others_are_misread}
+use Rattle.script_lines.proofs.Telling.{others_are_misread}
 use Rattle.script_lines.proofs.laws.others_are_misread.Goals as goal
 
 pub returns : goal.returns

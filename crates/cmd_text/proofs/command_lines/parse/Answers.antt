@@ -1,9 +1,9 @@
 -- what was read is what the grammar says
 use Rattle.std.proofs.Common.{ap, Result, Ok}
 use Rattle.cmd_words.specs.declared.commands.Command.{Command}
-use Rattle.cmd_text.specs.declared.parsing.BadLine.{BadLine}
-use Rattle.cmd_text.proofs.Places.{found_line, only_line, no_line, left_within, place_is, command_of-found, command_of-stuck}
-use Rattle.cmd_text.proofs.parsing.parse.Goals as goal
+use Rattle.cmd_text.specs.declared.command_lines.BadLine.{BadLine}
+use Rattle.cmd_text.proofs.Places.{found_line, only_line, no_line, left_within, place_is}
+use Rattle.cmd_text.proofs.command_lines.parse.Goals as goal
 
 pub overflow_sub-result : goal.overflow_sub-result
 overflow_sub-result c = left_within c.args.line.now c.in-Err.left c.in-Err.ensures
@@ -19,9 +19,3 @@ returns-in-Err-clause-all c = λ d h. absurd (no_line c.args.line.now c.in-Err.l
 
 pub returns-in-Err-clause-place : goal.returns-in-Err-clause-place
 returns-in-Err-clause-place c = place_is c.args.line.now c.in-Err.left c.in-Err.ensures
-
-pub returns-in-Ok-clause-reads : goal.returns-in-Ok-clause-reads
-returns-in-Ok-clause-reads c = command_of-found c.args.line.now c.in-Ok.command c.in-Ok.ensures
-
-pub returns-in-Err-clause-reads : goal.returns-in-Err-clause-reads
-returns-in-Err-clause-reads c = command_of-stuck c.args.line.now c.in-Err.left c.in-Err.ensures

@@ -1,7 +1,7 @@
 -- Six digits before this one make a number below 10 ^ 6.
 use Rattle.std.proofs.Common.{ℕ, ◌^◌, ◌<◌, ◌≤◌, arith, rules, lit<}
 use Rattle.std.proofs.Math.Nat.{pow-le-pow_right}
-use Rattle.dope_run.proofs.number.digits_value.Goals as goal
+use Rattle.script_lines.proofs.digits.digits_value.Goals as goal
 
 few : (i value : ℕ) → i ≤ 6 → value < 10 ^ i → value < 1000000
 few i value short below =

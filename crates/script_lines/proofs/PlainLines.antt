@@ -1,0 +1,243 @@
+-- Lines in which no client says something: what is read is what the grammar says.
+use Rattle.std.proofs.Common.{◌≡◌, ◌≢◌, ◌⊎◌, inl, inr, ℕ, ◌≤◌, Bool, true, false, cond, List, [], ◌∷◌, ◌++◌, codes, Option, Some, None, refl, sym, ap, subst, ◌∙◌, arith, append-nil}
+use Rattle.std.specs.Prelude.{◌==◌, decimal}
+use Rattle.std.specs.Str.{bytes_eq}
+use Rattle.std.proofs.lemmas.Bool.Decides.{nat_tests}
+use Rattle.script_lines.specs.declared.order.Order.{Order}
+use Rattle.script_lines.specs.declared.order.Order.TheVariants.{Nothing, Connect, Bye, Ask, Misread, Ticks, Dirty, Pixel, Dump}
+use Rattle.script_lines.specs.Sayings.{Says}
+use Rattle.script_lines.specs.Lines.{asks, ticks, pixel}
+use Rattle.script_lines.specs.Reading.{◌>>=◌, first_some, number_at, client_at, after, parted, is_silent, word_order, tick_order, pixel_order, connect_order, bye_order, screen_order, coming_order, plain_order}
+use Rattle.script_lines.specs.Saying.{IsSaying}
+use Rattle.script_lines.proofs.Numerals.{number_at-back, number_at-on, all_digits, client_at-back, client_at-on, IsNumberOf, printed_client}
+use Rattle.script_lines.proofs.Parting.{same_as, same_bytes, after-back, parted-back, parted-on}
+
+-- ---- steps backwards
+
+-- both steps had an answer
+pub record BothAnswer {A B : Type 0} (first : Option A) (next : A → Option B) (answer : B) : Type 0 where
+  pub middle : A
+  pub before : first ≡ Some middle
+  pub behind : next middle ≡ Some answer
+
+pub both_answer : {A B : Type 0} (first : Option A) (next : A → Option B) (answer : B) → (first >>= next) ≡ Some answer → BothAnswer first next answer
+both_answer (Some x) next answer e = record { middle = x; before = refl; behind = e }
+both_answer None next answer e = absurd (cc)
+
+one_of_two : {A : Type 0} (first second : Option A) (answer : A) → first_some (first ∷ second ∷ []) ≡ Some answer → (first ≡ Some answer) ⊎ (second ≡ Some answer)
+one_of_two (Some x) second answer e = inl e
+one_of_two None (Some y) answer e = inr e
+one_of_two None None answer e = absurd (cc)
+
+one_of_three : {A : Type 0} (first second third : Option A) (answer : A) → first_some (first ∷ second ∷ third ∷ []) ≡ Some answer → (first ≡ Some answer) ⊎ ((second ≡ Some answer) ⊎ (third ≡ Some answer))
+one_of_three (Some x) second third answer e = inl e
+one_of_three None (Some y) third answer e = inr (inl e)
+one_of_three None None (Some z) answer e = inr (inr e)
+one_of_three None None None answer e = absurd (cc)
+
+-- ---- what is read is on the grammar
+
+as_made : (line : List ℕ) (made order : Order) → Some made ≡ Some order → asks line made → asks line order
+as_made line made order e on = let same : made ≡ order = cc in subst (asks line) same on
+
+silent_back : (line : List ℕ) → is_silent line ≡ true → asks line Nothing
+unfolding is_silent asks
+silent_back [] e = inl refl
+silent_back (first ∷ rest) e = inr (record { front = codes "#"; after = rest; split = ap (λ (k : ℕ). k ∷ rest) (same_as first 35 e); word = refl; goes_on = tt })
+
+words_back : (line : List ℕ) (tick dirty dump : Bool) (order : Order) → (tick ≡ true → asks line (Ticks 1)) → (dirty ≡ true → asks line Dirty) → (dump ≡ true → asks line Dump) → cond tick (Some (Ticks 1)) (cond dirty (Some Dirty) (cond dump (Some Dump) None)) ≡ Some order → asks line order
+words_back line true dirty dump order t d p e = as_made line (Ticks 1) order e (t refl)
+words_back line false true dump order t d p e = as_made line Dirty order e (d refl)
+words_back line false false true order t d p e = as_made line Dump order e (p refl)
+words_back line false false false order t d p e = absurd (cc)
+
+word_back : (line : List ℕ) (order : Order) → word_order line ≡ Some order → asks line order
+unfolding word_order asks
+word_back line order e =
+    words_back line (bytes_eq line (codes "tick")) (bytes_eq line (codes "dirty")) (bytes_eq line (codes "dump")) order
+    (λ tick. inl (record { front = codes "tick"; after = []; split = same_bytes line (codes "tick") tick; word = refl; goes_on = (refl, refl) }))
+    (same_bytes line (codes "dirty"))
+    (same_bytes line (codes "dump"))
+    e
+
+tick_back : (line : List ℕ) (order : Order) → tick_order line ≡ Some order → asks line order
+unfolding tick_order asks
+tick_back line order e =
+    let digits = both_answer (after (codes "tick ") line) _ order e in
+    let count = both_answer (number_at 1 1000 digits.middle) _ order digits.behind in
+    as_made line (Ticks count.middle) order count.behind
+    (inr (record { front = codes "tick "; after = digits.middle; split = after-back (codes "tick ") line digits.middle digits.before; word = refl; goes_on = number_at-back 1 1000 digits.middle count.middle count.before }))
+
+pixel_back : (line : List ℕ) (order : Order) → pixel_order line ≡ Some order → asks line order
+unfolding pixel_order asks
+pixel_back line order e =
+    let place = both_answer (after (codes "pixel ") line) _ order e in
+    let sides = both_answer (parted place.middle) _ order place.behind in
+    let x = both_answer (number_at 0 9999 sides.middle.0) _ order sides.behind in
+    let y = both_answer (number_at 0 9999 sides.middle.1) _ order x.behind in
+    as_made line (Pixel x.middle y.middle) order y.behind (record {
+      front = codes "pixel ";
+      after = place.middle;
+      split = after-back (codes "pixel ") line place.middle place.before;
+      word = refl;
+      goes_on = record {
+        front = sides.middle.0;
+        after = 32 ∷ sides.middle.1;
+        value = x.middle;
+        split = parted-back place.middle sides.middle sides.before;
+        stands = number_at-back 0 9999 sides.middle.0 x.middle x.before;
+        goes_on = record {
+          front = codes " ";
+          after = sides.middle.1;
+          split = refl;
+          word = refl;
+          goes_on = record {
+            front = sides.middle.1;
+            after = [];
+            value = y.middle;
+            split = sym (append-nil sides.middle.1);
+            stands = number_at-back 0 9999 sides.middle.1 y.middle y.before;
+            goes_on = (refl, refl);
+          };
+        };
+      };
+    })
+
+connect_back : (line : List ℕ) (order : Order) → connect_order line ≡ Some order → asks line order
+unfolding connect_order asks
+connect_back line order e =
+    let digits = both_answer (after (codes "connect ") line) _ order e in
+    let client = both_answer (client_at digits.middle) _ order digits.behind in
+    as_made line (Connect client.middle) order client.behind
+    (record { front = codes "connect "; after = digits.middle; split = after-back (codes "connect ") line digits.middle digits.before; word = refl; goes_on = client_at-back digits.middle client.middle client.before })
+
+bye_back : (line : List ℕ) (order : Order) → bye_order line ≡ Some order → asks line order
+unfolding bye_order asks
+bye_back line order e =
+    let digits = both_answer (after (codes "bye ") line) _ order e in
+    let client = both_answer (client_at digits.middle) _ order digits.behind in
+    as_made line (Bye client.middle) order client.behind
+    (record { front = codes "bye "; after = digits.middle; split = after-back (codes "bye ") line digits.middle digits.before; word = refl; goes_on = client_at-back digits.middle client.middle client.before })
+
+screen_back : (line : List ℕ) (order : Order) → screen_order line ≡ Some order → asks line order
+unfolding screen_order
+screen_back line order e =
+    elim (one_of_three (word_order line) (tick_order line) (pixel_order line) order e) [
+      | inl w ↦ word_back line order w
+      | inr k ↦ elim k [ inl t ↦ tick_back line order t | inr p ↦ pixel_back line order p ]
+    ]
+
+coming_back : (line : List ℕ) (order : Order) → coming_order line ≡ Some order → asks line order
+unfolding coming_order
+coming_back line order e =
+    elim (one_of_two (connect_order line) (bye_order line) order e) [ inl c ↦ connect_back line order c | inr b ↦ bye_back line order b ]
+
+pub plain_back : (line : List ℕ) (order : Order) → plain_order line ≡ Some order → asks line order
+unfolding plain_order
+plain_back line order = by (is_silent line) refl
+  where
+    by : (quiet : Bool) → is_silent line ≡ quiet → cond quiet (Some Nothing) (first_some (screen_order line ∷ coming_order line ∷ [])) ≡ Some order → asks line order
+    by true is e = as_made line Nothing order e (silent_back line is)
+    by false is e =
+        elim (one_of_two (screen_order line) (coming_order line) order e) [ inl s ↦ screen_back line order s | inr c ↦ coming_back line order c ]
+
+-- ---- what is on the grammar is read
+
+nothing_on : plain_order [] ≡ Some Nothing
+unfolding plain_order is_silent
+nothing_on = refl
+
+comment_on : (rest : List ℕ) → plain_order (codes "#" ++ rest) ≡ Some Nothing
+unfolding plain_order is_silent
+comment_on rest = refl
+
+tick_on : plain_order (codes "tick") ≡ Some (Ticks 1)
+unfolding plain_order is_silent screen_order word_order
+tick_on = refl
+
+ticks_on : (digits : List ℕ) (count : ℕ) → number_at 1 1000 digits ≡ Some count → plain_order (codes "tick " ++ digits) ≡ Some (Ticks count)
+unfolding plain_order is_silent screen_order word_order tick_order after
+ticks_on digits count reads = rw reads refl
+
+dirty_on : plain_order (codes "dirty") ≡ Some Dirty
+unfolding plain_order is_silent screen_order word_order
+dirty_on = refl
+
+dump_on : plain_order (codes "dump") ≡ Some Dump
+unfolding plain_order is_silent screen_order word_order
+dump_on = refl
+
+pixel_on : (a b : List ℕ) (x y : ℕ) → parted (a ++ 32 ∷ b) ≡ Some (a, b) → number_at 0 9999 a ≡ Some x → number_at 0 9999 b ≡ Some y → plain_order (codes "pixel " ++ (a ++ 32 ∷ b)) ≡ Some (Pixel x y)
+unfolding plain_order is_silent screen_order word_order tick_order pixel_order after
+pixel_on a b x y parts left top = rw (parts, left, top) refl
+
+connect_on : (digits : List ℕ) (client : ℕ) → client_at digits ≡ Some client → plain_order (codes "connect " ++ digits) ≡ Some (Connect client)
+unfolding plain_order is_silent screen_order word_order tick_order pixel_order coming_order connect_order after
+connect_on digits client reads = rw reads refl
+
+bye_on : (digits : List ℕ) (client : ℕ) → client_at digits ≡ Some client → plain_order (codes "bye " ++ digits) ≡ Some (Bye client)
+unfolding plain_order is_silent screen_order word_order tick_order pixel_order coming_order connect_order bye_order after
+bye_on digits client reads = rw reads refl
+
+-- ---- lines that begin with a digit
+
+other_byte : (first byte : ℕ) → first ≢ byte → (first == byte) ≡ false
+other_byte first byte e = grind (arith, nat_tests)
+
+after-other : (first byte : ℕ) (start rest : List ℕ) → first ≢ byte → after (byte ∷ start) (first ∷ rest) ≡ None
+unfolding after
+after-other first byte start rest e = rw (other_byte first byte e) refl
+
+digit_none : (first : ℕ) (rest : List ℕ) → 48 ≤ first → first ≤ 57 → plain_order (first ∷ rest) ≡ None
+unfolding plain_order is_silent screen_order word_order tick_order pixel_order coming_order connect_order bye_order
+digit_none first rest l u =
+    let no_t : first ≢ 116 = omega arith in
+    let no_d : first ≢ 100 = omega arith in
+    let no_comment : first ≢ 35 = omega arith in
+    rw (other_byte first 35 no_comment, other_byte first 116 no_t, other_byte first 100 no_d, after-other first 116 (codes "ick ") rest no_t, after-other first 112 (codes "ixel ") rest (omega arith), after-other first 99 (codes "onnect ") rest (omega arith), after-other first 98 (codes "ye ") rest (omega arith)) refl
+
+pub said_none : (line : List ℕ) (client : ℕ) (said : List ℕ) → Says line client said → plain_order line ≡ None
+said_none line client said says =
+    let n : IsNumberOf client (decimal client) = printed_client client says.is_client in
+    ap plain_order (says.spelled ∙ ap (λ ds. ds ++ 32 ∷ said) n.split) ∙ digit_none n.first (n.others ++ 32 ∷ said) n.from n.upto
+
+-- ---- all of them
+
+begins : (line front start behind : List ℕ) → line ≡ front ++ behind → front ≡ start → line ≡ start ++ behind
+begins line front start behind split is = split ∙ ap (λ xs. xs ++ behind) is
+
+-- the line is read so, or its order is what a client says
+abbrev pub IsRead : List ℕ → Order → Type 0
+IsRead line order = (plain_order line ≡ Some order) ⊎ ((plain_order line ≡ None) × IsSaying order)
+
+ticks_read : (line : List ℕ) (count : ℕ) → ticks line count → plain_order line ≡ Some (Ticks count)
+ticks_read line count (inl one) =
+    ap plain_order (begins line one.front (codes "tick") one.after one.split one.word ∙ ap (λ xs. codes "tick" ++ xs) one.goes_on.0) ∙ tick_on ∙ ap (λ (n : ℕ). Some (Ticks n)) (sym one.goes_on.1)
+ticks_read line count (inr more) =
+    ap plain_order (begins line more.front (codes "tick ") more.after more.split more.word) ∙ ticks_on more.after count (number_at-on 1 1000 more.after count more.goes_on)
+
+pixel_read : (line : List ℕ) (x y : ℕ) → pixel line (x, y) → plain_order line ≡ Some (Pixel x y)
+pixel_read line x y on =
+    let first = on.goes_on in
+    let space = first.goes_on in
+    let second = space.goes_on in
+    let left : number_at 0 9999 first.front ≡ Some first.value = number_at-on 0 9999 first.front first.value first.stands in
+    let top : number_at 0 9999 second.front ≡ Some second.value = number_at-on 0 9999 second.front second.value second.stands in
+    let rest : space.after ≡ second.front = second.split ∙ ap (λ xs. second.front ++ xs) second.goes_on.0 ∙ append-nil second.front in
+    let behind : first.after ≡ 32 ∷ second.front = space.split ∙ ap (λ xs. xs ++ space.after) space.word ∙ ap (λ xs. codes " " ++ xs) rest in
+    let whole : line ≡ codes "pixel " ++ (first.front ++ 32 ∷ second.front) = begins line on.front (codes "pixel ") on.after on.split on.word ∙ ap (λ xs. codes "pixel " ++ xs) (first.split ∙ ap (λ xs. first.front ++ xs) behind) in
+    let same : (x, y) ≡ (first.value, second.value) = second.goes_on.1 in
+    ap plain_order whole ∙ pixel_on first.front second.front first.value second.value (parted-on first.front second.front (all_digits first.front first.stands.0.0)) left top ∙ ap (λ (p : ℕ × ℕ). Some (Pixel p.0 p.1)) (sym same)
+
+pub plain_all : (line : List ℕ) (order : Order) → asks line order → IsRead line order
+unfolding asks
+plain_all line Nothing (inl empty) = inl (ap plain_order empty ∙ nothing_on)
+plain_all line Nothing (inr comment) = inl (ap plain_order (begins line comment.front (codes "#") comment.after comment.split comment.word) ∙ comment_on comment.after)
+plain_all line (Connect client) on = inl (ap plain_order (begins line on.front (codes "connect ") on.after on.split on.word) ∙ connect_on on.after client (client_at-on on.after client on.goes_on))
+plain_all line (Bye client) on = inl (ap plain_order (begins line on.front (codes "bye ") on.after on.split on.word) ∙ bye_on on.after client (client_at-on on.after client on.goes_on))
+plain_all line (Ask client command) on = inr (said_none line client on.0 on.1, tt)
+plain_all line (Misread client place) on = inr (said_none line client on.0 on.1, tt)
+plain_all line (Ticks count) on = inl (ticks_read line count on)
+plain_all line Dirty on = inl (ap plain_order on ∙ dirty_on)
+plain_all line (Pixel x y) on = inl (pixel_read line x y on)
+plain_all line Dump on = inl (ap plain_order on ∙ dump_on)
