@@ -7,3 +7,5 @@ pub mod Planting
 pub mod OwnRows
 pub mod FitFilms
 pub mod Slots
+pub mod ValuesFit
+pub mod Leaves
