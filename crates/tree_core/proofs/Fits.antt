@@ -7,9 +7,10 @@ use Rattle.widget_model.specs.Nodes.{node_at}
 use Rattle.widget_model.specs.Widgets.{row_at, nodes, with_row}
 use Rattle.widget_model.specs.Forest.{HaveOwnNumbers}
 use Rattle.widget_model.specs.Fitting.{fits_table}
+use Rattle.widget_model.proofs.Naming.{with_row-absent}
 use Rattle.tree_core.specs.Children.{rows_in}
 use Rattle.tree_core.proofs.Listed.{rows_in-push}
-use Rattle.tree_core.proofs.ForestLemmas.{with_row_absent, list_all-push}
+use Rattle.tree_core.proofs.ForestLemmas.{list_all-push}
 
 -- all rows fit after the numbered one has changed so that it fits
 pub fitting-with_row : (es : List (ℕ × Row)) (id : ℕ) (change : Row → Row) (row : Row) → HaveOwnNumbers (nodes es) → row_at es id ≡ Some row → fits_table (change row) ≡ true → list_all fits_table (rows_in es) ≡ true → list_all fits_table (rows_in (with_row id change es)) ≡ true
@@ -24,7 +25,7 @@ fitting-with_row (e ∷ es) id change row own there new old = by (fitting-with_r
         let same : e.1 ≡ row = cc in
         let absent : node_at (nodes es) id ≡ None = rw (eqb-true id e.0 q) own.0 in
         let here : fits_table (change e.1) ≡ true = ap (λ (r : Row). fits_table (change r)) same ∙ new in
-        rw (with_row_absent es id change absent) (and_from (fits_table (change e.1)) (list_all fits_table (rows_in es)) here parts.1)
+        rw (with_row-absent es id change absent) (and_from (fits_table (change e.1)) (list_all fits_table (rows_in es)) here parts.1)
     by rest false q h = and_from (fits_table e.1) (list_all fits_table (rows_in (with_row id change es))) parts.0 (rest h new parts.1)
 
 pub fitting-push : (es : List (ℕ × Row)) (id : ℕ) (row : Row) → fits_table row ≡ true → list_all fits_table (rows_in es) ≡ true → list_all fits_table (rows_in (es ++ (id, row) ∷ [])) ≡ true
