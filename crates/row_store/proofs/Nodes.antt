@@ -35,19 +35,6 @@ nodes-with_row (e ∷ es) id change same = by (nodes-with_row es id change same)
 pub count-push : (client : ℕ) (test : Kind → Bool) (es : List (ℕ × Node)) (e : ℕ × Node) → count_of client test (es ++ e ∷ []) ≡ count_of client test es + cond (nat_eq client e.1.client && test e.1.kind) 1 0
 count-push client test es e = sum_by_push (λ (x : ℕ × Node). cond (nat_eq client x.1.client && test x.1.kind) 1 0) es e
 
--- the number that a name has is live
-pub named-live : (es : List (ℕ × Node)) (client : ℕ) (name : List ℕ) (id : ℕ) → id_named es client name ≡ Some id → is_some (node_at es id) ≡ true
-named-live [] client name id found = absurd (cc)
-named-live (e ∷ es) client name id found = by (named-live es client name id) (is_named client name e.1) found
-  where
-    later : (b : Bool) → is_some (node_at es id) ≡ true → is_some (cond b (Some e.1) (node_at es id)) ≡ true
-    later true h = refl
-    later false h = h
-
-    by : (id_named es client name ≡ Some id → is_some (node_at es id) ≡ true) → (b : Bool) → cond b (Some e.0) (id_named es client name) ≡ Some id → is_some (node_at (e ∷ es) id) ≡ true
-    by rest true h = let same : e.0 ≡ id = cc in rw (eq-eqb id e.0 (sym same)) refl
-    by rest false h = later (nat_eq id e.0) (rest h)
-
 -- a number has a row where it has a node
 pub row_live : (es : List (ℕ × Row)) (id : ℕ) → is_some (row_at es id) ≡ is_some (node_at (nodes es) id)
 row_live es id = by (row_at es id) ∙ sym (ap is_some (node_at-nodes es id))

@@ -9,10 +9,9 @@ use Rattle.widget_model.specs.Rows.{Row}
 use Rattle.widget_model.specs.Nodes.{Node, node_of, node_at, id_named, is_named}
 use Rattle.widget_model.specs.Widgets.{row_at, nodes, without_row}
 use Rattle.widget_model.specs.Forest.{HaveOwnNumbers, HaveOwnNames}
-use Rattle.widget_model.proofs.Naming.{rows, row_named-found, row_named-parts, id_named-row}
+use Rattle.widget_model.proofs.Naming.{rows, row_at-named, row_named-found, row_named-parts, id_named-row}
 use Rattle.row_store.specs.Index.{same_key, IsIndexed}
 use Rattle.row_store.proofs.Options.{none_or_some, option_same}
-use Rattle.row_store.proofs.Nodes.{named-live, row_live}
 
 -- a filter by the numbers
 abbrev pub kept : {X : Type 0} → (ℕ → Bool) → List (ℕ × X) → List (ℕ × X)
@@ -93,7 +92,7 @@ pub record IsNumbered (es : List (ℕ × Row)) (client : ℕ) (name : List ℕ) 
 
 pub id_named-numbered : (es : List (ℕ × Row)) (client : ℕ) (name : List ℕ) (id : ℕ) → HaveOwnNumbers (nodes es) → id_named (nodes es) client name ≡ Some id → IsNumbered es client name id
 id_named-numbered es client name id own found =
-    let live = none_or_some (row_at es id) (row_live es id ∙ named-live (nodes es) client name id found) in
+    let live = none_or_some (row_at es id) (row_at-named es client name id found) in
     let parts = row_named-parts (rows es) client name live.0 (row_named-found es client name id own found ∙ live.1) in
     record { row = live.0; there = live.1; client_is = parts.0; name_is = parts.1 }
 

@@ -16,7 +16,8 @@ use Rattle.widget_model.proofs.Naming.{row_named-found, row_named-none, id_named
 use Rattle.widget_model.specs.Rows.{IsIndex}
 use Rattle.tree_core.specs.Children.{cells_of, rows_in, widgets_in}
 use Rattle.tree_core.specs.Kept.{IsGrove}
-use Rattle.tree_core.proofs.Listed.{find_place, all_at, listed_number, numbered_place}
+use Rattle.widget_model.proofs.Hanging.{all_at}
+use Rattle.tree_core.proofs.Listed.{find_place, listed_number, numbered_place}
 use Rattle.widget_model.proofs.Cells.{child_in-stands, child_in-own}
 
 -- the lower of two numbered rows hangs in the upper, in that column and row

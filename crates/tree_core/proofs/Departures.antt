@@ -9,6 +9,7 @@ use Rattle.widget_model.specs.Nodes.{Node, id_named, is_number_of, first_number}
 use Rattle.widget_model.specs.Planted.{IsPlanted}
 use Rattle.widget_model.specs.Widgets.{row_at, nodes, is_joined}
 use Rattle.widget_model.specs.Forest.{is_client, IsForest}
+use Rattle.widget_model.proofs.Hanging.{all_at, all-filter}
 use Rattle.widget_model.proofs.Naming.{rows-filter_others}
 use Rattle.widget_model.specs.Rows.{IsIndex}
 use Rattle.row_store.specs.Places.{cell_place}
@@ -53,14 +54,7 @@ kept-departed (e ∷ es) client low numbers =
     rw (number-client client e.1.client e.0 low parts.0, kept-departed es client low parts.1) refl
 
 filter-all : {X : Type 0} (p q : X → Bool) (xs : List X) → list_all p xs ≡ true → list_all p (filter q xs) ≡ true
-filter-all p q [] h = refl
-filter-all p q (x ∷ xs) h =
-    let parts = and_parts (p x) (list_all p xs) h in
-    by (q x) parts.0 (filter-all p q xs parts.1)
-  where
-    by : (b : Bool) → p x ≡ true → list_all p (filter q xs) ≡ true → list_all p (cond b (x ∷ filter q xs) (filter q xs)) ≡ true
-    by true first rest = and_from (p x) (list_all p (filter q xs)) first rest
-    by false first rest = rest
+filter-all p q xs h = all-filter p q xs (λ i x there passes. all_at p xs i x h there)
 
 -- the clients that are left
 pub joined-left : (clients : List ℕ) (client other : ℕ) → is_joined clients other ≡ true → nat_eq client other ≡ false → is_joined (filter (λ (c : ℕ). not (nat_eq client c)) clients) other ≡ true

@@ -16,6 +16,7 @@ use Rattle.widget_model.specs.Links.{Tie, ties, is_variable, leads, all_lead, na
 use Rattle.widget_model.specs.Nodes.{Node, node_of, is_named, id_named, kind_named, node_at, count_of, any_kind, counts_with, first_number, is_number_of}
 use Rattle.widget_model.specs.Widgets.{row_at, row_kind, row_client, with_row, nodes, is_joined}
 use Rattle.widget_model.specs.Forest.{HaveOwnNumbers, HaveOwnNames, is_client, IsForest}
+use Rattle.widget_model.proofs.Naming.{with_row-absent}
 use Rattle.row_store.proofs.Index.{id_named-push}
 pub use Rattle.row_store.proofs.Nodes.{node_at-nodes, nodes-with_row}
 use Rattle.row_store.proofs.Nodes.{nodes-push, count-push}
@@ -314,14 +315,6 @@ kind_named-row (e ∷ es) id row own there = by (kind_named-row es id row own.1)
         rw (← same) (rw own refl)
     by rest false h = other h (is_named row.client row.name (node_of e.1)) refl (rest h)
 
-pub with_row_absent : (es : List (ℕ × Row)) (id : ℕ) (change : Row → Row) → node_at (nodes es) id ≡ None → with_row id change es ≡ es
-with_row_absent [] id change absent = refl
-with_row_absent (e ∷ es) id change absent = by (with_row_absent es id change) (nat_eq id e.0) absent
-  where
-    by : (node_at (nodes es) id ≡ None → with_row id change es ≡ es) → (b : Bool) → cond b (Some (node_of e.1)) (node_at (nodes es) id) ≡ None → cond b (e.0, change e.1) e ∷ with_row id change es ≡ e ∷ es
-    by rest true h = absurd (cc)
-    by rest false h = rw (rest h) refl
-
 -- a link that leads to a Variable keeps the links
 pub linked-with_link : (ns : List (ℕ × Node)) (es : List (ℕ × Row)) (id : ℕ) (row : Row) (link : Option (List ℕ)) → HaveOwnNumbers (nodes es) → row_at es id ≡ Some row → leads ns row.client link ≡ true → all_lead ns (ties es) ≡ true → all_lead ns (ties (with_row id (with_link link) es)) ≡ true
 linked-with_link ns [] id row link own there new old = refl
@@ -335,7 +328,7 @@ linked-with_link ns (e ∷ es) id row link own there new old = by (linked-with_l
         let same : e.1 ≡ row = cc in
         let here : leads ns e.1.client link ≡ true = rw same new in
         let absent : node_at (nodes es) id ≡ None = rw (eqb-true id e.0 q) own.0 in
-        rw (with_row_absent es id (with_link link) absent) (and_from _ _ here parts.1)
+        rw (with_row-absent es id (with_link link) absent) (and_from _ _ here parts.1)
     by rest false q h = and_from _ _ parts.0 (rest h new parts.1)
 
 -- the name of a Variable of the client leads to it

@@ -7,18 +7,12 @@ use Rattle.kind_core.specs.declared.kinds.Kind.{Kind}
 use Rattle.widget_model.specs.Rows.{Row}
 use Rattle.widget_model.specs.Nodes.{Node, is_number_of, count_of, any_kind, counts_with}
 use Rattle.widget_model.specs.Widgets.{nodes, is_joined}
+use Rattle.widget_model.proofs.Hanging.{all_at, all-filter}
 use Rattle.widget_model.specs.Forest.{IsForest, is_client}
 use Rattle.row_store.proofs.Taken.{kept, nodes-kept, own_numbers-kept, own_names-kept}
 
 pub list_all-kept : {X : Type 0} (p : ℕ × X → Bool) (test : ℕ → Bool) (es : List (ℕ × X)) → list_all p es ≡ true → list_all p (kept test es) ≡ true
-list_all-kept p test [] h = refl
-list_all-kept p test (e ∷ es) h =
-    let parts = and_parts (p e) (list_all p es) h in
-    by (test e.0) parts.0 (list_all-kept p test es parts.1)
-  where
-    by : (b : Bool) → p e ≡ true → list_all p (kept test es) ≡ true → list_all p (cond b (e ∷ kept test es) (kept test es)) ≡ true
-    by true first rest = and_from (p e) (list_all p (kept test es)) first rest
-    by false first rest = rest
+list_all-kept {X} p test es h = all-filter p (λ (e : ℕ × X). test e.0) es (λ i e there passes. all_at p es i e h there)
 
 count_of-kept : (client : ℕ) (p : Kind → Bool) (test : ℕ → Bool) (es : List (ℕ × Node)) → count_of client p (kept test es) ≤ count_of client p es
 count_of-kept client p test [] = omega arith

@@ -13,24 +13,16 @@ use Rattle.widget_model.specs.Named.{has_name, row_named}
 use Rattle.widget_model.specs.Widgets.{row_at, nodes, with_row, without_row}
 use Rattle.widget_model.specs.Forest.{HaveOwnNumbers, HaveOwnNames}
 use Rattle.widget_model.specs.Named.{AreNamedApart}
+use Rattle.widget_model.proofs.Hanging.{find-element, find-passes}
 use Rattle.widget_model.proofs.Naming.{row_named-found, id_named-row}
+use Rattle.row_store.proofs.Nodes.{node_at-nodes}
 use Rattle.tree_core.specs.Children.{rows_in}
 
 -- what is found stands somewhere, and passes the test
 pub find_place : {X : Type 0} (p : X → Bool) (xs : List X) (x : X) → find p xs ≡ Some x → (i : ℕ) × (slice_get xs i ≡ Some x) × (p x ≡ true)
-find_place p [] x h = absurd (cc)
-find_place p (y ∷ ys) x h = by (find_place p ys x) (p y) refl h
-  where
-    by : (find p ys ≡ Some x → (i : ℕ) × (slice_get ys i ≡ Some x) × (p x ≡ true)) → (b : Bool) → p y ≡ b → cond b (Some y) (find p ys) ≡ Some x → (i : ℕ) × (slice_get (y ∷ ys) i ≡ Some x) × (p x ≡ true)
-    by rest true q k = let same : y ≡ x = cc in (0, k, ap p (sym same) ∙ q)
-    by rest false q k = let r = rest k in (suc r.0, r.1, r.2)
+find_place p xs x found = let there = find-element p xs x found in (there.0, there.1, find-passes p xs x found)
 
 -- what holds of all holds of the one at a place
-pub all_at : {X : Type 0} (p : X → Bool) (xs : List X) (i : ℕ) (x : X) → list_all p xs ≡ true → slice_get xs i ≡ Some x → p x ≡ true
-all_at p [] i x h there = absurd (cc)
-all_at p (y ∷ ys) zero x h there = let same : y ≡ x = cc in ap p (sym same) ∙ (and_parts (p y) (list_all p ys) h).0
-all_at p (y ∷ ys) (suc i) x h there = all_at p ys i x (and_parts (p y) (list_all p ys) h).1 there
-
 pub All-at : {X : Type 0} (P : X → Type 0) (xs : List X) (i : ℕ) (x : X) → All P xs → slice_get xs i ≡ Some x → P x
 All-at P [] i x h there = absurd (cc)
 All-at P (y ∷ ys) zero x h there = let same : y ≡ x = cc in subst P same (All-head P y ys h)
@@ -57,12 +49,7 @@ any_place {X} p (y ∷ ys) h = by (any_place p ys) (p y) refl h
 
 -- a number with a row is its node's
 node_at-row : (es : List (ℕ × Row)) (id : ℕ) (row : Row) → row_at es id ≡ Some row → is_some (node_at (nodes es) id) ≡ true
-node_at-row [] id row h = absurd (cc)
-node_at-row (e ∷ es) id row h = by (node_at-row es id row) (nat_eq id e.0) h
-  where
-    by : (row_at es id ≡ Some row → is_some (node_at (nodes es) id) ≡ true) → (b : Bool) → cond b (Some e.1) (row_at es id) ≡ Some row → is_some (cond b (Some (node_of e.1)) (node_at (nodes es) id)) ≡ true
-    by rest true k = refl
-    by rest false k = rest k
+node_at-row es id row there = ap is_some (node_at-nodes es id ∙ ap (option_map node_of) there)
 
 -- the row at a place has a number
 pub listed_number : (es : List (ℕ × Row)) (i : ℕ) (row : Row) → HaveOwnNumbers (nodes es) → slice_get (rows_in es) i ≡ Some row → (id : ℕ) × (row_at es id ≡ Some row)

@@ -14,7 +14,7 @@ use Rattle.widget_model.specs.Rows.{IsIndex}
 use Rattle.row_store.specs.Places.{cell_place}
 use Rattle.tree_core.specs.Children.{rows_in, widgets_in, HasChildren}
 use Rattle.tree_core.specs.Kept.{IsGrove}
-use Rattle.row_store.proofs.Nodes.{named-live, row_live}
+use Rattle.widget_model.proofs.Naming.{row_at-named}
 use Rattle.tree_core.proofs.Children.{child_id-hangs, attached-hangs, HangsUnder-HangsAt, hangs-child_id}
 use Rattle.tree_core.proofs.Moves.{HasChildren-unhang, HasChildren-still}
 use Rattle.tree_core.proofs.Groves.{IsGrove-unhang}
@@ -76,7 +76,7 @@ parent_id-live es id key h = by (row_at es id) h
   where
     at : (row : Row) (attached : Option (List ℕ × Cell)) → option_and_then (λ (s : List ℕ × Cell). id_named (nodes es) row.client s.0) attached ≡ Some key → is_some (row_at es key) ≡ true
     at row None k = absurd (cc)
-    at row (Some s) k = row_live es key ∙ named-live (nodes es) row.client s.0 key k
+    at row (Some s) k = row_at-named es row.client s.0 key k
 
     by : (o : Option Row) → option_and_then (λ (row : Row). option_and_then (λ (s : List ℕ × Cell). id_named (nodes es) row.client s.0) row.attached) o ≡ Some key → is_some (row_at es key) ≡ true
     by None k = absurd (cc)
@@ -90,4 +90,4 @@ root_id-live es id key h = by (row_at es id) h
   where
     by : (o : Option Row) → option_and_then (λ (row : Row). id_named (nodes es) row.client (root_of (rows_in es) row.client row.name)) o ≡ Some key → is_some (row_at es key) ≡ true
     by None k = absurd (cc)
-    by (Some row) k = row_live es key ∙ named-live (nodes es) row.client (root_of (rows_in es) row.client row.name) key k
+    by (Some row) k = row_at-named es row.client (root_of (rows_in es) row.client row.name) key k

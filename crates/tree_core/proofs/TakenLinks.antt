@@ -16,7 +16,7 @@ use Rattle.tree_core.specs.Children.{rows_in, widgets_in, HasChildren}
 use Rattle.tree_core.specs.Kept.{IsGrove}
 use Rattle.row_store.proofs.Options.{none_or_some}
 use Rattle.tree_core.proofs.ForestLemmas.{kind_named-row}
-use Rattle.tree_core.proofs.Listed.{all_at}
+use Rattle.widget_model.proofs.Hanging.{all_at}
 use Rattle.row_store.proofs.Taken.{row_at-filter}
 use Rattle.tree_core.proofs.Children.{HangsAt, child_id-hangs, hangs-child_id}
 use Rattle.row_store.proofs.Options.{option_same}

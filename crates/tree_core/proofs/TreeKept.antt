@@ -20,7 +20,8 @@ use Rattle.row_store.specs.Index.{IsIndexed}
 use Rattle.tree_core.specs.Kept.{IsGrove, IsTree}
 use Rattle.tree_core.specs.Refusals.{add_refusal}
 use Rattle.row_store.proofs.Options.{none_or_some}
-use Rattle.tree_core.proofs.Listed.{all_at, numbered_place}
+use Rattle.widget_model.proofs.Hanging.{all_at}
+use Rattle.tree_core.proofs.Listed.{numbered_place}
 use Rattle.row_store.proofs.Nodes.{nodes-with_row, nodes-push, node_at-nodes}
 use Rattle.tree_core.proofs.ForestLemmas.{live-with_row, ties-with_row, linked-with_link, linked-push, IsForest-join, IsForest-push, no_refusal, joined_in_range}
 use Rattle.tree_core.proofs.Groves.{IsGrove-leaves}

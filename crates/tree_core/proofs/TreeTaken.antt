@@ -21,7 +21,8 @@ use Rattle.widget_model.proofs.Naming.{rows-without_row, id_named-row}
 use Rattle.tree_core.specs.Children.{rows_in, widgets_in, HasChildren}
 use Rattle.row_store.specs.Index.{IsIndexed}
 use Rattle.tree_core.specs.Kept.{IsGrove, IsTree}
-use Rattle.tree_core.proofs.Listed.{any_at, numbered_place, row_named-row}
+use Rattle.widget_model.proofs.Hanging.{none_at}
+use Rattle.tree_core.proofs.Listed.{numbered_place, row_named-row}
 use Rattle.tree_core.proofs.Children.{HangsAt, child_id-hangs, own_number}
 use Rattle.widget_model.proofs.FitFilms.{HaveFitFilms-filter}
 use Rattle.widget_model.proofs.Planting.{IsPlanted-remove}
@@ -62,14 +63,6 @@ IsTree-kept clients joined names new_names test es cells new_cells tree left =
 -- the rows that are left are a grove again
 pub IsGrove-kept : (test : ℕ → Bool) (es : List (ℕ × Row)) → IsGrove es → IsPlanted (rows_in (kept test es)) → IsGrove (kept test es)
 IsGrove-kept test es grove planted = record { own_numbers = own_numbers-kept test es grove.own_numbers; own_names = own_names-kept test es grove.own_names; planted = planted }
-
--- what isn't found passes nowhere
-none_at : {X : Type 0} (p : X → Bool) (xs : List X) (i : ℕ) (x : X) → list_any p xs ≡ false → slice_get xs i ≡ Some x → p x ≡ false
-none_at p xs i x h there = by (p x) refl
-  where
-    by : (b : Bool) → p x ≡ b → b ≡ false
-    by true q = absurd (true≢false (sym (any_at p xs i x there q) ∙ h))
-    by false q = refl
 
 -- a row that isn't used
 pub record IsFree (es : List (ℕ × Row)) (id : ℕ) (row : Row) : Type 0 where

@@ -9,3 +9,4 @@ pub mod FittingValues
 pub mod Fit
 pub mod FitFilms
 pub mod Slots
+pub mod Leaves

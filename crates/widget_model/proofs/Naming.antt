@@ -47,7 +47,7 @@ row_at-absent (e ∷ es) id h = by (row_at-absent es id) (nat_eq id e.0) h
     by rest false h = rest h
 
 -- the number that a name has is a row's
-row_at-named : (es : List (ℕ × Row)) (client : ℕ) (name : List ℕ) (id : ℕ) → id_named (nodes es) client name ≡ Some id → is_some (row_at es id) ≡ true
+pub row_at-named : (es : List (ℕ × Row)) (client : ℕ) (name : List ℕ) (id : ℕ) → id_named (nodes es) client name ≡ Some id → is_some (row_at es id) ≡ true
 row_at-named [] client name id found = absurd (cc)
 row_at-named (e ∷ es) client name id found = by (row_at-named es client name id) (has_name client name e.1) found
   where

@@ -1,10 +1,10 @@
 use Rattle.std.proofs.Common.{rules, sym, ◌∙◌}
-use Rattle.row_store.proofs.Nodes.{named-live, row_live}
+use Rattle.widget_model.proofs.Naming.{row_at-named}
 use Rattle.tree_core.proofs.Ways.{parent_of-found, parent_of-none}
 use Rattle.tree_core.proofs.going_up.parent_of.Goals as goal
 
 pub row-requires : goal.row-requires
-row-requires c = row_live c.args.store.now c.in-Some.id ∙ named-live _ c.args.client c.args.name.now c.in-Some.id (sym c.number_of.ensures ∙ c.in-Some.is)
+row-requires c = row_at-named c.args.store.now c.args.client c.args.name.now c.in-Some.id (sym c.number_of.ensures ∙ c.in-Some.is)
 
 pub returns-in-Some-attached : goal.returns-in-Some-attached
 returns-in-Some-attached c =
