@@ -14,7 +14,6 @@ use Rattle.widget_model.specs.Nodes.{node_of}
 use Rattle.desk_model.specs.Refusals.{first_refusal}
 use Rattle.desk_model.specs.AttrOptions.{told, attr_refusal, with_attrs}
 use Rattle.widget_model.specs.Widgets.{Widgets, edited}
-use Rattle.widget_model.specs.Fitting.{fits_rules}
 use Rattle.desk_core.proofs.Edits.{edited-edited}
 
 -- where nothing is refused, no option is
@@ -52,7 +51,3 @@ edited-with_attrs_more w id xs i d within =
 pub node_of-with_attrs : (xs : List (Attr × value.Value)) (row : Row) → node_of (with_attrs xs row) ≡ node_of row
 node_of-with_attrs [] row = refl
 node_of-with_attrs (o ∷ os) row = node_of-with_attrs os (with_attr o.0 o.1 row)
-
-pub fits_rules-with_attrs : (xs : List (Attr × value.Value)) (row : Row) → fits_rules (with_attrs xs row) ≡ fits_rules row
-fits_rules-with_attrs [] row = refl
-fits_rules-with_attrs (o ∷ os) row = fits_rules-with_attrs os (with_attr o.0 o.1 row)

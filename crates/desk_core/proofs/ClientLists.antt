@@ -1,12 +1,13 @@
 -- The connected clients: there are at most 16, and which is the least that is free.
 use Rattle.std.proofs.Common.{◌≡◌, ℕ, suc, ◌+◌, ◌-◌, ◌<◌, ◌≤◌, Bool, true, false, cond, nat_eq, nat_le, List, [], ◌∷◌, ◌++◌, length, Some, refl, sym, ap, ◌∙◌, arith}
-use Rattle.std.proofs.lemmas.Bool.{leb-true, le-leb, and_parts, and_from, or_parts, or_from}
+use Rattle.std.proofs.lemmas.Bool.{leb-true, le-leb, and_parts, and_from}
 use Rattle.std.proofs.lemmas.List.Folds.{list_all-append}
 use Rattle.std.proofs.lemmas.List.FromFn.{length-range_with_len}
 use Rattle.std.specs.Cmp.{nat_eq_equiv}
 use Rattle.std.specs.List.{list_all, range_with_len}
 use Rattle.stack_core.specs.Stack.{holds_key, AreDistinct}
 use Rattle.desk_model.specs.Clients.{free_from}
+use Rattle.desk_model.proofs.Clients.{AreConnectedOnce-push}
 use Rattle.desk_model.specs.DeskFacts.{AreConnectedOnce}
 use Rattle.widget_model.specs.Forest.{is_client}
 use Rattle.widget_model.specs.Widgets.{is_joined}
@@ -47,34 +48,16 @@ room_for_one clients client kept low high new =
     } in
     omega (arith, at_most_16 (client ∷ clients) all)
 
--- one that isn't there is the last that is there once
-once-push : (clients : List ℕ) (client : ℕ) → AreConnectedOnce clients → is_joined clients client ≡ false → AreConnectedOnce (clients ++ client ∷ [])
-once-push [] client once absent = (refl, tt)
-once-push (c ∷ cs) client once absent =
-    let apart = or_parts (nat_eq client c) (is_joined cs client) absent in
-    (others cs c client once.0 (nat_eq_equiv.symm c client ∙ apart.0), once-push cs client once.1 apart.1)
-  where
-    others : (cs : List ℕ) (c client : ℕ) → is_joined cs c ≡ false → nat_eq c client ≡ false → is_joined (cs ++ client ∷ []) c ≡ false
-    others [] c client h differ = rw differ refl
-    others (d ∷ ds) c client h differ =
-        let parts = or_parts (nat_eq c d) (is_joined ds c) h in
-        or_from _ _ parts.0 (others ds c client parts.1 differ)
-
 pub IsJoined-push : (clients : List ℕ) (client : ℕ) → IsJoined clients → 1 ≤ client → client ≤ 16 → is_joined clients client ≡ false → IsJoined (clients ++ client ∷ [])
 IsJoined-push clients client kept low high new =
     record {
       range = list_all-append is_client clients (client ∷ []) ∙ rw (kept.range, le-leb 1 client low, le-leb client 16 high) refl;
-      once = once-push clients client kept.once new;
+      once = AreConnectedOnce-push clients client kept.once new;
     }
 
 -- from a client on, the least free one is it, or is further on
 step_from : (clients : List ℕ) (client many : ℕ) (b : Bool) → is_joined clients client ≡ b → free_from (suc many) client clients ≡ cond b (free_from many (client + 1) clients) (Some client)
 step_from clients client many b p = rw p refl
-
-pub free_here : (clients : List ℕ) (client : ℕ) → client < 17 → is_joined clients client ≡ false → free_from (17 - client) client clients ≡ Some client
-free_here clients client high free =
-    let more : 17 - client ≡ suc (16 - client) = omega arith in
-    ap (λ many. free_from many client clients) more ∙ step_from clients client (16 - client) false free
 
 pub free_further : (clients : List ℕ) (client : ℕ) → client < 17 → is_joined clients client ≡ true → free_from (17 - client) client clients ≡ free_from (17 - (client + 1)) (client + 1) clients
 free_further clients client high taken =

@@ -17,7 +17,6 @@ pub mod PlaceSteps
 pub mod LiftSteps
 pub mod DropSteps
 pub mod Departures
-pub mod Linked
 pub mod ByeChanges
 mod InWindows
 mod PointerKept

@@ -21,7 +21,6 @@ use Rattle.desk_model.specs.Refusals.{when, first_refusal, outcome, unless_there
 use Rattle.desk_model.specs.AttrOptions.{attrs_refusal}
 use Rattle.desk_model.specs.WidgetCommands.{reply_with, set_effect, new_refusal, new_effect, step_new, step_set, step_get}
 use Rattle.widget_model.proofs.Naming.{rows, rows-push, count_of-nodes}
-use Rattle.widget_model.specs.Fitting.{fits_rules}
 use Rattle.desk_model.specs.Refusals.{is_memory}
 use Rattle.desk_core.specs.Effects.{Did, with_rows}
 use Rattle.desk_core.specs.TreeRefusals.{refusal_of_add}
@@ -74,10 +73,6 @@ node_at-push (e ∷ es) id row other there = by (node_at-push es id row other) (
     by : (is_some (node_at (nodes es) other) ≡ true → node_at (nodes (es ++ (id, row) ∷ [])) other ≡ node_at (nodes es) other) → (b : Bool) → is_some (cond b (Some (node_of e.1)) (node_at (nodes es) other)) ≡ true → cond b (Some (node_of e.1)) (node_at (nodes (es ++ (id, row) ∷ [])) other) ≡ cond b (Some (node_of e.1)) (node_at (nodes es) other)
     by rest true h = refl
     by rest false h = rest h
-
-fits_rules-new_row : (client : ℕ) (name : List ℕ) (kind : Kind) → fits_rules (new_row client name kind) ≡ true
-unfolding new_row
-fits_rules-new_row client name kind = refl
 
 pub make_did : (w new : Widgets) (client : ℕ) (name : List ℕ) (kind : Kind) (id : ℕ) (reply : Reply) → reply ≡ Done → new ≡ with_new id (new_row client name kind) w → add_refusal (nodes w.entries) client name kind ≡ None → Did (λ desk. step_new desk client name kind (is_memory reply)) w new reply
 unfolding refusal_with

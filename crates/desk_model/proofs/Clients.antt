@@ -13,7 +13,7 @@ use Rattle.desk_model.specs.DeskFacts.{AreConnectedOnce}
 use Rattle.widget_model.proofs.Hanging.{all_at, all_from}
 use Rattle.desk_model.proofs.Sound.{AreRows, IsSound}
 
-AreConnectedOnce-push : (clients : List ℕ) (client : ℕ) → AreConnectedOnce clients → is_joined clients client ≡ false → AreConnectedOnce (clients ++ client ∷ [])
+pub AreConnectedOnce-push : (clients : List ℕ) (client : ℕ) → AreConnectedOnce clients → is_joined clients client ≡ false → AreConnectedOnce (clients ++ client ∷ [])
 AreConnectedOnce-push [] client once new = (refl, tt)
 AreConnectedOnce-push (first ∷ clients) client once new =
     let apart = or_parts (nat_eq client first) (is_joined clients client) new in

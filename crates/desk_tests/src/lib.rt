@@ -6,8 +6,8 @@ mod asking;
 #[cfg(test)]
 mod clients;
 #[cfg(test)]
-mod hanging;
-#[cfg(test)]
-mod making;
+mod placement;
 #[cfg(test)]
 mod refusals;
+#[cfg(test)]
+mod widgets;
