@@ -3,8 +3,10 @@
 use Rattle.std.proofs.Common.{◌≡◌, ℕ, Bool, true, not, is_none, List, [], ◌∷◌, Option, Some, None, refl, ap, subst, arith}
 use Rattle.std.proofs.lemmas.Bool.{not-false}
 use Rattle.std.proofs.lemmas.Option.{same_Some}
+use Rattle.std.specs.Prelude.{IfSome}
+use Rattle.std.specs.Option.{option_map}
 use Rattle.cmd_words.specs.declared.commands.Command.{Command}
-use Rattle.cmd_words.specs.declared.commands.Command.TheVariants.{New, Set, Get, Place, Lift, ColumnConfig, RowConfig, Link, Unlink, Bind, Unbind, OpenWindow, CloseWindow, TopWindow, Mode, Admit, Leave, SendFrame, DropWidget, Poll}
+use Rattle.cmd_words.specs.declared.commands.Command.TheVariants.{New, Set, Get, Place, Lift, ColumnConfig, RowConfig, Link, Unlink, Bind, Unbind, OpenWindow, DropWidget}
 use Rattle.cmd_words.specs.declared.replies.Reply.{Reply}
 use Rattle.cmd_words.specs.declared.replies.Reply.TheVariants.{Done}
 use Rattle.cmd_words.specs.declared.replies.Refusal.{Refusal}
@@ -13,21 +15,20 @@ use Rattle.kind_core.specs.declared.shapes.Shape.{Shape}
 use Rattle.scene_model.specs.Shapes.{IsShape}
 use Rattle.widget_model.specs.Forest.{is_client}
 use Rattle.desk_model.specs.Desk.{Desk, opening_desk, is_connected}
-use Rattle.desk_model.specs.Refusing.{when, first_refusal, outcome}
-use Rattle.desk_model.specs.Ending.{let_go, event_end}
+use Rattle.desk_model.specs.Refusals.{when, first_refusal, outcome}
+use Rattle.desk_model.specs.LetGo.{let_go, event_end}
 use Rattle.desk_model.specs.Clients.{with_client, without_client, free_client, hello_effect, step_connect, step_hello, step_bye}
-use Rattle.desk_model.specs.Making.{step_new, step_set, step_get, step_drop}
-use Rattle.desk_model.specs.Hanging.{step_place, step_lift, step_column, step_line}
-use Rattle.desk_model.specs.Linking.{step_link, step_unlink, step_bind, step_open}
-use Rattle.desk_model.specs.Commands.{asked, step}
+use Rattle.scene_model.specs.declared.axis.Axis.TheVariants.{Across, Down}
+use Rattle.desk_model.specs.Commands.{row_of, asked, step}
 use Rattle.desk_model.specs.DeskFacts.{IsDesk}
 use Rattle.desk_model.proofs.Sound.{IsSound, IsSound-desk, IsDesk-sound, IsDesk-let_go, IsSound-outcome}
 use Rattle.desk_model.proofs.Refusals.{passed, when-none}
-use Rattle.desk_model.proofs.Connecting.{IsSound-with_client, free_client-is_client}
+use Rattle.desk_model.proofs.Clients.{IsSound-with_client, free_client-is_client}
 use Rattle.desk_model.proofs.KeptOut.{IsSound-without_client}
-use Rattle.desk_model.proofs.KeptMaking.{IsSound-new, IsSound-set, IsSound-get, IsSound-drop}
-use Rattle.desk_model.proofs.KeptHanging.{IsSound-place, IsSound-lift, IsSound-column, IsSound-line}
-use Rattle.desk_model.proofs.KeptLinking.{IsSound-link, IsSound-unlink, IsSound-bind, IsSound-open}
+use Rattle.desk_model.proofs.KeptWidgets.{IsSound-new, IsSound-set, IsSound-get, IsSound-drop}
+use Rattle.desk_model.proofs.KeptPlacement.{IsSound-place, IsSound-lift}
+use Rattle.desk_model.proofs.KeptTracks.{IsSound-track}
+use Rattle.desk_model.proofs.KeptLinks.{IsSound-link, IsSound-unlink, IsSound-bind, IsSound-open}
 
 IsSound-opening : (shape : Shape) → IsShape shape → IsSound (opening_desk shape)
 IsSound-opening shape is =
@@ -45,7 +46,7 @@ IsSound-opening shape is =
         linked_by_kind = refl;
         fitting = refl;
         rules = refl;
-        places = refl;
+        slots = refl;
       };
       windows = record { there = refl; once = tt };
     }
@@ -91,33 +92,33 @@ IsDesk-bye desk client kept =
     refusal : Option Refusal
     refusal = when (not (is_connected desk client)) NotConnected
 
--- A row that leaves a sound desk where the client is connected leaves a whole one at the end of the step.
-IsDesk-asked : (row : Desk → ℕ → Bool → Reply × Desk) (desk : Desk) (client : ℕ) (short : Bool) (reply : Reply) (next : Desk) → IsDesk desk → Some (event_end (asked row desk client short)) ≡ Some (reply, next) → (IsSound desk → is_connected desk client ≡ true → IsSound (row desk client short).1) → IsDesk next
-IsDesk-asked row desk client short reply next kept answered keeps =
-    let sound = IsSound-desk desk kept in
-    let done : IsSound (asked row desk client short).1 =
-    IsSound-outcome desk (when (not (is_connected desk client)) NotConnected) (row desk client short) sound (λ none. keeps sound (not-false (is_connected desk client) (when-none (not (is_connected desk client)) NotConnected none))) in
-    subst IsDesk (ap (λ (done : Reply × Desk). done.1) (same_Some (event_end (asked row desk client short)) (reply, next) answered)) (IsDesk-let_go (asked row desk client short).1 done)
+-- each row leaves a sound desk where the client is connected
+IsSound-row : (desk : Desk) (client : ℕ) (command : Command) (short : Bool) → IsSound desk → is_connected desk client ≡ true → IfSome (row_of command) (λ row. IsSound (row desk client short).1)
+IsSound-row desk client (New name kind) short sound joined = IsSound-new desk client name kind short sound joined
+IsSound-row desk client (Set name options) short sound joined = IsSound-set desk client name options sound
+IsSound-row desk client (Get name attr) short sound joined = IsSound-get desk client name attr sound
+IsSound-row desk client (Place parent child options) short sound joined = IsSound-place desk client parent child options sound
+IsSound-row desk client (Lift parent child) short sound joined = IsSound-lift desk client parent child sound
+IsSound-row desk client (ColumnConfig name index options) short sound joined = IsSound-track Across desk client name index options sound
+IsSound-row desk client (RowConfig name index options) short sound joined = IsSound-track Down desk client name index options sound
+IsSound-row desk client (Link name variable) short sound joined = IsSound-link desk client name variable sound
+IsSound-row desk client (Unlink name) short sound joined = IsSound-unlink desk client name sound
+IsSound-row desk client (Bind name event tag) short sound joined = IsSound-bind desk client name event (Some tag) sound
+IsSound-row desk client (Unbind name event) short sound joined = IsSound-bind desk client name event None sound
+IsSound-row desk client (OpenWindow name) short sound joined = IsSound-open desk client name sound
+IsSound-row desk client (DropWidget name) short sound joined = IsSound-drop desk client name sound
+IsSound-row desk client _ short sound joined = tt
 
 pub IsDesk-command : (desk : Desk) (client : ℕ) (command : Command) (short : Bool) (reply : Reply) (next : Desk) → IsDesk desk → step desk client command short ≡ Some (reply, next) → IsDesk next
 unfolding step
-IsDesk-command desk client (New name kind) short reply next kept is = IsDesk-asked (λ desk client short. step_new desk client name kind short) desk client short reply next kept is (λ sound joined. IsSound-new desk client name kind short sound joined)
-IsDesk-command desk client (Set name options) short reply next kept is = IsDesk-asked (λ desk client short. step_set desk client name options) desk client short reply next kept is (λ sound joined. IsSound-set desk client name options sound)
-IsDesk-command desk client (Get name attr) short reply next kept is = IsDesk-asked (λ desk client short. step_get desk client name attr) desk client short reply next kept is (λ sound joined. IsSound-get desk client name attr sound)
-IsDesk-command desk client (Place parent child options) short reply next kept is = IsDesk-asked (λ desk client short. step_place desk client parent child options) desk client short reply next kept is (λ sound joined. IsSound-place desk client parent child options sound)
-IsDesk-command desk client (Lift parent child) short reply next kept is = IsDesk-asked (λ desk client short. step_lift desk client parent child) desk client short reply next kept is (λ sound joined. IsSound-lift desk client parent child sound)
-IsDesk-command desk client (ColumnConfig name index options) short reply next kept is = IsDesk-asked (λ desk client short. step_column desk client name index options) desk client short reply next kept is (λ sound joined. IsSound-column desk client name index options sound)
-IsDesk-command desk client (RowConfig name index options) short reply next kept is = IsDesk-asked (λ desk client short. step_line desk client name index options) desk client short reply next kept is (λ sound joined. IsSound-line desk client name index options sound)
-IsDesk-command desk client (Link name variable) short reply next kept is = IsDesk-asked (λ desk client short. step_link desk client name variable) desk client short reply next kept is (λ sound joined. IsSound-link desk client name variable sound)
-IsDesk-command desk client (Unlink name) short reply next kept is = IsDesk-asked (λ desk client short. step_unlink desk client name) desk client short reply next kept is (λ sound joined. IsSound-unlink desk client name sound)
-IsDesk-command desk client (Bind name event tag) short reply next kept is = IsDesk-asked (λ desk client short. step_bind desk client name event (Some tag)) desk client short reply next kept is (λ sound joined. IsSound-bind desk client name event (Some tag) sound)
-IsDesk-command desk client (Unbind name event) short reply next kept is = IsDesk-asked (λ desk client short. step_bind desk client name event None) desk client short reply next kept is (λ sound joined. IsSound-bind desk client name event None sound)
-IsDesk-command desk client (OpenWindow name) short reply next kept is = IsDesk-asked (λ desk client short. step_open desk client name) desk client short reply next kept is (λ sound joined. IsSound-open desk client name sound)
-IsDesk-command desk client (DropWidget name) short reply next kept is = IsDesk-asked (λ desk client short. step_drop desk client name) desk client short reply next kept is (λ sound joined. IsSound-drop desk client name sound)
-IsDesk-command desk client (CloseWindow name) short reply next kept is = absurd (cc)
-IsDesk-command desk client (TopWindow name) short reply next kept is = absurd (cc)
-IsDesk-command desk client (Mode name w h) short reply next kept is = absurd (cc)
-IsDesk-command desk client (Admit name period) short reply next kept is = absurd (cc)
-IsDesk-command desk client (Leave name) short reply next kept is = absurd (cc)
-IsDesk-command desk client (SendFrame name size) short reply next kept is = absurd (cc)
-IsDesk-command desk client Poll short reply next kept is = absurd (cc)
+IsDesk-command desk client command short reply next kept stepped = by (row_of command) (IsSound-row desk client command short sound) stepped
+  where
+    sound : IsSound desk
+    sound = IsSound-desk desk kept
+
+    by : (row : Option (Desk → ℕ → Bool → Reply × Desk)) → (is_connected desk client ≡ true → IfSome row (λ row. IsSound (row desk client short).1)) → option_map (λ row. event_end (asked row desk client short)) row ≡ Some (reply, next) → IsDesk next
+    by None keeps is = absurd (cc)
+    by (Some row) keeps is =
+        let done : IsSound (asked row desk client short).1 =
+        IsSound-outcome desk (when (not (is_connected desk client)) NotConnected) (row desk client short) sound (λ none. keeps (not-false (is_connected desk client) (when-none (not (is_connected desk client)) NotConnected none))) in
+        subst IsDesk (ap (λ (done : Reply × Desk). done.1) (same_Some (event_end (asked row desk client short)) (reply, next) is)) (IsDesk-let_go (asked row desk client short).1 done)

@@ -11,10 +11,10 @@ use Rattle.widget_model.specs.Rows.{Row}
 use Rattle.widget_model.specs.Nodes.{any_kind, counts_with}
 use Rattle.widget_model.specs.Named.{has_name, row_named, rows_counted, is_kind_of}
 use Rattle.widget_model.specs.Widgets.{is_joined}
-use Rattle.widget_model.specs.Fitting.{fits_table, fits_rules}
+use Rattle.widget_model.specs.Fitting.{fits_table, fits_rules, has_slots}
 use Rattle.desk_model.specs.Desk.{Desk}
 use Rattle.widget_model.specs.Kinds.{is_variable_kind, is_window_kind}
-use Rattle.desk_model.specs.DeskFacts.{links_right, links_by_kind, has_places}
+use Rattle.desk_model.specs.DeskFacts.{links_right, links_by_kind}
 use Rattle.widget_model.specs.Named.{AreNamedApart}
 use Rattle.widget_model.proofs.Hanging.{all_at, all_from, find_none_at, find_none_from, IsNamed-from, has_name-own}
 use Rattle.widget_model.proofs.Planting.{IsPlanted-push}
@@ -30,7 +30,7 @@ pub record IsNew (clients : List ℕ) (rows : List Row) (row : Row) : Type 0 whe
   pub unlinked : row.link ≡ None
   pub fitting : fits_table row ≡ true
   pub rules : fits_rules row ≡ true
-  pub places : has_places row ≡ true
+  pub slots : has_slots row ≡ true
 
 all-push : {X : Type 0} (p : X → Bool) (xs : List X) (x : X) → list_all p xs ≡ true → p x ≡ true → list_all p (xs ++ x ∷ []) ≡ true
 all-push p xs x all last = list_all-append p xs (x ∷ []) ∙ and_from _ _ all (and_from _ _ last refl)
@@ -102,7 +102,7 @@ AreRows-push clients rows row kept new =
       linked_by_kind = all-push links_by_kind rows row kept.linked_by_kind (rw new.unlinked refl);
       fitting = all-push fits_table rows row kept.fitting new.fitting;
       rules = all-push fits_rules rows row kept.rules new.rules;
-      places = all-push has_places rows row kept.places new.places;
+      slots = all-push has_slots rows row kept.slots new.slots;
     }
 
 pub AreWindows-push : (rows : List Row) (row : Row) (windows : List (ℕ × List ℕ)) → AreWindows rows windows → AreWindows (rows ++ row ∷ []) windows

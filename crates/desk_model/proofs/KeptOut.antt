@@ -12,11 +12,11 @@ use Rattle.widget_model.specs.Named.{has_name, row_named, rows_counted, is_kind_
 use Rattle.widget_model.specs.Trees.{hangs, is_child, links_to, is_used}
 use Rattle.widget_model.specs.Widgets.{is_joined}
 use Rattle.widget_model.specs.Planted.{IsPlanted}
-use Rattle.widget_model.specs.Fitting.{fits_table, fits_rules}
+use Rattle.widget_model.specs.Fitting.{fits_table, fits_rules, has_slots}
 use Rattle.desk_model.specs.Desk.{Desk, is_window, is_open}
 use Rattle.desk_model.specs.Clients.{without_client}
 use Rattle.widget_model.specs.Kinds.{is_variable_kind, is_window_kind}
-use Rattle.desk_model.specs.DeskFacts.{AreConnectedOnce, AreOpenOnce, links_right, links_by_kind, has_places}
+use Rattle.desk_model.specs.DeskFacts.{AreConnectedOnce, AreOpenOnce, links_right, links_by_kind}
 use Rattle.widget_model.specs.Named.{AreNamedApart}
 use Rattle.widget_model.proofs.Hanging.{all_at, all_from, none_at, all-filter, IsNamed-row_named, row_named-filter}
 use Rattle.desk_model.proofs.OthersRows.{list_any-without_other}
@@ -92,7 +92,7 @@ AreRows-filter test clients later rows closed kept =
       linked_by_kind = all-kept links_by_kind keeps rows kept.linked_by_kind;
       fitting = all-kept fits_table keeps rows kept.fitting;
       rules = all-kept fits_rules keeps rows kept.rules;
-      places = all-kept has_places keeps rows kept.places;
+      slots = all-kept has_slots keeps rows kept.slots;
     }
   where
     keeps : Row → Bool

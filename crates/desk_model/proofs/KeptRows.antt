@@ -10,11 +10,12 @@ use Rattle.widget_model.specs.Nodes.{any_kind, counts_with}
 use Rattle.widget_model.specs.Named.{has_name, row_named, with_named, rows_counted, is_kind_of}
 use Rattle.widget_model.specs.Widgets.{is_joined}
 use Rattle.widget_model.specs.Planted.{IsPlanted}
-use Rattle.widget_model.specs.Fitting.{fits_table, fits_rules}
+use Rattle.widget_model.specs.Fitting.{fits_table, fits_rules, has_slots}
 use Rattle.desk_model.specs.Desk.{Desk}
 use Rattle.widget_model.specs.Kinds.{is_variable_kind, is_window_kind}
-use Rattle.desk_model.specs.DeskFacts.{links_right, links_by_kind, has_places}
+use Rattle.desk_model.specs.DeskFacts.{links_right, links_by_kind}
 use Rattle.widget_model.specs.Named.{AreNamedApart}
+use Rattle.widget_model.proofs.Planting.{LeavesPlace, IsPlanted-change}
 use Rattle.widget_model.proofs.Hanging.{all_at, all_from, LeavesNames, changed, row_named-map, row_named-only}
 use Rattle.desk_model.proofs.Sound.{AreRows, names_window, AreWindows, IsSound}
 
@@ -99,7 +100,20 @@ pub record Suits (rows : List Row) (client : ℕ) (name : List ℕ) (row : Row) 
   pub linked_by_kind : links_by_kind row ≡ true → links_by_kind (change row) ≡ true
   pub fitting : fits_table row ≡ true → fits_table (change row) ≡ true
   pub rules : fits_rules row ≡ true → fits_rules (change row) ≡ true
-  pub places : has_places row ≡ true → has_places (change row) ≡ true
+  pub slots : has_slots row ≡ true → has_slots (change row) ≡ true
+
+-- a change that leaves how the row hangs and what it is linked to
+pub Suits-change : (rows : List Row) (client : ℕ) (name : List ℕ) (row : Row) (change : Row → Row) → LeavesPlace change → ((row : Row) → (change row).link ≡ row.link) → IsPlanted rows → (fits_table row ≡ true → fits_table (change row) ≡ true) → (fits_rules row ≡ true → fits_rules (change row) ≡ true) → (has_slots row ≡ true → has_slots (change row) ≡ true) → Suits rows client name row change
+Suits-change rows client name row change leaves link planted fitting rules slots =
+    record {
+      leaves = record { client = leaves.client; name = leaves.name; kind = leaves.kind };
+      planted = IsPlanted-change rows client name change leaves planted;
+      linked = λ h. rw (leaves.client row, link row) h;
+      linked_by_kind = λ h. rw (leaves.kind row, link row) h;
+      fitting = fitting;
+      rules = rules;
+      slots = slots;
+    }
 
 pub AreRows-with_named : (clients : List ℕ) (rows : List Row) (client : ℕ) (name : List ℕ) (row : Row) (change : Row → Row) → AreRows clients rows → row_named rows client name ≡ Some row → Suits rows client name row change → AreRows clients (with_named client name change rows)
 AreRows-with_named clients rows client name row change kept found suits =
@@ -117,7 +131,7 @@ AreRows-with_named clients rows client name row change kept found suits =
       linked_by_kind = each links_by_kind suits.linked_by_kind kept.linked_by_kind;
       fitting = each fits_table suits.fitting kept.fitting;
       rules = each fits_rules suits.rules kept.rules;
-      places = each has_places suits.places kept.places;
+      slots = each has_slots suits.slots kept.slots;
     }
   where
     leaves : LeavesNode (changed client name change)

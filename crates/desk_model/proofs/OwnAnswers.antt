@@ -2,11 +2,7 @@
 use Rattle.std.proofs.Common.{◌≡◌, ℕ, ℤ, Bool, nat_eq, List, Option, Some, None, refl, ap}
 use Rattle.std.specs.Option.{option_map}
 use Rattle.std.specs.Str.{bytes_eq}
-use Rattle.kind_core.specs.declared.kinds.Kind.{Kind}
-use Rattle.kind_core.specs.declared.kinds.Attr.{Attr}
 use Rattle.kind_core.specs.declared.kinds.EventKind.{EventKind}
-use Rattle.kind_core.specs.declared.values.Value as value
-use Rattle.cmd_words.specs.declared.commands.PlaceOption.{PlaceOption}
 use Rattle.cmd_words.specs.declared.commands.ConfigOption.{ConfigOption}
 use Rattle.cmd_words.specs.declared.commands.Command.{Command}
 use Rattle.cmd_words.specs.declared.commands.Command.TheVariants.{New, Set, Get, Place, Lift, ColumnConfig, RowConfig, Link, Unlink, Bind, Unbind, OpenWindow, DropWidget}
@@ -15,11 +11,16 @@ use Rattle.cmd_words.specs.declared.replies.Refusal.{Refusal}
 use Rattle.widget_model.specs.Nodes.{any_kind, counts_with}
 use Rattle.widget_model.specs.Trees.{most_levels}
 use Rattle.desk_model.specs.Desk.{Desk, is_open}
-use Rattle.desk_model.specs.Refusing.{outcome}
+use Rattle.desk_model.specs.Refusals.{outcome}
 use Rattle.desk_model.specs.PlaceOptions.{cell_given}
-use Rattle.desk_model.specs.Making.{new_refusal, set_refusal, get_refusal, get_effect, drop_refusal, new_effect, set_effect, drop_effect, step_new, step_set, step_get, step_drop}
-use Rattle.desk_model.specs.Hanging.{place_refusals, place_effect, lift_refusal, lift_effect, config_refusal, column_effect, line_effect, step_place, step_lift, step_column, step_line}
-use Rattle.desk_model.specs.Linking.{link_refusal, link_effect, unlink_refusal, unlink_effect, bind_refusal, bind_effect, open_refusal, open_effect, step_link, step_unlink, step_bind, step_open}
+use Rattle.desk_model.specs.WidgetCommands.{new_refusal, set_refusal, get_refusal, get_effect, drop_refusal, new_effect, set_effect, drop_effect, step_new, step_set, step_get, step_drop}
+use Rattle.desk_model.specs.Placement.{place_refusal, place_effect, lift_refusal, lift_effect, step_place, step_lift}
+use Rattle.desk_model.specs.Tracks.{track_refusal, track_effect, step_track}
+use Rattle.desk_model.specs.Links.{link_refusal, link_effect, unlink_refusal, unlink_effect, step_link, step_unlink}
+use Rattle.desk_model.specs.Bindings.{bind_refusal, bind_effect, step_bind}
+use Rattle.desk_model.specs.Windows.{open_refusal, open_effect, step_open}
+use Rattle.scene_model.specs.declared.axis.Axis.{Axis}
+use Rattle.scene_model.specs.declared.axis.Axis.TheVariants.{Across, Down}
 use Rattle.desk_model.specs.Commands.{row_of}
 use Rattle.desk_model.specs.OwnPart.{AgreeOn}
 use Rattle.widget_model.proofs.OwnRows.{list_any-agree, row_named-agree, rows_counted-agree, child_in-agree, depth_in-agree, is_above_in-agree, height_in-agree, named-is_used-agree}
@@ -35,85 +36,10 @@ is_open-agree : (client : ℕ) (name : List ℕ) (one two : Desk) → AgreeOn cl
 is_open-agree client name one two agree =
     list_any-agree (λ (window : ℕ × List ℕ). nat_eq client window.0) (λ (window : ℕ × List ℕ). bytes_eq name window.1) one.windows two.windows agree.windows
 
-answer-new : (one two : Desk) (client : ℕ) (name : List ℕ) (kind : Kind) (short : Bool) → AgreeOn client one two → (step_new one client name kind short).0 ≡ (step_new two client name kind short).0
-unfolding step_new
-answer-new one two client name kind short agree =
-    answer-outcome one two (new_refusal one client name kind short) (new_refusal two client name kind short) (new_effect one client name kind) (new_effect two client name kind) refusals refl
-  where
-    refusals : new_refusal one client name kind short ≡ new_refusal two client name kind short
-    refusals =
-        rw (
-          row_named-agree client name one.rows two.rows agree.rows,
-          rows_counted-agree client any_kind one.rows two.rows agree.rows,
-          rows_counted-agree client (counts_with kind) one.rows two.rows agree.rows,
-        ) refl
-
-answer-set : (one two : Desk) (client : ℕ) (name : List ℕ) (options : List (Attr × value.Value)) → AgreeOn client one two → (step_set one client name options).0 ≡ (step_set two client name options).0
-unfolding step_set
-answer-set one two client name options agree =
-    answer-outcome one two (set_refusal one client name options) (set_refusal two client name options) (set_effect one client name options) (set_effect two client name options)
-    (rw (row_named-agree client name one.rows two.rows agree.rows) refl) refl
-
-answer-get : (one two : Desk) (client : ℕ) (name : List ℕ) (attr : Attr) → AgreeOn client one two → (step_get one client name attr).0 ≡ (step_get two client name attr).0
-unfolding step_get
-answer-get one two client name attr agree =
-    answer-outcome one two (get_refusal one client name attr) (get_refusal two client name attr) (get_effect one client name attr) (get_effect two client name attr)
-    (rw (row_named-agree client name one.rows two.rows agree.rows) refl) (rw (row_named-agree client name one.rows two.rows agree.rows) refl)
-
-answer-drop : (one two : Desk) (client : ℕ) (name : List ℕ) → AgreeOn client one two → (step_drop one client name).0 ≡ (step_drop two client name).0
-unfolding step_drop
-answer-drop one two client name agree =
-    answer-outcome one two (drop_refusal one client name) (drop_refusal two client name) (drop_effect one client name) (drop_effect two client name)
-    (rw (named-is_used-agree client name one.rows two.rows agree.rows, row_named-agree client name one.rows two.rows agree.rows, is_open-agree client name one two agree) refl) refl
-
-answer-place : (one two : Desk) (client : ℕ) (parent child : List ℕ) (options : List (PlaceOption × ℤ)) → AgreeOn client one two → (step_place one client parent child options).0 ≡ (step_place two client parent child options).0
-unfolding step_place
-answer-place one two client parent child options agree =
-    answer-outcome one two (place_refusals one client parent child options) (place_refusals two client parent child options) (place_effect one client parent child options) (place_effect two client parent child options)
-    refusals refl
-  where
-    refusals : place_refusals one client parent child options ≡ place_refusals two client parent child options
-    refusals =
-        rw (
-          row_named-agree client parent one.rows two.rows agree.rows,
-          row_named-agree client child one.rows two.rows agree.rows,
-          is_above_in-agree most_levels client child parent one.rows two.rows agree.rows,
-          depth_in-agree most_levels client parent one.rows two.rows agree.rows,
-          height_in-agree most_levels client child one.rows two.rows agree.rows,
-          child_in-agree client parent (cell_given options).column (cell_given options).row one.rows two.rows agree.rows,
-        ) refl
-
-answer-lift : (one two : Desk) (client : ℕ) (parent child : List ℕ) → AgreeOn client one two → (step_lift one client parent child).0 ≡ (step_lift two client parent child).0
-unfolding step_lift
-answer-lift one two client parent child agree =
-    answer-outcome one two (lift_refusal one client parent child) (lift_refusal two client parent child) (lift_effect one client child) (lift_effect two client child)
-    (rw (row_named-agree client parent one.rows two.rows agree.rows, row_named-agree client child one.rows two.rows agree.rows) refl) refl
-
-config_refusal-agree : (one two : Desk) (client : ℕ) (name : List ℕ) (index : ℤ) (options : List (ConfigOption × ℤ)) → AgreeOn client one two → config_refusal one client name index options ≡ config_refusal two client name index options
-config_refusal-agree one two client name index options agree = rw (row_named-agree client name one.rows two.rows agree.rows) refl
-
-answer-column : (one two : Desk) (client : ℕ) (name : List ℕ) (index : ℤ) (options : List (ConfigOption × ℤ)) → AgreeOn client one two → (step_column one client name index options).0 ≡ (step_column two client name index options).0
-unfolding step_column
-answer-column one two client name index options agree =
-    answer-outcome one two (config_refusal one client name index options) (config_refusal two client name index options) (column_effect one client name index options) (column_effect two client name index options)
-    (config_refusal-agree one two client name index options agree) refl
-
-answer-line : (one two : Desk) (client : ℕ) (name : List ℕ) (index : ℤ) (options : List (ConfigOption × ℤ)) → AgreeOn client one two → (step_line one client name index options).0 ≡ (step_line two client name index options).0
-unfolding step_line
-answer-line one two client name index options agree =
-    answer-outcome one two (config_refusal one client name index options) (config_refusal two client name index options) (line_effect one client name index options) (line_effect two client name index options)
-    (config_refusal-agree one two client name index options agree) refl
-
-answer-link : (one two : Desk) (client : ℕ) (name variable : List ℕ) → AgreeOn client one two → (step_link one client name variable).0 ≡ (step_link two client name variable).0
-unfolding step_link
-answer-link one two client name variable agree =
-    answer-outcome one two (link_refusal one client name variable) (link_refusal two client name variable) (link_effect one client name variable) (link_effect two client name variable)
-    (rw (row_named-agree client name one.rows two.rows agree.rows, row_named-agree client variable one.rows two.rows agree.rows) refl) refl
-
-answer-unlink : (one two : Desk) (client : ℕ) (name : List ℕ) → AgreeOn client one two → (step_unlink one client name).0 ≡ (step_unlink two client name).0
-unfolding step_unlink
-answer-unlink one two client name agree =
-    answer-outcome one two (unlink_refusal one client name) (unlink_refusal two client name) (unlink_effect one client name) (unlink_effect two client name)
+answer-track : (axis : Axis) (one two : Desk) (client : ℕ) (name : List ℕ) (index : ℤ) (options : List (ConfigOption × ℤ)) → AgreeOn client one two → (step_track axis one client name index options).0 ≡ (step_track axis two client name index options).0
+unfolding step_track
+answer-track axis one two client name index options agree =
+    answer-outcome one two (track_refusal one client name index options) (track_refusal two client name index options) (track_effect axis one client name index options) (track_effect axis two client name index options)
     (rw (row_named-agree client name one.rows two.rows agree.rows) refl) refl
 
 answer-bind : (one two : Desk) (client : ℕ) (name : List ℕ) (event : EventKind) (tag : Option (List ℕ)) → AgreeOn client one two → (step_bind one client name event tag).0 ≡ (step_bind two client name event tag).0
@@ -122,25 +48,45 @@ answer-bind one two client name event tag agree =
     answer-outcome one two (bind_refusal one client name event) (bind_refusal two client name event) (bind_effect one client name event tag) (bind_effect two client name event tag)
     (rw (row_named-agree client name one.rows two.rows agree.rows) refl) refl
 
-answer-open : (one two : Desk) (client : ℕ) (name : List ℕ) → AgreeOn client one two → (step_open one client name).0 ≡ (step_open two client name).0
-unfolding step_open
-answer-open one two client name agree =
-    answer-outcome one two (open_refusal one client name) (open_refusal two client name) (open_effect one client name) (open_effect two client name)
-    (rw (row_named-agree client name one.rows two.rows agree.rows, is_open-agree client name one two agree) refl) refl
-
 -- each row
 pub answer-row : (one two : Desk) (client : ℕ) (command : Command) (short : Bool) → AgreeOn client one two → option_map (λ row. (row one client short).0) (row_of command) ≡ option_map (λ row. (row two client short).0) (row_of command)
-answer-row one two client (New name kind) short agree = ap Some (answer-new one two client name kind short agree)
-answer-row one two client (Set name options) short agree = ap Some (answer-set one two client name options agree)
-answer-row one two client (Get name attr) short agree = ap Some (answer-get one two client name attr agree)
-answer-row one two client (Place parent child options) short agree = ap Some (answer-place one two client parent child options agree)
-answer-row one two client (Lift parent child) short agree = ap Some (answer-lift one two client parent child agree)
-answer-row one two client (ColumnConfig name index options) short agree = ap Some (answer-column one two client name index options agree)
-answer-row one two client (RowConfig name index options) short agree = ap Some (answer-line one two client name index options agree)
-answer-row one two client (Link name variable) short agree = ap Some (answer-link one two client name variable agree)
-answer-row one two client (Unlink name) short agree = ap Some (answer-unlink one two client name agree)
+unfolding step_new step_set step_get step_drop step_place step_lift step_link step_unlink step_open
+answer-row one two client (New name kind) short agree =
+    ap Some (answer-outcome one two (new_refusal one client name kind short) (new_refusal two client name kind short) (new_effect one client name kind) (new_effect two client name kind)
+    (rw (row_named-agree client name one.rows two.rows agree.rows, rows_counted-agree client any_kind one.rows two.rows agree.rows, rows_counted-agree client (counts_with kind) one.rows two.rows agree.rows) refl) refl)
+answer-row one two client (Set name options) short agree =
+    ap Some (answer-outcome one two (set_refusal one client name options) (set_refusal two client name options) (set_effect one client name options) (set_effect two client name options)
+    (rw (row_named-agree client name one.rows two.rows agree.rows) refl) refl)
+answer-row one two client (Get name attr) short agree =
+    ap Some (answer-outcome one two (get_refusal one client name attr) (get_refusal two client name attr) (get_effect one client name attr) (get_effect two client name attr)
+    (rw (row_named-agree client name one.rows two.rows agree.rows) refl) (rw (row_named-agree client name one.rows two.rows agree.rows) refl))
+answer-row one two client (Place parent child options) short agree =
+    ap Some (answer-outcome one two (place_refusal one client parent child options) (place_refusal two client parent child options) (place_effect one client parent child options) (place_effect two client parent child options)
+    (rw (
+      row_named-agree client parent one.rows two.rows agree.rows,
+      row_named-agree client child one.rows two.rows agree.rows,
+      is_above_in-agree most_levels client child parent one.rows two.rows agree.rows,
+      depth_in-agree most_levels client parent one.rows two.rows agree.rows,
+      height_in-agree most_levels client child one.rows two.rows agree.rows,
+      child_in-agree client parent (cell_given options).column (cell_given options).row one.rows two.rows agree.rows,
+    ) refl) refl)
+answer-row one two client (Lift parent child) short agree =
+    ap Some (answer-outcome one two (lift_refusal one client parent child) (lift_refusal two client parent child) (lift_effect one client child) (lift_effect two client child)
+    (rw (row_named-agree client parent one.rows two.rows agree.rows, row_named-agree client child one.rows two.rows agree.rows) refl) refl)
+answer-row one two client (ColumnConfig name index options) short agree = ap Some (answer-track Across one two client name index options agree)
+answer-row one two client (RowConfig name index options) short agree = ap Some (answer-track Down one two client name index options agree)
+answer-row one two client (Link name variable) short agree =
+    ap Some (answer-outcome one two (link_refusal one client name variable) (link_refusal two client name variable) (link_effect one client name variable) (link_effect two client name variable)
+    (rw (row_named-agree client name one.rows two.rows agree.rows, row_named-agree client variable one.rows two.rows agree.rows) refl) refl)
+answer-row one two client (Unlink name) short agree =
+    ap Some (answer-outcome one two (unlink_refusal one client name) (unlink_refusal two client name) (unlink_effect one client name) (unlink_effect two client name)
+    (rw (row_named-agree client name one.rows two.rows agree.rows) refl) refl)
 answer-row one two client (Bind name event tag) short agree = ap Some (answer-bind one two client name event (Some tag) agree)
 answer-row one two client (Unbind name event) short agree = ap Some (answer-bind one two client name event None agree)
-answer-row one two client (OpenWindow name) short agree = ap Some (answer-open one two client name agree)
-answer-row one two client (DropWidget name) short agree = ap Some (answer-drop one two client name agree)
+answer-row one two client (OpenWindow name) short agree =
+    ap Some (answer-outcome one two (open_refusal one client name) (open_refusal two client name) (open_effect one client name) (open_effect two client name)
+    (rw (row_named-agree client name one.rows two.rows agree.rows, is_open-agree client name one two agree) refl) refl)
+answer-row one two client (DropWidget name) short agree =
+    ap Some (answer-outcome one two (drop_refusal one client name) (drop_refusal two client name) (drop_effect one client name) (drop_effect two client name)
+    (rw (named-is_used-agree client name one.rows two.rows agree.rows, row_named-agree client name one.rows two.rows agree.rows, is_open-agree client name one two agree) refl) refl)
 answer-row one two client _ short agree = refl

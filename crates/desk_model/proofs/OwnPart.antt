@@ -1,38 +1,39 @@
 -- What a client does leaves the others' part of the desk, and what it is answered depends on its own part alone.
-use Rattle.std.proofs.Common.{◌≡◌, ℕ, ℤ, Bool, true, false, cond, not, nat_eq, List, [], ◌∷◌, ◌++◌, Option, Some, None, ◌⊎◌, inl, inr, refl, sym, ap, ◌∙◌, subst}
+use Rattle.std.proofs.Common.{◌≡◌, ℕ, ℤ, Bool, true, false, cond, not, nat_eq, is_none, List, [], ◌∷◌, ◌++◌, Option, Some, None, ◌⊎◌, inl, inr, refl, sym, ap, ◌∙◌, subst}
 use Rattle.std.proofs.lemmas.Bool.{eqb-true}
 use Rattle.std.proofs.lemmas.Option.{some_pair_parts}
 use Rattle.std.specs.Prelude.{unsigned_abs, IfSome}
 use Rattle.std.specs.List.{filter}
 use Rattle.std.specs.Option.{option_map}
 use Rattle.std.specs.Str.{bytes_eq}
-use Rattle.kind_core.specs.declared.kinds.Kind.{Kind}
-use Rattle.kind_core.specs.declared.kinds.Attr.{Attr}
 use Rattle.kind_core.specs.declared.kinds.EventKind.{EventKind}
-use Rattle.kind_core.specs.declared.values.Value as value
-use Rattle.cmd_words.specs.declared.commands.PlaceOption.{PlaceOption}
 use Rattle.cmd_words.specs.declared.commands.ConfigOption.{ConfigOption}
 use Rattle.cmd_words.specs.declared.commands.Command.{Command}
 use Rattle.cmd_words.specs.declared.commands.Command.TheVariants.{New, Set, Get, Place, Lift, ColumnConfig, RowConfig, Link, Unlink, Bind, Unbind, OpenWindow, DropWidget}
 use Rattle.cmd_words.specs.declared.replies.Reply.{Reply}
 use Rattle.cmd_words.specs.declared.replies.Reply.TheVariants.{Done}
 use Rattle.cmd_words.specs.declared.replies.Refusal.{Refusal}
-use Rattle.cmd_words.specs.declared.replies.Refusal.TheVariants.{Memory, NotConnected, Connected}
+use Rattle.cmd_words.specs.declared.replies.Refusal.TheVariants.{Memory, Full, NotConnected, Connected}
 use Rattle.widget_model.specs.Rows.{Row, new_row, with_attached, with_link, with_binding}
 use Rattle.widget_model.specs.Named.{rows_of_others, with_named, without_named}
 use Rattle.widget_model.specs.Pointer.{Pointer, Grab, no_grab, on_widget, drags}
 use Rattle.desk_model.specs.Desk.{Desk, Admission, Ring, is_connected, is_open}
-use Rattle.desk_model.specs.Refusing.{when, first_refusal, outcome}
+use Rattle.desk_model.specs.Refusals.{when, first_refusal, outcome}
 use Rattle.desk_model.specs.AttrOptions.{with_attrs}
 use Rattle.desk_model.specs.PlaceOptions.{cell_given}
-use Rattle.desk_model.specs.Making.{new_refusal, set_refusal, get_refusal, get_effect, drop_refusal, new_effect, set_effect, drop_effect, step_new, step_set, step_get, step_drop}
-use Rattle.desk_model.specs.Hanging.{place_refusals, place_effect, lift_refusal, lift_effect, config_refusal, column_effect, line_effect, with_column, with_line, step_place, step_lift, step_column, step_line}
-use Rattle.desk_model.specs.Linking.{link_refusal, link_effect, unlink_refusal, unlink_effect, bind_refusal, bind_effect, open_refusal, open_effect, step_link, step_unlink, step_bind, step_open}
-use Rattle.desk_model.specs.Clients.{step_connect, step_bye, with_client, without_client}
+use Rattle.desk_model.specs.WidgetCommands.{new_refusal, set_refusal, get_refusal, get_effect, drop_refusal, new_effect, set_effect, drop_effect, step_new, step_set, step_get, step_drop}
+use Rattle.desk_model.specs.Placement.{place_refusal, place_effect, lift_refusal, lift_effect, step_place, step_lift}
+use Rattle.desk_model.specs.Tracks.{with_track, track_refusal, track_effect, step_track}
+use Rattle.desk_model.specs.Links.{link_refusal, link_effect, unlink_refusal, unlink_effect, step_link, step_unlink}
+use Rattle.desk_model.specs.Bindings.{bind_refusal, bind_effect, step_bind}
+use Rattle.desk_model.specs.Windows.{open_refusal, open_effect, step_open}
+use Rattle.scene_model.specs.declared.axis.Axis.{Axis}
+use Rattle.scene_model.specs.declared.axis.Axis.TheVariants.{Across, Down}
+use Rattle.desk_model.specs.Clients.{step_connect, step_hello, step_bye, with_client, without_client, free_client, hello_effect}
 use Rattle.desk_model.specs.Commands.{row_of, asked, step}
-use Rattle.desk_model.specs.Ending.{is_in_window, grab_left, focus_left, let_go, event_end}
+use Rattle.desk_model.specs.LetGo.{is_in_window, grab_left, focus_left, let_go, event_end}
 use Rattle.widget_model.specs.Trees.{root_of, most_levels}
-use Rattle.desk_model.specs.OwnPart.{own_windows, windows_of_others, IsGrabOf, IsFocusOf, LeavesPointer, reply_of, LeavesOthers, CommandsLeaveOthers, ConnectsLeaveOthers, ByesLeaveOthers, AnswersDependOnOwnPart, ConnectsDependOnOwnPart, ByesDependOnOwnPart}
+use Rattle.desk_model.specs.OwnPart.{own_windows, windows_of_others, IsGrabOf, IsFocusOf, LeavesPointer, reply_of, LeavesOthers, CommandsLeaveOthers, ConnectsLeaveOthers, HellosLeaveOthers, ByesLeaveOthers, AnswersDependOnOwnPart, ConnectsDependOnOwnPart, ByesDependOnOwnPart}
 use Rattle.widget_model.specs.Named.{own_rows}
 use Rattle.desk_model.proofs.OthersRows.{filter-filter, filter-within, rows_of_others-with_named, rows_of_others-without_named, rows_of_others-push, client-new_row, client-with_attrs, windows_of_others-cons, list_any-push_other, list_any-without_other}
 use Rattle.widget_model.proofs.OwnRows.{list_any-agree, root_in-agree}
@@ -73,100 +74,48 @@ LeavesApart-outcome client desk (Some refusal) effect leaves = LeavesApart-same 
 LeavesApart-with_named : (client : ℕ) (name : List ℕ) (change : Row → Row) (desk : Desk) → ((row : Row) → (change row).client ≡ row.client) → LeavesApart client desk (record desk { rows = with_named client name change desk.rows })
 LeavesApart-with_named client name change desk same = LeavesApart-rows client desk (with_named client name change desk.rows) (rows_of_others-with_named client name change desk.rows same)
 
-LeavesApart-new : (desk : Desk) (client : ℕ) (name : List ℕ) (kind : Kind) (short : Bool) → LeavesApart client desk (step_new desk client name kind short).1
-unfolding step_new
-LeavesApart-new desk client name kind short =
-    LeavesApart-outcome client desk (new_refusal desk client name kind short) (new_effect desk client name kind)
-    (LeavesApart-rows client desk (desk.rows ++ new_row client name kind ∷ []) (rows_of_others-push client desk.rows (new_row client name kind) (client-new_row client name kind)))
-
-LeavesApart-set : (desk : Desk) (client : ℕ) (name : List ℕ) (options : List (Attr × value.Value)) → LeavesApart client desk (step_set desk client name options).1
-unfolding step_set
-LeavesApart-set desk client name options =
-    LeavesApart-outcome client desk (set_refusal desk client name options) (set_effect desk client name options)
-    (LeavesApart-with_named client name (with_attrs options) desk (client-with_attrs options))
-
-LeavesApart-get : (desk : Desk) (client : ℕ) (name : List ℕ) (attr : Attr) → LeavesApart client desk (step_get desk client name attr).1
-unfolding step_get
-LeavesApart-get desk client name attr =
-    LeavesApart-outcome client desk (get_refusal desk client name attr) (get_effect desk client name attr) (LeavesApart-same client desk)
-
-LeavesApart-drop : (desk : Desk) (client : ℕ) (name : List ℕ) → LeavesApart client desk (step_drop desk client name).1
-unfolding step_drop
-LeavesApart-drop desk client name =
-    LeavesApart-outcome client desk (drop_refusal desk client name) (drop_effect desk client name)
-    (LeavesApart-rows client desk (without_named client name desk.rows) (rows_of_others-without_named client name desk.rows))
-
-LeavesApart-place : (desk : Desk) (client : ℕ) (parent child : List ℕ) (options : List (PlaceOption × ℤ)) → LeavesApart client desk (step_place desk client parent child options).1
-unfolding step_place
-LeavesApart-place desk client parent child options =
-    LeavesApart-outcome client desk (place_refusals desk client parent child options) (place_effect desk client parent child options)
-    (LeavesApart-with_named client child (with_attached (Some (parent, cell_given options))) desk (λ row. refl))
-
-LeavesApart-lift : (desk : Desk) (client : ℕ) (parent child : List ℕ) → LeavesApart client desk (step_lift desk client parent child).1
-unfolding step_lift
-LeavesApart-lift desk client parent child =
-    LeavesApart-outcome client desk (lift_refusal desk client parent child) (lift_effect desk client child)
-    (LeavesApart-with_named client child (with_attached None) desk (λ row. refl))
-
-LeavesApart-column : (desk : Desk) (client : ℕ) (name : List ℕ) (index : ℤ) (options : List (ConfigOption × ℤ)) → LeavesApart client desk (step_column desk client name index options).1
-unfolding step_column
-LeavesApart-column desk client name index options =
-    LeavesApart-outcome client desk (config_refusal desk client name index options) (column_effect desk client name index options)
-    (LeavesApart-with_named client name (with_column (unsigned_abs index) options) desk (λ row. refl))
-
-LeavesApart-line : (desk : Desk) (client : ℕ) (name : List ℕ) (index : ℤ) (options : List (ConfigOption × ℤ)) → LeavesApart client desk (step_line desk client name index options).1
-unfolding step_line
-LeavesApart-line desk client name index options =
-    LeavesApart-outcome client desk (config_refusal desk client name index options) (line_effect desk client name index options)
-    (LeavesApart-with_named client name (with_line (unsigned_abs index) options) desk (λ row. refl))
-
-LeavesApart-link : (desk : Desk) (client : ℕ) (name variable : List ℕ) → LeavesApart client desk (step_link desk client name variable).1
-unfolding step_link
-LeavesApart-link desk client name variable =
-    LeavesApart-outcome client desk (link_refusal desk client name variable) (link_effect desk client name variable)
-    (LeavesApart-with_named client name (with_link (Some variable)) desk (λ row. refl))
-
-LeavesApart-unlink : (desk : Desk) (client : ℕ) (name : List ℕ) → LeavesApart client desk (step_unlink desk client name).1
-unfolding step_unlink
-LeavesApart-unlink desk client name =
-    LeavesApart-outcome client desk (unlink_refusal desk client name) (unlink_effect desk client name)
-    (LeavesApart-with_named client name (with_link None) desk (λ row. refl))
+-- ruling a track, and binding an event
+LeavesApart-track : (axis : Axis) (desk : Desk) (client : ℕ) (name : List ℕ) (index : ℤ) (options : List (ConfigOption × ℤ)) → LeavesApart client desk (step_track axis desk client name index options).1
+unfolding step_track
+LeavesApart-track axis desk client name index options =
+    LeavesApart-outcome client desk (track_refusal desk client name index options) (track_effect axis desk client name index options) (LeavesApart-with_named client name (with_track axis (unsigned_abs index) options) desk (by axis))
+  where
+    by : (axis : Axis) (row : Row) → (with_track axis (unsigned_abs index) options row).client ≡ row.client
+    by Across row = refl
+    by Down row = refl
 
 LeavesApart-bind : (desk : Desk) (client : ℕ) (name : List ℕ) (event : EventKind) (tag : Option (List ℕ)) → LeavesApart client desk (step_bind desk client name event tag).1
 unfolding step_bind
 LeavesApart-bind desk client name event tag =
-    LeavesApart-outcome client desk (bind_refusal desk client name event) (bind_effect desk client name event tag)
-    (LeavesApart-with_named client name (with_binding event tag) desk (λ row. refl))
-
-LeavesApart-open : (desk : Desk) (client : ℕ) (name : List ℕ) → LeavesApart client desk (step_open desk client name).1
-unfolding step_open
-LeavesApart-open desk client name =
-    LeavesApart-outcome client desk (open_refusal desk client name) (open_effect desk client name)
-    (record {
-      shape = refl;
-      clients = λ other differ. refl;
-      rows = refl;
-      windows = windows_of_others-cons client name desk.windows;
-      pointer = refl;
-      roster = refl;
-      rings = refl;
-    })
+    LeavesApart-outcome client desk (bind_refusal desk client name event) (bind_effect desk client name event tag) (LeavesApart-with_named client name (with_binding event tag) desk (λ row. refl))
 
 -- each row
 LeavesApart-row : (desk : Desk) (client : ℕ) (command : Command) (short : Bool) → IfSome (row_of command) (λ row. LeavesApart client desk (row desk client short).1)
-LeavesApart-row desk client (New name kind) short = LeavesApart-new desk client name kind short
-LeavesApart-row desk client (Set name options) short = LeavesApart-set desk client name options
-LeavesApart-row desk client (Get name attr) short = LeavesApart-get desk client name attr
-LeavesApart-row desk client (Place parent child options) short = LeavesApart-place desk client parent child options
-LeavesApart-row desk client (Lift parent child) short = LeavesApart-lift desk client parent child
-LeavesApart-row desk client (ColumnConfig name index options) short = LeavesApart-column desk client name index options
-LeavesApart-row desk client (RowConfig name index options) short = LeavesApart-line desk client name index options
-LeavesApart-row desk client (Link name variable) short = LeavesApart-link desk client name variable
-LeavesApart-row desk client (Unlink name) short = LeavesApart-unlink desk client name
+unfolding step_new step_set step_get step_drop step_place step_lift step_link step_unlink step_open
+LeavesApart-row desk client (New name kind) short =
+    LeavesApart-outcome client desk (new_refusal desk client name kind short) (new_effect desk client name kind)
+    (LeavesApart-rows client desk (desk.rows ++ new_row client name kind ∷ []) (rows_of_others-push client desk.rows (new_row client name kind) (client-new_row client name kind)))
+LeavesApart-row desk client (Set name options) short =
+    LeavesApart-outcome client desk (set_refusal desk client name options) (set_effect desk client name options) (LeavesApart-with_named client name (with_attrs options) desk (client-with_attrs options))
+LeavesApart-row desk client (Get name attr) short = LeavesApart-outcome client desk (get_refusal desk client name attr) (get_effect desk client name attr) (LeavesApart-same client desk)
+LeavesApart-row desk client (Place parent child options) short =
+    LeavesApart-outcome client desk (place_refusal desk client parent child options) (place_effect desk client parent child options)
+    (LeavesApart-with_named client child (with_attached (Some (parent, cell_given options))) desk (λ row. refl))
+LeavesApart-row desk client (Lift parent child) short =
+    LeavesApart-outcome client desk (lift_refusal desk client parent child) (lift_effect desk client child) (LeavesApart-with_named client child (with_attached None) desk (λ row. refl))
+LeavesApart-row desk client (ColumnConfig name index options) short = LeavesApart-track Across desk client name index options
+LeavesApart-row desk client (RowConfig name index options) short = LeavesApart-track Down desk client name index options
+LeavesApart-row desk client (Link name variable) short =
+    LeavesApart-outcome client desk (link_refusal desk client name variable) (link_effect desk client name variable) (LeavesApart-with_named client name (with_link (Some variable)) desk (λ row. refl))
+LeavesApart-row desk client (Unlink name) short =
+    LeavesApart-outcome client desk (unlink_refusal desk client name) (unlink_effect desk client name) (LeavesApart-with_named client name (with_link None) desk (λ row. refl))
 LeavesApart-row desk client (Bind name event tag) short = LeavesApart-bind desk client name event (Some tag)
 LeavesApart-row desk client (Unbind name event) short = LeavesApart-bind desk client name event None
-LeavesApart-row desk client (OpenWindow name) short = LeavesApart-open desk client name
-LeavesApart-row desk client (DropWidget name) short = LeavesApart-drop desk client name
+LeavesApart-row desk client (OpenWindow name) short =
+    LeavesApart-outcome client desk (open_refusal desk client name) (open_effect desk client name)
+    (record { shape = refl; clients = λ other differ. refl; rows = refl; windows = windows_of_others-cons client name desk.windows; pointer = refl; roster = refl; rings = refl })
+LeavesApart-row desk client (DropWidget name) short =
+    LeavesApart-outcome client desk (drop_refusal desk client name) (drop_effect desk client name) (LeavesApart-rows client desk (without_named client name desk.rows) (rows_of_others-without_named client name desk.rows))
 LeavesApart-row desk client _ short = tt
 
 -- the client comes
@@ -284,6 +233,14 @@ connect_ends desk client short = record {
   leaves = LeavesApart-outcome client desk (first_refusal (when (is_connected desk client) Connected ∷ when short Memory ∷ [])) (Done, with_client client desk) (LeavesApart-with_client client desk);
 }
 
+hello_ends : (desk : Desk) (client : ℕ) (short : Bool) → free_client desk.clients ≡ Some client → Ends client desk (step_hello desk short).1
+unfolding step_hello
+hello_ends desk client short free = record {
+  before = (outcome desk (first_refusal (when (is_none (free_client desk.clients)) (Full 16) ∷ when short Memory ∷ [])) (hello_effect desk (free_client desk.clients))).1;
+  ended = refl;
+  leaves = LeavesApart-outcome client desk (first_refusal (when (is_none (free_client desk.clients)) (Full 16) ∷ when short Memory ∷ [])) (hello_effect desk (free_client desk.clients)) (rw free (LeavesApart-with_client client desk));
+}
+
 pub bye_ends : (desk : Desk) (client : ℕ) → Ends client desk (step_bye desk client).1
 unfolding step_bye
 bye_ends desk client = record {
@@ -309,6 +266,13 @@ commands_leave_others desk client command short reply next is e = leaves-ends cl
 
 pub connects_leave_others : ConnectsLeaveOthers
 connects_leave_others desk client short is = leaves-ends client desk _ is.held (connect_ends desk client short)
+
+pub hellos_leave_others : HellosLeaveOthers
+hellos_leave_others desk short is = by (free_client desk.clients) refl
+  where
+    by : (free : Option ℕ) → free_client desk.clients ≡ free → IfSome free (λ client. LeavesOthers client desk (step_hello desk short).1)
+    by None found = tt
+    by (Some client) found = leaves-ends client desk _ is.held (hello_ends desk client short found)
 
 pub byes_leave_others : ByesLeaveOthers
 byes_leave_others desk client is = leaves-ends client desk _ is.held (bye_ends desk client)

@@ -6,7 +6,7 @@ use Rattle.cmd_words.specs.declared.replies.Refusal.{Refusal}
 use Rattle.cmd_words.specs.declared.replies.Refusal.TheVariants.{BadValue}
 use Rattle.widget_model.specs.Rows.{Row}
 use Rattle.widget_model.specs.Named.{is_kind_of}
-use Rattle.desk_model.specs.Refusing.{when, first_refusal, unless_there, unless_kind}
+use Rattle.desk_model.specs.Refusals.{when, first_refusal, unless_there, unless_kind}
 use Rattle.desk_model.specs.PlaceOptions.{unless_within}
 
 -- the first one doesn't hold, and none after it

@@ -13,12 +13,12 @@ use Rattle.widget_model.specs.Named.{row_named, rows_counted, is_kind_of}
 use Rattle.widget_model.specs.Widgets.{is_joined}
 use Rattle.widget_model.specs.Forest.{is_client}
 use Rattle.widget_model.specs.Planted.{IsPlanted}
-use Rattle.widget_model.specs.Fitting.{fits_table, fits_rules}
+use Rattle.widget_model.specs.Fitting.{fits_table, fits_rules, has_slots}
 use Rattle.desk_model.specs.Desk.{Desk}
 use Rattle.widget_model.specs.Kinds.{is_window_kind}
-use Rattle.desk_model.specs.Ending.{is_in_window, grab_left, focus_left, let_go}
-use Rattle.desk_model.specs.Refusing.{outcome}
-use Rattle.desk_model.specs.DeskFacts.{AreConnectedOnce, AreOpenOnce, links_right, links_by_kind, has_places, IsDesk}
+use Rattle.desk_model.specs.LetGo.{is_in_window, grab_left, focus_left, let_go}
+use Rattle.desk_model.specs.Refusals.{outcome}
+use Rattle.desk_model.specs.DeskFacts.{AreConnectedOnce, AreOpenOnce, links_right, links_by_kind, IsDesk}
 use Rattle.widget_model.specs.Named.{AreNamedApart}
 
 -- what holds of the rows, where these clients are connected
@@ -32,7 +32,7 @@ pub record AreRows (clients : List ℕ) (rows : List Row) : Type 0 where
   pub linked_by_kind : list_all links_by_kind rows ≡ true
   pub fitting : list_all fits_table rows ≡ true
   pub rules : list_all fits_rules rows ≡ true
-  pub places : list_all has_places rows ≡ true
+  pub slots : list_all has_slots rows ≡ true
 
 -- whether the window is one of the rows, and a Window
 abbrev pub names_window : List Row → ℕ × List ℕ → Bool
@@ -66,7 +66,7 @@ IsSound-desk desk kept =
         linked_by_kind = kept.linked_by_kind;
         fitting = kept.fitting;
         rules = kept.rules;
-        places = kept.places;
+        slots = kept.slots;
       };
       windows = record { there = kept.windows; once = kept.once };
     }
@@ -86,7 +86,7 @@ IsDesk-sound desk sound held =
       linked_by_kind = sound.rows.linked_by_kind;
       fitting = sound.rows.fitting;
       rules = sound.rows.rules;
-      places = sound.rows.places;
+      slots = sound.rows.slots;
       windows = sound.windows.there;
       once = sound.windows.once;
       held = held;

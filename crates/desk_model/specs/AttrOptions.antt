@@ -10,7 +10,7 @@ use Rattle.kind_core.specs.Attributes.{domain_of, judged}
 use Rattle.cmd_words.specs.declared.replies.Refusal.{Refusal}
 use Rattle.cmd_words.specs.declared.replies.Refusal.TheVariants.{WrongKind, BadValue}
 use Rattle.widget_model.specs.Rows.{Row, with_attr}
-use Rattle.desk_model.specs.Refusing.{first_refusal}
+use Rattle.desk_model.specs.Refusals.{first_refusal}
 
 -- how a client is told what the table says of a value
 abbrev pub told : Result (Unit {0}) AttrRefusal → Option Refusal

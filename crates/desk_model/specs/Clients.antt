@@ -7,8 +7,8 @@ use Rattle.cmd_words.specs.declared.replies.Refusal.TheVariants.{Memory, Full, N
 use Rattle.widget_model.specs.Named.{rows_of_others}
 use Rattle.widget_model.specs.Widgets.{is_joined}
 use Rattle.desk_model.specs.Desk.{Desk, is_connected}
-use Rattle.desk_model.specs.Refusing.{when, first_refusal, outcome}
-use Rattle.desk_model.specs.Ending.{event_end}
+use Rattle.desk_model.specs.Refusals.{when, first_refusal, outcome}
+use Rattle.desk_model.specs.LetGo.{event_end}
 
 -- the desk with one more client
 abbrev pub with_client : ℕ → Desk → Desk

@@ -7,12 +7,16 @@ use Rattle.cmd_words.specs.declared.commands.Command.{Command}
 use Rattle.cmd_words.specs.declared.commands.Command.TheVariants.{New, Set, Get, Place, Lift, ColumnConfig, RowConfig, Link, Unlink, Bind, Unbind, OpenWindow, CloseWindow, TopWindow, Mode, Admit, Leave, SendFrame, DropWidget, Poll}
 use Rattle.cmd_words.specs.declared.replies.Reply.{Reply}
 use Rattle.cmd_words.specs.declared.replies.Refusal.TheVariants.{NotConnected}
+use Rattle.scene_model.specs.declared.axis.Axis.TheVariants.{Across, Down}
 use Rattle.desk_model.specs.Desk.{Desk, is_connected}
-use Rattle.desk_model.specs.Refusing.{when, outcome}
-use Rattle.desk_model.specs.Ending.{event_end}
-use Rattle.desk_model.specs.Making.{step_new, step_set, step_get, step_drop}
-use Rattle.desk_model.specs.Hanging.{step_place, step_lift, step_column, step_line}
-use Rattle.desk_model.specs.Linking.{step_link, step_unlink, step_bind, step_open}
+use Rattle.desk_model.specs.Refusals.{when, outcome}
+use Rattle.desk_model.specs.LetGo.{event_end}
+use Rattle.desk_model.specs.WidgetCommands.{step_new, step_set, step_get, step_drop}
+use Rattle.desk_model.specs.Placement.{step_place, step_lift}
+use Rattle.desk_model.specs.Tracks.{step_track}
+use Rattle.desk_model.specs.Links.{step_link, step_unlink}
+use Rattle.desk_model.specs.Bindings.{step_bind}
+use Rattle.desk_model.specs.Windows.{step_open}
 
 -- The row of each command. `short`: there is no memory for it.
 abbrev pub row_of : Command → Option (Desk → ℕ → Bool → Reply × Desk)
@@ -21,8 +25,8 @@ row_of (Set name options) = Some (λ desk client short. step_set desk client nam
 row_of (Get name attr) = Some (λ desk client short. step_get desk client name attr)
 row_of (Place parent child options) = Some (λ desk client short. step_place desk client parent child options)
 row_of (Lift parent child) = Some (λ desk client short. step_lift desk client parent child)
-row_of (ColumnConfig name index options) = Some (λ desk client short. step_column desk client name index options)
-row_of (RowConfig name index options) = Some (λ desk client short. step_line desk client name index options)
+row_of (ColumnConfig name index options) = Some (λ desk client short. step_track Across desk client name index options)
+row_of (RowConfig name index options) = Some (λ desk client short. step_track Down desk client name index options)
 row_of (Link name variable) = Some (λ desk client short. step_link desk client name variable)
 row_of (Unlink name) = Some (λ desk client short. step_unlink desk client name)
 row_of (Bind name event tag) = Some (λ desk client short. step_bind desk client name event (Some tag))

@@ -4,21 +4,21 @@ use Rattle.std.specs.Prelude.{ℕ, ℤ, pos, List, [], ◌∷◌, Option, unsign
 use Rattle.cmd_words.specs.declared.commands.ConfigOption.{ConfigOption}
 use Rattle.cmd_words.specs.declared.commands.ConfigOption.TheVariants.{Size, Weight}
 use Rattle.cmd_words.specs.declared.replies.Refusal.{Refusal}
-use Rattle.desk_model.specs.Refusing.{first_refusal}
+use Rattle.desk_model.specs.Refusals.{first_refusal}
 use Rattle.desk_model.specs.PlaceOptions.{unless_within}
 
 -- A size is at most 1,024 pixels, a weight at most 1,000.
-abbrev pub config_refusal : ConfigOption × ℤ → Option Refusal
-config_refusal (Size, n) = unless_within (pos 0) (pos 1024) n
-config_refusal (Weight, n) = unless_within (pos 0) (pos 1000) n
+abbrev pub rule_option_refusal : ConfigOption × ℤ → Option Refusal
+rule_option_refusal (Size, n) = unless_within (pos 0) (pos 1024) n
+rule_option_refusal (Weight, n) = unless_within (pos 0) (pos 1000) n
 
-abbrev pub configs_refusal : List (ConfigOption × ℤ) → Option Refusal
-configs_refusal options = first_refusal (map config_refusal options)
+abbrev pub rule_options_refusal : List (ConfigOption × ℤ) → Option Refusal
+rule_options_refusal options = first_refusal (map rule_option_refusal options)
 
-abbrev pub with_config : ConfigOption × ℤ → ℕ × ℕ → ℕ × ℕ
-with_config (Size, n) rule = (unsigned_abs n, rule.1)
-with_config (Weight, n) rule = (rule.0, unsigned_abs n)
+abbrev pub with_rule_option : ConfigOption × ℤ → ℕ × ℕ → ℕ × ℕ
+with_rule_option (Size, n) rule = (unsigned_abs n, rule.1)
+with_rule_option (Weight, n) rule = (rule.0, unsigned_abs n)
 
-abbrev pub with_configs : List (ConfigOption × ℤ) → ℕ × ℕ → ℕ × ℕ
-with_configs [] rule = rule
-with_configs (option ∷ options) rule = with_configs options (with_config option rule)
+abbrev pub with_rule_options : List (ConfigOption × ℤ) → ℕ × ℕ → ℕ × ℕ
+with_rule_options [] rule = rule
+with_rule_options (option ∷ options) rule = with_rule_options options (with_rule_option option rule)

@@ -1,13 +1,12 @@
 -- The desk: what the sequential server keeps. Widgets are named by client and name. No frame is admitted and no
 -- event is kept yet, so the roster and the rings are empty.
-use Rattle.std.specs.Prelude.{ℕ, ℤ, Bool, ◌&&◌, nat_eq, List, []}
+use Rattle.std.specs.Prelude.{ℕ, ℤ, Bool, false, ◌&&◌, nat_eq, List, [], None}
 use Rattle.std.specs.List.{list_any}
 use Rattle.std.specs.Str.{bytes_eq}
 use Rattle.kind_core.specs.declared.kinds.EventKind.{EventKind}
 use Rattle.kind_core.specs.declared.shapes.Shape.{Shape}
 use Rattle.widget_model.specs.Rows.{Row}
-use Rattle.widget_model.specs.Pointer.{Pointer}
-use Rattle.desk_model.specs.Pointer.{opening_pointer}
+use Rattle.widget_model.specs.Pointer.{Pointer, no_grab}
 
 -- an admitted VScreen, with the pixels that it may be drawn in a tick
 pub record Admission : Type 0 where
@@ -34,6 +33,10 @@ pub record Desk : Type 0 where
   -- in the order of admission
   pub roster : List Admission
   pub rings : List Ring
+
+-- At opening the pointer is at the upper left corner, up, with nothing grabbed and no focus.
+abbrev pub opening_pointer : Pointer
+opening_pointer = record { x = 0; y = 0; down = false; grab = no_grab; focus = None }
 
 -- At opening a desk has its numbers and the pointer alone.
 abbrev pub opening_desk : Shape → Desk

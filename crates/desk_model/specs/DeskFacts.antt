@@ -10,10 +10,10 @@ use Rattle.widget_model.specs.Named.{row_named, rows_counted, is_kind_of, AreNam
 use Rattle.widget_model.specs.Widgets.{is_joined}
 use Rattle.widget_model.specs.Forest.{is_client}
 use Rattle.widget_model.specs.Planted.{IsPlanted}
-use Rattle.widget_model.specs.Fitting.{fits_table, fits_rules}
+use Rattle.widget_model.specs.Fitting.{fits_table, fits_rules, has_slots}
 use Rattle.desk_model.specs.Desk.{Desk, is_connected, is_window}
 use Rattle.widget_model.specs.Kinds.{can_link, is_variable_kind, is_window_kind}
-use Rattle.desk_model.specs.Ending.{let_go}
+use Rattle.desk_model.specs.LetGo.{let_go}
 
 -- No client is connected twice.
 abbrev pub AreConnectedOnce : List ℕ → Type 0
@@ -23,10 +23,6 @@ AreConnectedOnce (client ∷ clients) = (is_joined clients client ≡ false) × 
 -- A link leads to a Variable of the same client.
 abbrev pub links_right : List Row → Row → Bool
 links_right rows row = option_map_or (λ name. is_kind_of is_variable_kind (row_named rows row.client name)) row.link true
-
--- A row has a rule for each of 16 columns and 16 rows, and a place for the tag of each of the seven events.
-abbrev pub has_places : Row → Bool
-has_places row = nat_eq (length row.column_rules) 16 && (nat_eq (length row.row_rules) 16 && nat_eq (length row.bindings) 7)
 
 -- Only a row whose kind can be linked has a link.
 abbrev pub links_by_kind : Row → Bool
@@ -50,7 +46,7 @@ pub record IsDesk (desk : Desk) : Type 0 where
   pub linked_by_kind : list_all links_by_kind desk.rows ≡ true
   pub fitting : list_all fits_table desk.rows ≡ true
   pub rules : list_all fits_rules desk.rows ≡ true
-  pub places : list_all has_places desk.rows ≡ true
+  pub slots : list_all has_slots desk.rows ≡ true
   -- an open window is one of the Windows, and is open once
   pub windows : list_all (λ window. is_kind_of is_window_kind (row_named desk.rows window.0 window.1)) desk.windows ≡ true
   pub once : AreOpenOnce desk.windows

@@ -1,14 +1,13 @@
 -- What a client does touches its own part of the desk alone, and what it is answered depends on that part alone.
-use Rattle.std.specs.Prelude.{ℕ, ◌≡◌, ◌⊎◌, Bool, false, not, nat_eq, List, Option, Some, None}
+use Rattle.std.specs.Prelude.{ℕ, ◌≡◌, ◌⊎◌, Bool, false, not, nat_eq, List, Option, Some, None, IfSome}
 use Rattle.std.specs.Option.{option_map}
 use Rattle.std.specs.List.{filter}
 use Rattle.cmd_words.specs.declared.commands.Command.{Command}
 use Rattle.cmd_words.specs.declared.replies.Reply.{Reply}
 use Rattle.widget_model.specs.Pointer.{Pointer, Grab, no_grab, on_widget, drags}
-use Rattle.widget_model.specs.Rows.{Row}
 use Rattle.widget_model.specs.Named.{own_rows, rows_of_others}
 use Rattle.desk_model.specs.Desk.{Desk, is_connected}
-use Rattle.desk_model.specs.Clients.{step_connect, step_bye}
+use Rattle.desk_model.specs.Clients.{free_client, step_connect, step_hello, step_bye}
 use Rattle.desk_model.specs.Commands.{step}
 use Rattle.desk_model.specs.DeskFacts.{IsDesk}
 
@@ -56,6 +55,10 @@ CommandsLeaveOthers =
 
 abbrev pub ConnectsLeaveOthers : Type 0
 ConnectsLeaveOthers = (desk : Desk) (client : ℕ) (short : Bool) → IsDesk desk → LeavesOthers client desk (step_connect desk client short).1
+
+-- The client that comes by `hello` is the least free one, where there is one.
+abbrev pub HellosLeaveOthers : Type 0
+HellosLeaveOthers = (desk : Desk) (short : Bool) → IsDesk desk → IfSome (free_client desk.clients) (λ client. LeavesOthers client desk (step_hello desk short).1)
 
 abbrev pub ByesLeaveOthers : Type 0
 ByesLeaveOthers = (desk : Desk) (client : ℕ) → IsDesk desk → LeavesOthers client desk (step_bye desk client).1

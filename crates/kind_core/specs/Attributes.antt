@@ -8,6 +8,7 @@ use Rattle.kind_core.specs.declared.values.Value as value
 use Rattle.kind_core.specs.declared.values.Value.TheVariants.{Number, Words}
 use Rattle.kind_core.specs.declared.domains.Domain.{Domain}
 use Rattle.kind_core.specs.declared.domains.Domain.TheVariants.{Numbers, Texts, Absent}
+use Rattle.kind_core.specs.Bytes.{is_text}
 use Rattle.kind_core.specs.declared.values.AttrRefusal.{AttrRefusal}
 use Rattle.kind_core.specs.declared.values.AttrRefusal.TheVariants.{NotOfKind, OutOfRange}
 
@@ -44,12 +45,12 @@ domain_of _ _ = Absent
 abbrev pub in_range : ℤ → ℤ → ℤ → Bool
 in_range low high n = int_le low n && int_le n high
 
--- How the table takes a value. The kind hasn't the attribute, or it has the other type: NotOfKind. A
--- number is outside its range: OutOfRange with the range.
+-- How the table takes a value. The kind hasn't the attribute, or it has the other type: NotOfKind. A number is outside
+-- its range: OutOfRange with the range. Bytes that make no text are none of its type.
 abbrev pub judged : Domain → value.Value → Result (Unit {0}) AttrRefusal
 judged (Numbers least greatest _) (Number n) = if in_range least greatest n then Ok tt else Err (OutOfRange least greatest)
 judged (Numbers _ _ _) (Words _) = Err NotOfKind
-judged Texts (Words _) = Ok tt
+judged Texts (Words text) = if is_text text then Ok tt else Err NotOfKind
 judged Texts (Number _) = Err NotOfKind
 judged Absent _ = Err NotOfKind
 

@@ -40,6 +40,14 @@ fn domain_of(kind: Kind, attr: Attr) -> Domain
     }
 }
 
+/// A text is taken by every attribute that is a text: its type says that its bytes make one.
+fn takes(text: &Text) -> Result<(), AttrRefusal>
+    ensures { result ≡ judged Domain.Texts (Value.Words text.now) }
+{
+    let _ = text.as_slice();
+    Ok(())
+}
+
 /// Whether an attribute of the kind may have the value (docs/GUIDE.md, "Attributes"). Refuses with NotOfKind
 /// exactly where the kind has no such attribute or the attribute has the other type, and with OutOfRange and
 /// the range exactly where a number is outside it.
@@ -61,7 +69,7 @@ pub fn check(kind: Kind, attr: Attr, value: &Value) -> Result<(), AttrRefusal>
                 Err(AttrRefusal::OutOfRange { least, greatest })
             }
         }
-        (Domain::Texts, Value::Words(_)) => Ok(()),
+        (Domain::Texts, Value::Words(text)) => takes(text),
         _ => Err(AttrRefusal::NotOfKind),
     }
 }

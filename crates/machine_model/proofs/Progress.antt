@@ -12,7 +12,7 @@ use Rattle.scene_model.specs.Shapes.{area}
 use Rattle.desk_model.specs.Desk.{Desk}
 use Rattle.desk_model.specs.Seen.{colour}
 use Rattle.machine_model.specs.Reach.{in_reach}
-use Rattle.desk_model.specs.Refusing.{is_memory}
+use Rattle.desk_model.specs.Refusals.{is_memory}
 use Rattle.desk_model.specs.Clients.{step_connect, step_hello, step_bye}
 use Rattle.cmd_words.specs.declared.commands.Command.{Command}
 use Rattle.desk_model.specs.Commands.{is_built, step}

@@ -12,7 +12,7 @@ use Rattle.desk_model.specs.Desk.{Desk}
 use Rattle.desk_model.specs.DeskFacts.{IsDesk}
 use Rattle.desk_model.specs.Seen.{colour}
 use Rattle.machine_model.specs.Reach.{in_reach}
-use Rattle.desk_model.specs.Refusing.{is_memory, when, first_refusal, outcome}
+use Rattle.desk_model.specs.Refusals.{is_memory, when, first_refusal, outcome}
 use Rattle.desk_model.specs.Clients.{step_connect, step_hello, step_bye, free_client, hello_effect}
 use Rattle.desk_model.specs.Commands.{step}
 use Rattle.desk_model.specs.Beat.{in_band}

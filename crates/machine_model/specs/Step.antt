@@ -11,7 +11,7 @@ use Rattle.widget_model.specs.Forest.{is_client}
 use Rattle.desk_model.specs.Desk.{Desk}
 use Rattle.desk_model.specs.Seen.{colour}
 use Rattle.machine_model.specs.Reach.{IsTouched, in_reach}
-use Rattle.desk_model.specs.Refusing.{is_memory}
+use Rattle.desk_model.specs.Refusals.{is_memory}
 use Rattle.desk_model.specs.Clients.{step_connect, step_hello, step_bye}
 use Rattle.desk_model.specs.Commands.{is_built, step}
 use Rattle.desk_model.specs.Beat.{beat, in_band, band_count}

@@ -3,11 +3,22 @@
 
 ghost use Rattle.scene_model.specs.DependLaws.{PlacesDependOnOwnRows, PlacesComeFromParents};
 ghost use Rattle.scene_model.specs.FillLaws.{TracksFillTheRoom, WeighedTracksFillTheRoom};
+ghost use Rattle.scene_model.specs.FitLaws.{WidgetsAreFit, WidgetsAreNamedApart};
 ghost use Rattle.scene_model.specs.LevelLaws.{SpansComeFromParents, LeastsComeFromChildren, ChildrenShowWithinParents, ChildrenHaveTheirParentsRoot, LowestComesFromChild, MoreLevels};
 ghost use Rattle.scene_model.specs.LookLaws.{LooksAreFit, LooksOfKeysAreFit};
 ghost use Rattle.scene_model.specs.RangeLaws.{LeastsAreSmall, TracksAreSmall, SpansAreSmall, PlacesAreInRange, PlacesOfKeysAreInRange};
 ghost use Rattle.scene_model.specs.ShowingLaws.{PlacesOfChildrenAreApart, ChildrenShareNoPixel, ShownLiesInParents, ShownLiesInPlace};
 ghost use Rattle.scene_model.specs.TopLaws.{ShowingChildIsFound, FoundChildShows, TopIsOnTop, OnTopIsTop, NoTopShowsNothing};
+
+/// The rows of widgets are within the limits that the laws of layout ask for.
+pub fn widgets_are_fit()
+    ensures { WidgetsAreFit }
+{}
+
+/// No two rows of one client have one name.
+pub fn widgets_are_named_apart()
+    ensures { WidgetsAreNamedApart }
+{}
 
 /// A child's span is what its parent's kind, row and span make of it.
 pub fn spans_come_from_parents()

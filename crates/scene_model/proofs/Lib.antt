@@ -3,12 +3,16 @@ pub mod Parents
 pub mod Levels
 pub mod LevelsDown
 pub mod LevelLaws
+pub mod WindowRows
+pub mod Still
 pub mod FitRows
 pub mod Leasts
 pub mod Ranges
 pub mod Apart
 pub mod FromParents
 pub mod OwnRows
+pub mod DuePlaces
 pub mod Filling
 pub mod Looks
 pub mod TopWidget
+pub mod FitWidgets

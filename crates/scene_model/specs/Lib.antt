@@ -6,9 +6,13 @@ pub mod Fit
 pub mod Tracks
 pub mod Least
 pub mod Placing
+pub mod DuePlaces
 pub mod Showing
 pub mod LookOf
 pub mod Colours
+pub mod WindowRows
+pub mod Still
+pub mod FitLaws
 pub mod LevelLaws
 pub mod RangeLaws
 pub mod ShowingLaws

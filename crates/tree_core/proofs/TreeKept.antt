@@ -3,16 +3,17 @@ use Rattle.std.proofs.Common.{◌≡◌, ◌≤◌, ◌<◌, ◌+◌, ◌-◌, �
 use Rattle.std.proofs.lemmas.Bool.{true≢false, eqb-true, and_parts, leb-true, ltb-true}
 use Rattle.std.specs.List.{list_all}
 use Rattle.std.specs.Option.{option_map}
+use Rattle.geom_core.specs.declared.rectangle.Rect.{Rect}
 use Rattle.kind_core.specs.declared.kinds.Kind.{Kind}
 use Rattle.kind_core.specs.declared.kinds.Kind.TheVariants.{Grid}
 use Rattle.kind_core.specs.declared.shapes.Cell.{Cell}
 use Rattle.widget_model.specs.Rows.{Row, with_link, with_attached, new_row}
 use Rattle.widget_model.specs.Nodes.{Node, node_of, node_at, is_number_of, first_number}
 use Rattle.widget_model.specs.Planted.{IsPlanted}
-use Rattle.widget_model.specs.Fitting.{fits_table}
+use Rattle.widget_model.specs.Fitting.{is_fit, IsFitFilm, HaveFitFilms}
 use Rattle.widget_model.specs.Links.{ties, leads, all_lead}
 use Rattle.widget_model.specs.Widgets.{Widgets, row_at, nodes, with_row, is_joined, IsLive, IsGrid}
-use Rattle.widget_model.specs.Forest.{IsForest, IsWidgets}
+use Rattle.widget_model.specs.Forest.{IsForest, IsWidgets, ArePlaces}
 use Rattle.widget_model.specs.Rows.{IsIndex}
 use Rattle.row_store.specs.Places.{cell_place}
 use Rattle.tree_core.specs.Children.{rows_in, HasChildren}
@@ -22,21 +23,23 @@ use Rattle.tree_core.specs.Refusals.{add_refusal}
 use Rattle.row_store.proofs.Options.{none_or_some}
 use Rattle.tree_core.proofs.Listed.{all_at, numbered_place}
 use Rattle.row_store.proofs.Nodes.{nodes-with_row, nodes-push, node_at-nodes}
-use Rattle.tree_core.proofs.ForestLemmas.{ties-with_row, linked-with_link, linked-push, IsForest-join, IsForest-push, no_refusal, joined_in_range}
+use Rattle.tree_core.proofs.ForestLemmas.{live-with_row, ties-with_row, linked-with_link, linked-push, IsForest-join, IsForest-push, no_refusal, joined_in_range}
 use Rattle.tree_core.proofs.Groves.{IsGrove-leaves}
 use Rattle.tree_core.proofs.Moves.{HasChildren-still}
-use Rattle.tree_core.proofs.Fits.{fitting-with_row, fitting-push, fits_table-new}
+use Rattle.widget_model.proofs.Fit.{is_fit-new}
+use Rattle.tree_core.proofs.Fits.{fitting-with_row, fitting-push}
+use Rattle.widget_model.proofs.FitFilms.{HaveFitFilms-with_row, HaveFitFilms-push}
 use Rattle.tree_core.proofs.Newcomer.{planted-push, HasChildren-push}
 
 pub IsGrove-tree : (clients : List ℕ) (names : List ((ℕ × List ℕ) × ℕ)) (es : List (ℕ × Row)) (cells : List (Option ℕ)) → IsTree clients names es cells → IsGrove es
 IsGrove-tree clients names es cells tree = record { own_numbers = tree.forest.own_numbers; own_names = tree.forest.own_names; planted = tree.planted }
 
-pub IsWidgets-tree : (clients : List ℕ) (names : List ((ℕ × List ℕ) × ℕ)) (es : List (ℕ × Row)) (cells : List (Option ℕ)) → IsTree clients names es cells → IsWidgets (record { clients = clients; entries = es })
-IsWidgets-tree clients names es cells tree = record { forest = tree.forest; linked = tree.linked; planted = tree.planted; fitting = tree.fitting }
+pub IsWidgets-tree : (clients : List ℕ) (names : List ((ℕ × List ℕ) × ℕ)) (es : List (ℕ × Row)) (cells : List (Option ℕ)) (places : List (Option Rect)) → IsTree clients names es cells → ArePlaces es places → IsWidgets (record { clients = clients; entries = es; places = places })
+IsWidgets-tree clients names es cells places tree placed = record { forest = tree.forest; linked = tree.linked; planted = tree.planted; fitting = tree.fitting; films = tree.films; placed = placed }
 
 -- a change of one row that leaves the nodes
-pub IsTree-with_row : (clients : List ℕ) (names : List ((ℕ × List ℕ) × ℕ)) (es : List (ℕ × Row)) (cells new_cells : List (Option ℕ)) (id : ℕ) (change : Row → Row) → ((row : Row) → node_of (change row) ≡ node_of row) → all_lead (nodes es) (ties (with_row id change es)) ≡ true → IsPlanted (rows_in (with_row id change es)) → list_all fits_table (rows_in (with_row id change es)) ≡ true → HasChildren (with_row id change es) new_cells → length new_cells ≡ length cells → IsTree clients names es cells → IsTree clients names (with_row id change es) new_cells
-IsTree-with_row clients names es cells new_cells id change same linked planted fitting children len tree =
+pub IsTree-with_row : (clients : List ℕ) (names : List ((ℕ × List ℕ) × ℕ)) (es : List (ℕ × Row)) (cells new_cells : List (Option ℕ)) (id : ℕ) (change : Row → Row) → ((row : Row) → node_of (change row) ≡ node_of row) → all_lead (nodes es) (ties (with_row id change es)) ≡ true → IsPlanted (rows_in (with_row id change es)) → list_all is_fit (rows_in (with_row id change es)) ≡ true → HaveFitFilms (rows_in (with_row id change es)) → HasChildren (with_row id change es) new_cells → length new_cells ≡ length cells → IsTree clients names es cells → IsTree clients names (with_row id change es) new_cells
+IsTree-with_row clients names es cells new_cells id change same linked planted fitting films children len tree =
     let nodes_same = nodes-with_row es id change same in
     let P : List (ℕ × Node) → Type 0 = λ ns. IsIndexed names ns in
     let Q : List (ℕ × Node) → Type 0 = λ ns. IsForest clients ns in
@@ -46,13 +49,18 @@ IsTree-with_row clients names es cells new_cells id change same linked planted f
       linked = ap (λ (ns : List (ℕ × Node)). all_lead ns (ties (with_row id change es))) nodes_same ∙ linked;
       planted = planted;
       fitting = fitting;
+      films = films;
       children = children;
       reach = λ client there. omega (arith, tree.reach client there, len);
     }
 
 -- a live number has a row, whose values fit
-pub live_row : (clients : List ℕ) (es : List (ℕ × Row)) (widgets : Widgets) (id : ℕ) → record { clients = clients; entries = es } ≡ widgets → IsLive widgets id → (row : Row) × (row_at es id ≡ Some row)
-live_row clients es widgets id view live = none_or_some (row_at es id) (ap (λ (w : Widgets). is_some (row_at w.entries id)) view ∙ live)
+pub live_row : {clients : List ℕ} {es : List (ℕ × Row)} {places : List (Option Rect)} {widgets : Widgets} → record { clients = clients; entries = es; places = places } ≡ widgets → (id : ℕ) → IsLive widgets id → (row : Row) × (row_at es id ≡ Some row)
+live_row {clients} {es} view id live = none_or_some (row_at es id) (ap (λ (w : Widgets). is_some (row_at w.entries id)) view ∙ live)
+
+-- and stays live when a row changes
+pub live_edited : {clients : List ℕ} {es : List (ℕ × Row)} {places : List (Option Rect)} {widgets : Widgets} → record { clients = clients; entries = es; places = places } ≡ widgets → (id : ℕ) (change : Row → Row) (other : ℕ) → IsLive widgets other → is_some (row_at (with_row id change es) other) ≡ true
+live_edited {clients} {es} view id change other live = live-with_row es id change other (ap (λ (w : Widgets). is_some (row_at w.entries other)) view ∙ live)
 
 pub grid_live : (widgets : Widgets) (id : ℕ) → IsGrid widgets id → IsLive widgets id
 grid_live widgets id grid = by (row_at widgets.entries id) grid
@@ -61,10 +69,10 @@ grid_live widgets id grid = by (row_at widgets.entries id) grid
     by None h = absurd (cc)
     by (Some row) h = refl
 
-pub fits_at : (es : List (ℕ × Row)) (id : ℕ) (row : Row) → list_all fits_table (rows_in es) ≡ true → row_at es id ≡ Some row → fits_table row ≡ true
+pub fits_at : (es : List (ℕ × Row)) (id : ℕ) (row : Row) → list_all is_fit (rows_in es) ≡ true → row_at es id ≡ Some row → is_fit row ≡ true
 fits_at es id row fitting there =
     let place = numbered_place es id row there in
-    all_at fits_table (rows_in es) place.0 row fitting place.1
+    all_at is_fit (rows_in es) place.0 row fitting place.1
 
 -- what a change leaves that only gives a row other values, rules or tags
 pub record LeavesTies (change : Row → Row) : Type 0 where
@@ -74,12 +82,13 @@ pub record LeavesTies (change : Row → Row) : Type 0 where
 
 module _ (clients : List ℕ) (names : List ((ℕ × List ℕ) × ℕ)) (es : List (ℕ × Row)) (cells : List (Option ℕ)) (id : ℕ) (change : Row → Row) (row : Row) (tree : IsTree clients names es cells) (there : row_at es id ≡ Some row) where
   -- a change that leaves where the row hangs
-  IsTree-still : ((row : Row) → node_of (change row) ≡ node_of row) → ((row : Row) → (change row).attached ≡ row.attached) → all_lead (nodes es) (ties (with_row id change es)) ≡ true → fits_table (change row) ≡ true → IsTree clients names (with_row id change es) cells
-  IsTree-still same still linked fits =
+  IsTree-still : ((row : Row) → node_of (change row) ≡ node_of row) → ((row : Row) → (change row).attached ≡ row.attached) → all_lead (nodes es) (ties (with_row id change es)) ≡ true → is_fit (change row) ≡ true → ((r : Row) → row_at es id ≡ Some r → IsFitFilm r → IsFitFilm (change r)) → IsTree clients names (with_row id change es) cells
+  IsTree-still same still linked fits films =
       let grove = IsGrove-tree clients names es cells tree in
       let new = IsGrove-leaves es id change row same still grove there in
       IsTree-with_row clients names es cells cells id change same linked new.planted
       (fitting-with_row es id change row tree.forest.own_numbers there fits tree.fitting)
+      (HaveFitFilms-with_row es id change tree.forest.own_numbers films tree.films)
       (HasChildren-still es id change same cells grove new (λ below r at. by r (nat_eq id below)) tree.children)
       refl tree
     where
@@ -87,9 +96,9 @@ module _ (clients : List ℕ) (names : List ((ℕ × List ℕ) × ℕ)) (es : Li
       by r true = still r
       by r false = refl
 
-  pub IsTree-leaves : LeavesTies change → fits_table (change row) ≡ true → IsTree clients names (with_row id change es) cells
-  IsTree-leaves leaves fits =
-      IsTree-still leaves.node leaves.attached (ap (all_lead (nodes es)) (ties-with_row es id change (λ r. (leaves.node r, leaves.link r))) ∙ tree.linked) fits
+  pub IsTree-leaves : LeavesTies change → is_fit (change row) ≡ true → ((r : Row) → row_at es id ≡ Some r → IsFitFilm r → IsFitFilm (change r)) → IsTree clients names (with_row id change es) cells
+  IsTree-leaves leaves fits films =
+      IsTree-still leaves.node leaves.attached (ap (all_lead (nodes es)) (ties-with_row es id change (λ r. (leaves.node r, leaves.link r))) ∙ tree.linked) fits films
 
 -- a link to a Variable
 pub IsTree-with_link : (clients : List ℕ) (names : List ((ℕ × List ℕ) × ℕ)) (es : List (ℕ × Row)) (cells : List (Option ℕ)) (id : ℕ) (row : Row) (link : Option (List ℕ)) → row_at es id ≡ Some row → leads (nodes es) row.client link ≡ true → IsTree clients names es cells → IsTree clients names (with_row id (with_link link) es) cells
@@ -97,8 +106,9 @@ IsTree-with_link clients names es cells id row link there new tree =
     IsTree-still clients names es cells id (with_link link) row tree there (λ r. refl) (λ r. refl)
     (linked-with_link (nodes es) es id row link tree.forest.own_numbers there new tree.linked)
     (fits_at es id row tree.fitting there)
+    (λ r at fit. fit)
 
-was_joined : (clients : List ℕ) (client other : ℕ) → is_joined (clients ++ client ∷ []) other ≡ true → nat_eq other client ≡ false → is_joined clients other ≡ true
+pub was_joined : (clients : List ℕ) (client other : ℕ) → is_joined (clients ++ client ∷ []) other ≡ true → nat_eq other client ≡ false → is_joined clients other ≡ true
 was_joined [] client other h apart = absurd (true≢false (sym h ∙ ap (λ (b : Bool). b || false) apart))
 was_joined (c ∷ cs) client other h apart = by (nat_eq other c) (λ k. was_joined cs client other k apart) h
   where
@@ -115,6 +125,7 @@ IsTree-join clients names es cells new_cells client low high same longer reach t
       linked = tree.linked;
       planted = tree.planted;
       fitting = tree.fitting;
+      films = tree.films;
       children = record { each = λ id column line c l. same (cell_place id column line) ∙ tree.children.each id column line c l };
       reach = λ other there. by other there (nat_eq other client) refl;
     }
@@ -137,6 +148,7 @@ IsTree-grown clients names es cells new_cells same longer tree =
       linked = tree.linked;
       planted = tree.planted;
       fitting = tree.fitting;
+      films = tree.films;
       children = record { each = λ id column line c l. same (cell_place id column line) ∙ tree.children.each id column line c l };
       reach = λ client there. omega (arith, tree.reach client there, longer);
     }
@@ -144,7 +156,7 @@ IsTree-grown clients names es cells new_cells same longer tree =
 -- another index that finds the same
 pub IsTree-renamed : (clients : List ℕ) (names new_names : List ((ℕ × List ℕ) × ℕ)) (es : List (ℕ × Row)) (cells : List (Option ℕ)) → IsIndexed new_names (nodes es) → IsTree clients names es cells → IsTree clients new_names es cells
 IsTree-renamed clients names new_names es cells indexed tree =
-    record { indexed = indexed; forest = tree.forest; linked = tree.linked; planted = tree.planted; fitting = tree.fitting; children = tree.children; reach = tree.reach }
+    record { indexed = indexed; forest = tree.forest; linked = tree.linked; planted = tree.planted; fitting = tree.fitting; films = tree.films; children = tree.children; reach = tree.reach }
 
 -- a new row of a joined client
 pub IsTree-push : (clients : List ℕ) (names new_names : List ((ℕ × List ℕ) × ℕ)) (es : List (ℕ × Row)) (cells : List (Option ℕ)) (id client : ℕ) (name : List ℕ) (kind : Kind) → row_at es id ≡ None → add_refusal (nodes es) client name kind ≡ None → is_number_of client id ≡ true → is_joined clients client ≡ true → IsIndexed new_names (nodes (es ++ (id, new_row client name kind) ∷ [])) → IsTree clients names es cells → IsTree clients new_names (es ++ (id, new_row client name kind) ∷ []) cells
@@ -162,7 +174,8 @@ IsTree-push clients names new_names es cells id client name kind absent allowed 
       forest = forest;
       linked = linked-push es id row refl tree.linked;
       planted = planted;
-      fitting = fitting-push es id row (fits_table-new client name kind) tree.fitting;
+      fitting = fitting-push es id row (is_fit-new client name kind) tree.fitting;
+      films = HaveFitFilms-push es id row refl tree.films;
       children = HasChildren-push es id row absent cells (IsGrove-tree clients names es cells tree) grove refl checks.0 tree.children;
       reach = tree.reach;
     }
@@ -174,6 +187,7 @@ IsTree-attached clients names es cells new_cells id attached row there grove chi
     (ap (all_lead (nodes es)) (ties-with_row es id (with_attached attached) (λ r. (refl, refl))) ∙ tree.linked)
     grove.planted
     (fitting-with_row es id (with_attached attached) row tree.forest.own_numbers there (fits_at es id row tree.fitting there) tree.fitting)
+    (HaveFitFilms-with_row es id (with_attached attached) tree.forest.own_numbers (λ r at fit. fit) tree.films)
     children len tree
 
 -- what holds of all nodes holds of a numbered row's

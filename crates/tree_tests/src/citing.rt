@@ -1,7 +1,7 @@
 //! What a caller may cite of the tree with no word on its fields.
 ghost use Rattle.std.specs.Prelude.{◌≡◌, true, false, IfSome};
 ghost use Rattle.std.specs.List.{list_all};
-ghost use Rattle.widget_model.specs.Fitting.{fits_table};
+ghost use Rattle.widget_model.specs.Fitting.{is_fit};
 ghost use Rattle.widget_model.specs.Forest.{HaveOwnNumbers, HaveOwnNames};
 ghost use Rattle.widget_model.specs.Links.{all_lead, ties};
 ghost use Rattle.widget_model.specs.Planted.{hangs_right, HaveOwnCells};
@@ -23,7 +23,7 @@ fn in_root(tree: &Tree, client: u32, name: &Name, column: u32, row: u32) -> Opti
     ensures own_cells { HaveOwnCells (rows_of tree.now) }
     ensures low { list_all (λ row. ends_within most_levels (rows_of tree.now) row.client row.name) (rows_of tree.now) ≡ true }
     ensures linked { all_lead (nodes tree.now.entries) (ties tree.now.entries) ≡ true }
-    ensures fitting { list_all fits_table (rows_of tree.now) ≡ true }
+    ensures fitting { list_all is_fit (rows_of tree.now) ≡ true }
 {
     let id = tree.find(client, name)?;
     let parent = tree.parent(id)?;

@@ -1,5 +1,5 @@
--- The values of a row fit its kind's table: an attribute that the kind has is a number in its range or a text,
--- and one that it hasn't has no value. The rules of its columns and rows are in their range, and only a VScreen has a
+-- The values of a row fit its kind's table: an attribute that the kind has is a number in its range or a text of at most
+-- 64 bytes that print, and one that it hasn't has no value. The rules of its columns and rows are in their range, and only a VScreen has a
 -- film.
 use Rattle.std.specs.Prelude.{◌≡◌, ℕ, Bool, ◌&&◌, nat_eq, nat_le, List, length, Option, Some, None, IfSome, is_none, is_ok}
 use Rattle.std.specs.List.{list_all, All}
@@ -25,6 +25,14 @@ fits_rule rule = nat_le rule.0 1024 && nat_le rule.1 1000
 
 abbrev pub fits_rules : Row → Bool
 fits_rules row = list_all fits_rule row.column_rules && list_all fits_rule row.row_rules
+
+-- A row has a rule for each of 16 columns and 16 rows, and a slot for the tag of each of the seven events.
+abbrev pub has_slots : Row → Bool
+has_slots row = nat_eq (length row.column_rules) 16 && (nat_eq (length row.row_rules) 16 && nat_eq (length row.bindings) 7)
+
+-- all that holds of a row by itself
+abbrev pub is_fit : Row → Bool
+is_fit row = fits_table row && (fits_rules row && has_slots row)
 
 -- a film is a whole one, of its size, and its row is a VScreen
 abbrev pub IsFitFilm : Row → Type 0

@@ -1,0 +1,3 @@
+/// The answer of `Shot::new` for want of memory alone.
+#[derive(Clone, Copy, Debug, PartialEq, Eq)]
+pub struct NoMemory;
