@@ -24,7 +24,6 @@ use Rattle.widget_model.specs.Named.{has_name, row_named}
 use Rattle.widget_model.specs.Fitting.{fits_attr, fits_table}
 use Rattle.widget_model.proofs.Hanging.{all_at, find-element}
 use Rattle.scene_model.specs.Fit.{IsTextOf}
-use Rattle.scene_model.proofs.Lists.{all_or}
 use Rattle.scene_model.specs.Values.{number_in, text_in, number_of, text_of, linked_value, label_of}
 
 pub record IsBetween (least greatest n : ℤ) : Type 0 where

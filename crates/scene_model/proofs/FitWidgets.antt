@@ -1,9 +1,7 @@
 -- The rows of widgets are within their limits.
-use Rattle.std.proofs.Common.{◌≡◌, true, List}
 use Rattle.std.proofs.lemmas.Bool.{and_from}
 use Rattle.std.specs.List.{list_all}
-use Rattle.widget_model.specs.Rows.{Row}
-use Rattle.widget_model.specs.Widgets.{Widgets, rows_of}
+use Rattle.widget_model.specs.Widgets.{rows_of}
 use Rattle.widget_model.specs.Fitting.{fits_table, fits_rule, fits_rules, is_fit}
 use Rattle.widget_model.proofs.Fit.{IsFit-is_fit}
 use Rattle.widget_model.proofs.Hanging.{all_at, all_from}
