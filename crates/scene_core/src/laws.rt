@@ -4,7 +4,7 @@
 ghost use Rattle.scene_model.specs.DependLaws.{PlacesDependOnOwnRows, PlacesComeFromParents};
 ghost use Rattle.scene_model.specs.FillLaws.{TracksFillTheRoom, WeighedTracksFillTheRoom};
 ghost use Rattle.scene_model.specs.FitLaws.{WidgetsAreFit, WidgetsAreNamedApart};
-ghost use Rattle.scene_model.specs.LevelLaws.{SpansComeFromParents, LeastsComeFromChildren, ChildrenShowWithinParents, ChildrenHaveTheirParentsRoot, LowestComesFromChild, MoreLevels};
+ghost use Rattle.scene_model.specs.LevelLaws.{SpansComeFromParents, PlacesAreMadeInParents, RootsArePlacedByTheirRows, LeastsComeFromChildren, ChildrenShowWithinParents, ChildrenHaveTheirParentsRoot, LowestComesFromChild, MoreLevels};
 ghost use Rattle.scene_model.specs.LookLaws.{LooksAreFit, LooksOfKeysAreFit};
 ghost use Rattle.scene_model.specs.RangeLaws.{LeastsAreSmall, TracksAreSmall, SpansAreSmall, PlacesAreInRange, PlacesOfKeysAreInRange};
 ghost use Rattle.scene_model.specs.ShowingLaws.{PlacesOfChildrenAreApart, ChildrenShareNoPixel, ShownLiesInParents, ShownLiesInPlace};
@@ -23,6 +23,16 @@ pub fn widgets_are_named_apart()
 /// A child's span is what its parent's kind, row and span make of it.
 pub fn spans_come_from_parents()
     ensures { SpansComeFromParents }
+{}
+
+/// A child's place is what its parent's kind, row and place make of it.
+pub fn places_are_made_in_parents()
+    ensures { PlacesAreMadeInParents }
+{}
+
+/// A widget that hangs in no other has the place that its own row says.
+pub fn roots_are_placed_by_their_rows()
+    ensures { RootsArePlacedByTheirRows }
 {}
 
 /// A widget's least length is what its row and those of its children make of it.
