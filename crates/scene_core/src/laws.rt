@@ -3,15 +3,36 @@
 
 ghost use Rattle.scene_model.specs.DependLaws.{PlacesDependOnOwnRows, PlacesComeFromParents};
 ghost use Rattle.scene_model.specs.FillLaws.{TracksFillTheRoom, WeighedTracksFillTheRoom};
-ghost use Rattle.scene_model.specs.LevelLaws.{SpansComeFromParents, LeastsComeFromChildren, ChildrenShowWithinParents, ChildrenHaveTheirParentsRoot, LowestComesFromChild, MoreLevels};
+ghost use Rattle.scene_model.specs.FitLaws.{WidgetsAreFit, WidgetsAreNamedApart};
+ghost use Rattle.scene_model.specs.LevelLaws.{SpansComeFromParents, PlacesAreMadeInParents, RootsArePlacedByTheirRows, LeastsComeFromChildren, ChildrenShowWithinParents, ChildrenHaveTheirParentsRoot, LowestComesFromChild, MoreLevels};
 ghost use Rattle.scene_model.specs.LookLaws.{LooksAreFit, LooksOfKeysAreFit};
 ghost use Rattle.scene_model.specs.RangeLaws.{LeastsAreSmall, TracksAreSmall, SpansAreSmall, PlacesAreInRange, PlacesOfKeysAreInRange};
 ghost use Rattle.scene_model.specs.ShowingLaws.{PlacesOfChildrenAreApart, ChildrenShareNoPixel, ShownLiesInParents, ShownLiesInPlace};
 ghost use Rattle.scene_model.specs.TopLaws.{ShowingChildIsFound, FoundChildShows, TopIsOnTop, OnTopIsTop, NoTopShowsNothing};
 
+/// The rows of widgets are within the limits that the laws of layout ask for.
+pub fn widgets_are_fit()
+    ensures { WidgetsAreFit }
+{}
+
+/// No two rows of one client have one name.
+pub fn widgets_are_named_apart()
+    ensures { WidgetsAreNamedApart }
+{}
+
 /// A child's span is what its parent's kind, row and span make of it.
 pub fn spans_come_from_parents()
     ensures { SpansComeFromParents }
+{}
+
+/// A child's place is what its parent's kind, row and place make of it.
+pub fn places_are_made_in_parents()
+    ensures { PlacesAreMadeInParents }
+{}
+
+/// A widget that hangs in no other has the place that its own row says.
+pub fn roots_are_placed_by_their_rows()
+    ensures { RootsArePlacedByTheirRows }
 {}
 
 /// A widget's least length is what its row and those of its children make of it.

@@ -1,4 +1,4 @@
--- What the limits of its values and texts say of a row, and of what it shows.
+-- What the limits of its values say of a row, and of what it shows.
 use Rattle.std.proofs.Common.{◌≡◌, ◌≤◌, ◌<◌, ◌+◌, ◌%◌, ◌^◌, ℕ, suc, ℤ, pos, negsuc, ◌≤ℤ◌, Bool, true, false, cond, nat_eq, List, [], ◌∷◌, ◌++◌, length, Option, Some, None, is_ok, Result, Ok, Err, unsigned_abs, refl, sym, ◌∙◌, arith, slice_get, length-append}
 use Rattle.std.proofs.lemmas.Bool.{true≢false, and_parts, and_from, leb-true}
 use Rattle.std.proofs.lemmas.Bool.Decides.{nat_tests}
@@ -15,7 +15,7 @@ use Rattle.kind_core.specs.declared.kinds.Attr.TheVariants.{X, Y, W, H, Title, T
 use Rattle.kind_core.specs.declared.values.Value as value
 use Rattle.kind_core.specs.declared.values.Value.TheVariants.{Number, Words}
 use Rattle.kind_core.specs.declared.values.AttrRefusal.{AttrRefusal}
-use Rattle.kind_core.specs.declared.values.AttrRefusal.TheVariants.{OutOfRange}
+use Rattle.kind_core.specs.declared.values.AttrRefusal.TheVariants.{NotOfKind, OutOfRange}
 use Rattle.kind_core.specs.Attributes.{in_range, minus}
 use Rattle.kind_core.specs.Bytes.{is_printable, is_text}
 use Rattle.kind_core.specs.Effective.{label_text}
@@ -23,8 +23,7 @@ use Rattle.widget_model.specs.Rows.{Row, all_attrs, attr_slot, attr_of}
 use Rattle.widget_model.specs.Named.{has_name, row_named}
 use Rattle.widget_model.specs.Fitting.{fits_attr, fits_table}
 use Rattle.widget_model.proofs.Hanging.{all_at, find-element}
-use Rattle.scene_model.specs.Fit.{fits_text, fits_texts, IsTextOf}
-use Rattle.scene_model.proofs.Lists.{all_or}
+use Rattle.scene_model.specs.Fit.{IsTextOf}
 use Rattle.scene_model.specs.Values.{number_in, text_in, number_of, text_of, linked_value, label_of}
 
 pub record IsBetween (least greatest n : ℤ) : Type 0 where
@@ -131,14 +130,35 @@ linked_value-between rows row v fits linked = by row.link linked
     by None h = absurd (cc)
     by (Some name) h = found name (row_named rows row.client name) refl h
 
--- a text by default is one too
-pub text_of-is_text : (row : Row) (attr : Attr) → fits_texts row ≡ true → is_text (text_of attr row) ≡ true
-text_of-is_text row attr fits = by (attr_of row attr) (all_or fits_text row.values (attr_slot attr) None fits refl)
+abbrev pub words_taken : Bool → Result (Unit {0}) AttrRefusal
+words_taken fits = cond fits (Ok tt) (Err NotOfKind)
+
+text_taken : (text : List ℕ) → is_ok (words_taken (is_text text)) ≡ true → is_text text ≡ true
+text_taken text fits = by (is_text text) fits
   where
-    by : (o : Option value.Value) → fits_text o ≡ true → is_text (text_in o) ≡ true
+    by : (b : Bool) → is_ok (words_taken b) ≡ true → b ≡ true
+    by true h = refl
+    by false h = absurd (true≢false (sym h))
+
+-- a text that the table takes is one of at most 64 bytes that print
+words_fit : (kind : Kind) (attr : Attr) (text : List ℕ) → fits_attr kind attr (Some (Words text)) ≡ true → is_text text ≡ true
+words_fit Window Title text fits = text_taken text fits
+words_fit Button Text text fits = text_taken text fits
+words_fit Label Text text fits = text_taken text fits
+words_fit Entry Text text fits = text_taken text fits
+words_fit Frame X text fits = absurd (true≢false (sym fits))
+words_fit Scale X text fits = absurd (true≢false (sym fits))
+words_fit Scrollbar X text fits = absurd (true≢false (sym fits))
+words_fit Variable X text fits = absurd (true≢false (sym fits))
+words_fit _ _ text fits = absurd (true≢false (sym fits))
+
+pub text_of-is_text : (row : Row) (attr : Attr) → fits_table row ≡ true → is_text (text_of attr row) ≡ true
+text_of-is_text row attr fits = by (attr_of row attr) (value_fits row attr fits)
+  where
+    by : (o : Option value.Value) → fits_attr row.kind attr o ≡ true → is_text (text_in o) ≡ true
     by None h = refl
     by (Some (Number n)) h = refl
-    by (Some (Words text)) h = h
+    by (Some (Words text)) h = words_fit row.kind attr text h
 
 pub IsTextOf-is_text : (text : List ℕ) → is_text text ≡ true → IsTextOf 64 text
 IsTextOf-is_text text is = let parts = and_parts _ _ is in record { length = leb-true (length text) 64 parts.0; printable = parts.1 }
@@ -167,16 +187,16 @@ signed_decimal-text v is = record { length = length_signed_le 7 v (let m = mag-b
     by (negsuc n) is = decimal-printable (suc n) (omega (arith, ints, is.low))
 
 -- a Label shows at most 72 bytes, and each prints
-pub label_of-text : (rows : List Row) (row : Row) → list_all fits_table rows ≡ true → fits_texts row ≡ true → IsTextOf 72 (label_of rows row)
-label_of-text rows row fits texts = by (linked_value rows row) refl
+pub label_of-text : (rows : List Row) (row : Row) → list_all fits_table rows ≡ true → fits_table row ≡ true → IsTextOf 72 (label_of rows row)
+label_of-text rows row all fits = by (linked_value rows row) refl
   where
     own : IsTextOf 64 (text_of Text row)
-    own = IsTextOf-is_text (text_of Text row) (text_of-is_text row Text texts)
+    own = IsTextOf-is_text (text_of Text row) (text_of-is_text row Text fits)
 
     by : (o : Option ℤ) → linked_value rows row ≡ o → IsTextOf 72 (label_text (text_of Text row) o)
     by None is = record { length = omega (arith, own.length); printable = own.printable }
     by (Some v) is =
-        let shown = signed_decimal-text v (linked_value-between rows row v fits is) in
+        let shown = signed_decimal-text v (linked_value-between rows row v all is) in
         record {
           length = omega (arith, own.length, shown.length, length-append (text_of Text row) (signed_decimal v));
           printable = list_all-append is_printable (text_of Text row) (signed_decimal v) own.printable shown.printable;

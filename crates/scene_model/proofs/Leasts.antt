@@ -21,7 +21,7 @@ use Rattle.scene_model.specs.declared.axis.Axis.{Axis}
 use Rattle.scene_model.specs.declared.axis.Axis.TheVariants.{Across, Down}
 use Rattle.scene_model.specs.Spans.{along}
 use Rattle.scene_model.specs.Values.{count_of, text_of, label_of, is_vertical}
-use Rattle.scene_model.specs.Fit.{fits_texts, AreFit}
+use Rattle.scene_model.specs.Fit.{AreFit}
 use Rattle.scene_model.specs.Tracks.{Need, cell_of, track_in, need_of, needs_of, rules_of, rule_of, asked_in, last_asked, track_least, tracks_used, track_leasts, track_weights, track_lengths, grid_least}
 use Rattle.scene_model.specs.Least.{bar_size, own_size, is_grid, least_by, least_in, least_of}
 use Rattle.scene_model.proofs.Lists.{all_or, greatest-most, All-map-filter}
@@ -31,7 +31,6 @@ use Rattle.scene_model.proofs.FitRows.{IsTextOf-is_text, text_of-is_text, label_
 -- all that is asked of a row's own parts
 pub record IsFitRow (row : Row) : Type 0 where
   pub values : fits_table row ≡ true
-  pub texts : fits_texts row ≡ true
   pub rules : fits_rules row ≡ true
   pub film : IsFitFilm row
 
@@ -44,7 +43,6 @@ pub IsFitRow-at : (rows : List Row) (i : ℕ) (row : Row) → AreFit rows → sl
 IsFitRow-at rows i row fit there =
     record {
       values = all_at fits_table rows i row fit.values there;
-      texts = all_at fits_texts rows i row fit.texts there;
       rules = all_at fits_rules rows i row fit.rules there;
       film = film_at rows i row fit.films there;
     }
@@ -71,8 +69,8 @@ own_size-most rows axis row all fit = by row.kind refl
     whole_film (Some f) whole = along-most axis 4096 f.width f.height (let m = whole.1.width_limit in omega arith) (let m = whole.1.height_limit in omega arith)
 
     by : (kind : Kind) → row.kind ≡ kind → along axis (own_size kind rows row).0 (own_size kind rows row).1 ≤ 4096
-    by Label is = along-most axis 4096 (6 * length (label_of rows row) + 4) 12 (let text = label_of-text rows row all fit.texts in omega (arith, text.length)) (omega arith)
-    by Button is = along-most axis 4096 (6 * length (text_of Text row) + 8) 16 (let text = IsTextOf-is_text (text_of Text row) (text_of-is_text row Text fit.texts) in omega (arith, text.length)) (omega arith)
+    by Label is = along-most axis 4096 (6 * length (label_of rows row) + 4) 12 (let text = label_of-text rows row all fit.values in omega (arith, text.length)) (omega arith)
+    by Button is = along-most axis 4096 (6 * length (text_of Text row) + 8) 16 (let text = IsTextOf-is_text (text_of Text row) (text_of-is_text row Text fit.values) in omega (arith, text.length)) (omega arith)
     by Entry is =
         let cols = count_of-takes row Cols 1 64 (rw is (record { none = refl; words = λ text. refl; numbers = λ n. refl })) fit.values in
         along-most axis 4096 (6 * count_of Cols row + 4) 12 (omega (arith, cols.most)) (omega arith)

@@ -8,13 +8,16 @@ use Rattle.widget_model.specs.Keys.{key_of, row_of, parent_key, root_key}
 use Rattle.widget_model.specs.Trees.{ends_within, most_levels, parent_of}
 use Rattle.widget_model.specs.Planted.{IsPlanted}
 use Rattle.widget_model.proofs.Hanging.{find-element, HangsIn-from}
-use Rattle.scene_model.specs.LevelLaws.{SpansComeFromParents, LeastsComeFromChildren, ChildrenShowWithinParents, ChildrenHaveTheirParentsRoot, LowestComesFromChild, MoreLevels}
+use Rattle.scene_model.specs.LevelLaws.{SpansComeFromParents, PlacesAreMadeInParents, RootsArePlacedByTheirRows, LeastsComeFromChildren, ChildrenShowWithinParents, ChildrenHaveTheirParentsRoot, LowestComesFromChild, MoreLevels}
 use Rattle.scene_model.specs.Least.{least_of}
-use Rattle.scene_model.specs.Placing.{span_along}
+use Rattle.scene_model.specs.declared.axis.Axis.TheVariants.{Across, Down}
+use Rattle.scene_model.specs.declared.axis.Span.{Span}
+use Rattle.scene_model.specs.Spans.{rect_of}
+use Rattle.scene_model.specs.Placing.{root_span, child_span, span_along, place_in}
 use Rattle.scene_model.specs.Scene.{Scene}
 use Rattle.scene_model.specs.Showing.{place_of, parent_in, shows_at}
 use Rattle.scene_model.proofs.Parents.{HangsFrom-parent_row}
-use Rattle.scene_model.proofs.Levels.{span_in-loose, span_along-child, shows_in-loose, shows_at-child, root_in-loose, root_key-child}
+use Rattle.scene_model.proofs.Levels.{span_in-loose, span_along-child, span_along-root, shows_in-loose, shows_at-child, root_in-loose, root_key-child}
 use Rattle.scene_model.proofs.LevelsDown.{AllEnd-planted, least_in-loose, least_of-children, lowest_in-loose, lowest_in-child}
 
 -- a row that its name finds ends within the levels of a tree
@@ -51,6 +54,18 @@ IsParentKey-parent_in scene key parent is = IsParentKey-parent_key scene.rows ke
 pub spans_come_from_parents : SpansComeFromParents
 spans_come_from_parents rows axis row parent planted found hung =
     span_along-child rows axis row parent (record { named = found }) (HangsFrom-parent_row rows row parent hung) (ends-found rows row planted found)
+
+pub places_are_made_in_parents : PlacesAreMadeInParents
+unfolding place_in
+places_are_made_in_parents rows row parent planted found hung =
+    ap (λ (span : Span). rect_of span (span_along rows Down row)) (spans_come_from_parents rows Across row parent planted found hung)
+    ∙ ap (rect_of (child_span parent.kind Across rows parent (span_along rows Across parent) row)) (spans_come_from_parents rows Down row parent planted found hung)
+
+pub roots_are_placed_by_their_rows : RootsArePlacedByTheirRows
+unfolding place_in
+roots_are_placed_by_their_rows rows row alone =
+    ap (λ (span : Span). rect_of span (span_along rows Down row)) (span_along-root rows Across row alone)
+    ∙ ap (rect_of (root_span row.kind Across row)) (span_along-root rows Down row alone)
 
 pub leasts_come_from_children : LeastsComeFromChildren
 leasts_come_from_children rows axis row planted apart found =

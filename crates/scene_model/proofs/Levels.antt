@@ -1,6 +1,6 @@
 -- More levels change nothing, once going up from a widget ends. So a child's span, what it shows and its root come from
 -- its parent's.
-use Rattle.std.proofs.Common.{◌≡◌, ◌≤◌, ℕ, zero, suc, ℤ, Bool, true, ◌&&◌, List, Option, Some, None, refl, sym, ap, ◌∙◌, arith}
+use Rattle.std.proofs.Common.{◌≡◌, ◌≤◌, ℕ, zero, suc, ℤ, Bool, true, ◌&&◌, List, Option, Some, None, refl, sym, ap, ◌∙◌, arith, ◌<◌}
 use Rattle.std.proofs.lemmas.Bool.{true≢false}
 use Rattle.std.specs.Option.{option_map, option_map_or}
 use Rattle.geom_core.specs.Rect.{in_rect}
@@ -35,6 +35,20 @@ span_in-child (suc most) rows axis row parent found hangs ends =
 pub span_along-child : (rows : List Row) (axis : Axis) (row parent : Row) → IsFound rows row → HangsFrom rows row parent → ends_within most_levels rows row.client row.name ≡ true → span_along rows axis row ≡ child_span parent.kind axis rows parent (span_along rows axis parent) row
 unfolding span_along
 span_along-child rows axis row parent found hangs ends = span_in-child most_levels rows axis row parent found hangs ends
+
+-- a widget that hangs in no other
+pub span_in-root : (most : ℕ) (rows : List Row) (axis : Axis) (row : Row) → 0 < most → parent_row rows row ≡ None → span_in most rows axis row ≡ root_span row.kind axis row
+span_in-root zero rows axis row some alone = absurd (omega arith)
+span_in-root (suc most) rows axis row some alone =
+    ap (λ (o : Option Row). option_map_or (λ (upper : Row). child_span upper.kind axis rows upper (span_in most rows axis upper) row) o (root_span row.kind axis row)) alone
+
+some_levels : 0 < most_levels
+unfolding most_levels
+some_levels = omega arith
+
+pub span_along-root : (rows : List Row) (axis : Axis) (row : Row) → parent_row rows row ≡ None → span_along rows axis row ≡ root_span row.kind axis row
+unfolding span_along
+span_along-root rows axis row alone = span_in-root most_levels rows axis row some_levels alone
 
 -- what a widget shows
 pub shows_in-loose : (few most : ℕ) (scene : Scene) (key : ℕ × List ℕ) (x y : ℤ) → few ≤ most → ends_within few scene.rows key.0 key.1 ≡ true → shows_in most scene key x y ≡ shows_in few scene key x y

@@ -15,3 +15,4 @@ pub mod DuePlaces
 pub mod Filling
 pub mod Looks
 pub mod TopWidget
+pub mod FitWidgets

@@ -70,12 +70,12 @@ numbers-fit scene row all fit = by row.kind refl
     whole_film (Some f) whole = (whole.1.some_width, whole.1.width_limit, whole.1.some_height, whole.1.height_limit, whole.1.shown_size)
 
     by : (kind : Kind) → row.kind ≡ kind → HasFitNumbers (look_by kind scene row)
-    by Window is = IsTextOf-is_text (text_of Title row) (text_of-is_text row Title fit.texts)
+    by Window is = IsTextOf-is_text (text_of Title row) (text_of-is_text row Title fit.values)
     by Grid is = tt
     by Frame is = tt
-    by Button is = IsTextOf-is_text (text_of Text row) (text_of-is_text row Text fit.texts)
-    by Label is = label_of-text scene.rows row all.values fit.texts
-    by Entry is = (IsTextOf-is_text (text_of Text row) (text_of-is_text row Text fit.texts), omega arith)
+    by Button is = IsTextOf-is_text (text_of Text row) (text_of-is_text row Text fit.values)
+    by Label is = label_of-text scene.rows row all.values fit.values
+    by Entry is = (IsTextOf-is_text (text_of Text row) (text_of-is_text row Text fit.values), omega arith)
     by Scale is =
         let most = count_of-takes row Max 1 10000 (rw is (record { none = refl; words = λ text. refl; numbers = λ n. refl })) fit.values in
         (most.some, most.most, scale-same (raw_value (linked_value scene.rows row) (number_of Value row)) (number_of Max row) most.same)

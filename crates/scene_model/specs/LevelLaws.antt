@@ -1,7 +1,8 @@
 -- What is proved of levels: no tree is deeper than they count, so that what is asked of a widget comes from its parent,
 -- or from its children, and more levels change nothing.
-use Rattle.std.specs.Prelude.{◌≡◌, ◌≤◌, ℕ, ℤ, ◌&&◌, List, Some}
+use Rattle.std.specs.Prelude.{◌≡◌, ◌≤◌, ℕ, ℤ, ◌&&◌, List, Some, None}
 use Rattle.std.specs.Option.{option_map_or}
+use Rattle.geom_core.specs.declared.rectangle.Rect.{Rect}
 use Rattle.geom_core.specs.Rect.{in_rect}
 use Rattle.widget_model.specs.Rows.{Row}
 use Rattle.widget_model.specs.Named.{AreNamedApart}
@@ -9,8 +10,10 @@ use Rattle.widget_model.specs.Keys.{key_of, row_of, parent_key, root_key}
 use Rattle.widget_model.specs.Trees.{most_levels, root_in}
 use Rattle.widget_model.specs.Planted.{IsPlanted}
 use Rattle.scene_model.specs.declared.axis.Axis.{Axis}
+use Rattle.scene_model.specs.declared.axis.Axis.TheVariants.{Across, Down}
+use Rattle.scene_model.specs.Spans.{span_of, rect_of}
 use Rattle.scene_model.specs.Least.{least_by, least_in, least_of}
-use Rattle.scene_model.specs.Placing.{child_span, parent_row, span_in, span_along}
+use Rattle.scene_model.specs.Placing.{root_span, child_span, parent_row, span_in, span_along, place_in}
 use Rattle.scene_model.specs.Scene.{Scene}
 use Rattle.scene_model.specs.Showing.{place_of, parent_in, shows_in, shows_at, child_at, lowest_in}
 
@@ -19,6 +22,21 @@ abbrev pub SpansComeFromParents : Type 0
 SpansComeFromParents =
     (rows : List Row) (axis : Axis) (row parent : Row) → IsPlanted rows → row_of rows (key_of row) ≡ Some row → parent_row rows row ≡ Some parent
     → span_along rows axis row ≡ child_span parent.kind axis rows parent (span_along rows axis parent) row
+
+-- and so its place comes from its parent's place
+abbrev pub child_place : List Row → Row → Rect → Row → Rect
+child_place rows parent place row =
+    rect_of (child_span parent.kind Across rows parent (span_of Across place) row) (child_span parent.kind Down rows parent (span_of Down place) row)
+
+abbrev pub PlacesAreMadeInParents : Type 0
+PlacesAreMadeInParents =
+    (rows : List Row) (row parent : Row) → IsPlanted rows → row_of rows (key_of row) ≡ Some row → parent_row rows row ≡ Some parent
+    → place_in rows row ≡ child_place rows parent (place_in rows parent) row
+
+-- A widget that hangs in no other has the place that its own row says.
+abbrev pub RootsArePlacedByTheirRows : Type 0
+RootsArePlacedByTheirRows =
+    (rows : List Row) (row : Row) → parent_row rows row ≡ None → place_in rows row ≡ rect_of (root_span row.kind Across row) (root_span row.kind Down row)
 
 -- a widget's least length comes from those of its children
 abbrev pub LeastsComeFromChildren : Type 0

@@ -12,6 +12,7 @@ pub mod LookOf
 pub mod Colours
 pub mod WindowRows
 pub mod Still
+pub mod FitLaws
 pub mod LevelLaws
 pub mod RangeLaws
 pub mod ShowingLaws
