@@ -3,6 +3,8 @@
 
 mod asked;
 mod child;
+mod children;
+mod reading;
 mod size;
 mod spans;
 mod tracks;
