@@ -1,5 +1,5 @@
 -- An inner word of the proofs: the row of a number, the least size of that row, and the numbers of a widget's children.
-use Rattle.std.specs.Prelude.{ℕ, ◌≡◌, List, [], Some, IfSome, slice_index_or, Option, None}
+use Rattle.std.specs.Prelude.{ℕ, ◌≡◌, List, [], ◌∷◌, Some, IfSome, slice_index_or, Option, None}
 use Rattle.std.specs.List.{All, Contains}
 use Rattle.std.specs.Option.{option_map_or}
 use Rattle.kind_core.specs.declared.kinds.Kind.TheVariants.{Variable}
@@ -26,6 +26,11 @@ size_for widgets id = size_of (rows_of widgets) (row_for widgets id)
 -- the numbered widget as a measured child
 abbrev pub child_for : Widgets → ℕ → Child
 child_for widgets id = record { key = id; cell = cell_of (row_for widgets id); least = size_for widgets id }
+
+-- a list of the one that there is, or an empty one
+abbrev pub one_or_none : Option ℕ → List ℕ
+one_or_none None = []
+one_or_none (Some id) = id ∷ []
 
 -- these are the numbers of the widgets that hang in the numbered one
 pub record AreChildren (widgets : Widgets) (id : ℕ) (keys : List ℕ) : Type 0 where

@@ -1,14 +1,14 @@
 //! What a widget's row says, read by its number.
 ghost use Rattle.std.specs.Prelude.{◌≡◌, ◌≤◌, length, Some, IfSome};
-ghost use Rattle.std.specs.Option.{option_map};
+ghost use Rattle.std.specs.Option.{option_map, option_map_or};
 ghost use Rattle.widget_model.specs.Rows.{IsIndex};
 ghost use Rattle.widget_model.specs.Widgets.{IsLive, IsGrid, rows_of, row_at};
-ghost use Rattle.scene_model.specs.Values.{number_of, text_of, linked_value};
+ghost use Rattle.scene_model.specs.Values.{number_in, number_of, text_in, text_of, linked_value};
 ghost use Rattle.scene_model.specs.Tracks.{cell_of, rules_of, rule_of};
 ghost use Rattle.scene_model.specs.Placing.{parent_row};
 ghost use Rattle.scene_core.specs.Children.{row_for};
 
-use kind_core::{Attr, Cell, Kind, Value};
+use kind_core::{Attr, Cell, Kind, Text, Value};
 use scene_model::Axis;
 use tree_core::{Id, Tree};
 
@@ -20,13 +20,37 @@ pub(crate) fn kind_of(tree: &Tree, id: Id) -> Kind
     tree.kind(id)
 }
 
+/// The number that a value is, 0 where it is none.
+fn number_in(value: Option<Value>) -> i32
+    ensures { result ≡ number_in value }
+{
+    match value {
+        Some(Value::Number(number)) => number,
+        _ => 0,
+    }
+}
+
 /// The number that the attribute is, 0 where the widget has none.
 pub(crate) fn number_of(tree: &Tree, id: Id, attr: Attr) -> i32
     requires { IsLive tree.now id.key }
     ensures { result ≡ number_of attr (row_for tree.now id.key) }
 {
-    match tree.attr(id, attr) {
-        Some(Value::Number(number)) => number,
+    number_in(tree.attr(id, attr))
+}
+
+/// How many bytes a text has.
+fn length_of(text: &Text) -> usize
+    ensures { result ≡ length text.now }
+{
+    text.as_slice().len()
+}
+
+/// How many bytes the text has that a value is, 0 where it is none.
+fn length_in(value: &Option<Value>) -> usize
+    ensures { result ≡ length (text_in value.now) }
+{
+    match value {
+        Some(Value::Words(text)) => length_of(text),
         _ => 0,
     }
 }
@@ -36,10 +60,7 @@ pub(crate) fn text_length(tree: &Tree, id: Id, attr: Attr) -> usize
     requires { IsLive tree.now id.key }
     ensures { result ≡ length (text_of attr (row_for tree.now id.key)) }
 {
-    match tree.attr(id, attr) {
-        Some(Value::Words(text)) => text.as_slice().len(),
-        _ => 0,
-    }
+    length_in(&tree.attr(id, attr))
 }
 
 /// The value of the Variable that the widget is linked to.
@@ -65,12 +86,11 @@ pub(crate) fn rule_of(tree: &Tree, id: Id, axis: Axis, track: u32) -> (u32, u32)
     }
 }
 
-/// The cell in which the widget hangs.
-pub(crate) fn cell_of(tree: &Tree, id: Id) -> Cell
-    requires { IsLive tree.now id.key }
-    ensures { result ≡ cell_of (row_for tree.now id.key) }
+/// The cell, or one with no column and no row where there is none.
+fn cell_in(cell: Option<Cell>) -> Cell
+    ensures { result ≡ option_map_or (λ cell. cell) cell (record { column = 0; row = 0; pad = 0 }) }
 {
-    match tree.cell(id) {
+    match cell {
         Some(cell) => cell,
         None => Cell {
             column: 0,
@@ -78,6 +98,14 @@ pub(crate) fn cell_of(tree: &Tree, id: Id) -> Cell
             pad: 0,
         },
     }
+}
+
+/// The cell in which the widget hangs.
+pub(crate) fn cell_of(tree: &Tree, id: Id) -> Cell
+    requires { IsLive tree.now id.key }
+    ensures { result ≡ cell_of (row_for tree.now id.key) }
+{
+    cell_in(tree.cell(id))
 }
 
 /// The widget in which this one hangs.

@@ -7,6 +7,7 @@ use Rattle.std.specs.Str.{bytes_eq}
 use Rattle.kind_core.specs.declared.shapes.Cell.{Cell}
 use Rattle.widget_model.specs.Rows.{Row}
 use Rattle.widget_model.specs.Named.{row_named}
+use Rattle.widget_model.specs.Keys.{key_of, row_of}
 use Rattle.widget_model.specs.Trees.{parent_of, is_child, ends_within}
 use Rattle.widget_model.proofs.Hanging.{IsNamed-row_named}
 use Rattle.scene_model.specs.Placing.{parent_row}
@@ -80,3 +81,12 @@ ends_within-child most rows client name child found is =
     ap (λ (o : Option (List ℕ)). option_map_or (ends_within most rows child.client) o true)
     (parent_of-found rows child.client child.name child found.named ∙ ap (option_map (λ (attached : List ℕ × Cell). attached.0)) is.attached)
     ∙ ap (λ (owner : ℕ). ends_within most rows owner name) is.owner
+
+-- the row with a key has that key
+pub key_of-found : (rows : List Row) (key : ℕ × List ℕ) (row : Row) → row_of rows key ≡ Some row → key_of row ≡ key
+key_of-found rows key row found =
+    let named = IsNamed-row_named rows key.0 key.1 row found in
+    ap (λ (client : ℕ). (client, row.name)) named.client_is ∙ ap (λ (name : List ℕ). (key.0, name)) named.name_is
+
+pub row_of-own : (rows : List Row) (key : ℕ × List ℕ) (row : Row) → row_of rows key ≡ Some row → row_of rows (key_of row) ≡ Some row
+row_of-own rows key row found = ap (row_of rows) (key_of-found rows key row found) ∙ found

@@ -10,6 +10,7 @@ pub mod Showing
 pub mod LookOf
 pub mod Colours
 pub mod LevelLaws
+pub mod RangeLaws
 pub mod Windows
 pub mod OpenWindows
 pub mod Picture
