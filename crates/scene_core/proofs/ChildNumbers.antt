@@ -1,8 +1,10 @@
 -- The numbers of a widget's children: what its cells have is what hangs in it.
-use Rattle.std.proofs.Common.{◌≡◌, ℕ, ◌+◌, ◌-◌, ◌*◌, ◌/◌, ◌%◌, ◌<◌, ◌≤◌, List, [], ◌∷◌, ◌++◌, length, All, Option, Some, None, refl, sym, ap, ◌∙◌, arith, inl, inr, ◌⊎◌, get_or, append_assoc, length-append}
+use Rattle.std.proofs.Common.{◌≡◌, ℕ, ◌+◌, ◌-◌, ◌*◌, ◌/◌, ◌%◌, ◌<◌, ◌≤◌, List, [], ◌∷◌, ◌++◌, length, All, Option, Some, None, refl, sym, ap, ◌∙◌, arith, inl, inr, ◌⊎◌, get_or, length-append}
+use Rattle.std.proofs.lemmas.Bool.{cases_lt}
+use Rattle.std.proofs.lemmas.List.{append-nil, get_or_append_left}
 use Rattle.std.specs.List.{Contains}
 use Rattle.std.specs.Option.{option_map, option_map_or, option_and_then}
-use Rattle.std.proofs.lemmas.List.Elements.{All-append, All-nil, All-cons, Contains-push}
+use Rattle.std.proofs.lemmas.List.Elements.{All-append, All-nil, All-push, Contains-push}
 use Rattle.kind_core.specs.declared.kinds.Kind.{Kind}
 use Rattle.kind_core.specs.declared.shapes.Cell.{Cell}
 use Rattle.widget_model.specs.Rows.{Row, IsIndex}
@@ -81,15 +83,40 @@ pub found_none : (widgets : Widgets) (id : ℕ) → AreFound widgets id 0 []
 found_none widgets id = record { few = omega arith; each = All-nil (λ kid. parent_id widgets kid ≡ Some id); all = λ kid column line c l h found. absurd (omega arith) }
 
 Contains-left : (xs ys : List ℕ) (x : ℕ) → Contains xs x → Contains (xs ++ ys) x
-Contains-left xs ys x h = (h.0, omega (arith, h.1, length-append xs ys), ?)
+Contains-left xs ys x h = (h.0, omega (arith, h.1, length-append xs ys), get_or_append_left xs ys x h.0 h.1 ∙ h.2)
+
+-- the column and row of a cell, from its index
+cell_index : (index column line : ℕ) → IsIndex column → IsIndex line → (column - 1) * 16 + (line - 1) ≡ index → (column ≡ index / 16 + 1) × (line ≡ index % 16 + 1)
+cell_index index column line c l h = (omega (arith, c.0, c.1, l.0, l.1, h), omega (arith, c.0, c.1, l.0, l.1, h))
 
 pub found_more : (widgets : Widgets) (id index : ℕ) (keys : List ℕ) → IsWidgets widgets → AreFound widgets id index keys
     → AreFound widgets id (index + 1) (keys ++ one_or_none (child_id widgets id (index / 16 + 1) (index % 16 + 1)))
 found_more widgets id index keys valid h = by (child_id widgets id (index / 16 + 1) (index % 16 + 1)) refl
   where
+    P : ℕ → Type 0
+    P kid = parent_id widgets kid ≡ Some id
+
+    here : (o : Option ℕ) → child_id widgets id (index / 16 + 1) (index % 16 + 1) ≡ o → (kid column line : ℕ) → IsIndex column → IsIndex line → (column - 1) * 16 + (line - 1) ≡ index → child_id widgets id column line ≡ Some kid → o ≡ Some kid
+    here o q kid column line c l at found =
+        let e = cell_index index column line c l at in
+        sym q ∙ ap (λ (n : ℕ). child_id widgets id n (index % 16 + 1)) (sym e.0) ∙ ap (λ (n : ℕ). child_id widgets id column n) (sym e.1) ∙ found
+
+    split : (a b : ℕ) → a < b + 1 → (a < b) ⊎ (a ≡ b)
+    split a b lt = elim (cases_lt a b) [ inl less ↦ inl less | inr more ↦ inr (omega arith) ]
+
     by : (o : Option ℕ) → child_id widgets id (index / 16 + 1) (index % 16 + 1) ≡ o → AreFound widgets id (index + 1) (keys ++ one_or_none o)
-    by None q = ?
-    by (Some kid) q = ?
+    by None q = record {
+      few = omega (arith, h.few, length-append keys (one_or_none None));
+      each = rw append-nil h.each;
+      all = λ kid column line c l within found.
+        elim (split ((column - 1) * 16 + (line - 1)) index within) [ inl less ↦ Contains-left keys [] kid (h.all kid column line c l less found) | inr at ↦ absurd (let e = here None q kid column line c l at found in cc) ];
+    }
+    by (Some kid) q = record {
+      few = omega (arith, h.few, length-append keys (kid ∷ []));
+      each = All-push P keys kid h.each (child_id-parent widgets id (index / 16 + 1) (index % 16 + 1) kid valid q);
+      all = λ other column line c l within found.
+        elim (split ((column - 1) * 16 + (line - 1)) index within) [ inl less ↦ Contains-left keys (kid ∷ []) other (h.all other column line c l less found) | inr at ↦ (let e = here (Some kid) q other column line c l at found in let same : kid ≡ other = cc in rw (← same) (Contains-push keys kid)) ];
+    }
 
 -- all cells of the widget have its children
 pub found_all : (widgets : Widgets) (id : ℕ) (kind : Kind) (keys : List ℕ) → IsWidgets widgets → option_map (λ (row : Row). row.kind) (row_at widgets.entries id) ≡ Some kind

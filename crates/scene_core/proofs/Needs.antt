@@ -44,3 +44,8 @@ last_asked_more axis children i d h =
 -- what stands for a child past the end of a list
 abbrev pub blank_child : Child
 blank_child = record { key = 0; cell = record { column = 0; row = 0; pad = 0 }; least = record { w = 0; h = 0 } }
+
+-- the greater of two small numbers, one of which counts only where the test holds
+pub max_small : (n a b most : ℕ) (t : Bool) → n ≡ max a (if t then b else 0) → a ≤ most → b ≤ most → n ≤ most
+max_small n a b most true e p q = omega arith
+max_small n a b most false e p q = omega arith

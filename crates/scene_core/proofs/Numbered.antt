@@ -14,7 +14,8 @@ use Rattle.widget_model.proofs.Naming.{row_named-found, row_named-none, id_named
 use Rattle.scene_model.specs.Values.{number_of, linked_value}
 use Rattle.scene_model.specs.Tracks.{cell_of}
 use Rattle.scene_model.specs.Placing.{parent_row}
-use Rattle.scene_core.specs.Children.{row_for}
+use Rattle.tree_core.specs.declared.id.Id.{Id}
+use Rattle.scene_core.specs.Children.{row_for, blank_row}
 
 pub row_for-there : (widgets : Widgets) (id : ℕ) (row : Row) → row_at widgets.entries id ≡ Some row → row_for widgets id ≡ row
 unfolding row_for
@@ -24,8 +25,8 @@ pub live-there : (widgets : Widgets) (id : ℕ) → IsLive widgets id → row_at
 unfolding row_for
 live-there widgets id live = by (row_at widgets.entries id) refl live
   where
-    by : (o : Option Row) → row_at widgets.entries id ≡ o → IsSome o → row_at widgets.entries id ≡ Some (option_map_or (λ (row : Row). row) (row_at widgets.entries id) _)
-    by None q h = absurd h
+    by : (o : Option Row) → row_at widgets.entries id ≡ o → IsSome o → row_at widgets.entries id ≡ Some (option_map_or (λ (row : Row). row) (row_at widgets.entries id) blank_row)
+    by None q h = absurd (cc)
     by (Some row) q h = rw q refl
 
 -- what is read of the numbered row
@@ -33,7 +34,7 @@ pub read : {X : Type 0} (f : Row → X) (widgets : Widgets) (id : ℕ) (x : X) �
 unfolding row_for
 read {X} f widgets id x h = by (row_at widgets.entries id) refl h
   where
-    by : (o : Option Row) → row_at widgets.entries id ≡ o → option_map f o ≡ Some x → x ≡ f (option_map_or (λ (row : Row). row) (row_at widgets.entries id) _)
+    by : (o : Option Row) → row_at widgets.entries id ≡ o → option_map f o ≡ Some x → x ≡ f (option_map_or (λ (row : Row). row) (row_at widgets.entries id) blank_row)
     by None q h = absurd (cc)
     by (Some row) q h = let same : f row ≡ x = cc in rw q (sym same)
 
@@ -43,11 +44,11 @@ row_at-named [] client name id found = absurd (cc)
 row_at-named (e ∷ es) client name id found = by (row_at-named es client name id) (has_name client name e.1) found
   where
     later : (b : Bool) → IsSome (row_at es id) → IsSome (cond b (Some e.1) (row_at es id))
-    later true h = tt
+    later true h = refl
     later false h = h
 
     by : (id_named (nodes es) client name ≡ Some id → IsSome (row_at es id)) → (b : Bool) → cond b (Some e.0) (id_named (nodes es) client name) ≡ Some id → IsSome (row_at (e ∷ es) id)
-    by rest true h = let same : e.0 ≡ id = cc in rw (eq-eqb id e.0 (sym same)) tt
+    by rest true h = let same : e.0 ≡ id = cc in rw (eq-eqb id e.0 (sym same)) refl
     by rest false h = later (nat_eq id e.0) (rest h)
 
 -- the row of a name is the row of its number
@@ -97,3 +98,8 @@ cell_read row = by row.attached
     by : (o : Option (List ℕ × Cell)) → option_map_or (λ (cell : Cell). cell) (option_map (λ (attached : List ℕ × Cell). attached.1) o) (record { column = 0; row = 0; pad = 0 }) ≡ option_map_or (λ (attached : List ℕ × Cell). attached.1) o (record { column = 0; row = 0; pad = 0 })
     by None = refl
     by (Some attached) = refl
+
+-- a number behind an Id
+pub map_key : {X : Type 0} (f : ℕ → X) (o : Option Id) → option_map (λ (id : Id). f id.key) o ≡ option_map f (option_map (λ (id : Id). id.key) o)
+map_key f None = refl
+map_key f (Some id) = refl

@@ -12,9 +12,12 @@ use Rattle.scene_model.specs.Tracks.{cell_of}
 use Rattle.scene_core.specs.declared.child.Child.{Child}
 use Rattle.scene_core.specs.declared.size.Size.{Size}
 
--- the row with this number; a number that names no row has an empty one
+abbrev pub blank_row : Row
+blank_row = new_row 0 [] Variable
+
+-- the row with this number; a number that names no row has a blank one
 unfoldable pub row_for : Widgets → ℕ → Row
-row_for widgets id = option_map_or (λ row. row) (row_at widgets.entries id) (new_row 0 [] Variable)
+row_for widgets id = option_map_or (λ row. row) (row_at widgets.entries id) blank_row
 
 -- the least size of a row
 abbrev pub size_of : List Row → Row → Size

@@ -1,5 +1,5 @@
 use Rattle.std.proofs.Common.{◌≡◌, ℕ, ◌+◌, ◌<◌, ◌≤◌, get_or, take, arith, max, ap, ◌∙◌, sym}
-use Rattle.scene_core.proofs.Needs.{asked_in_more, last_asked_more, blank_child}
+use Rattle.scene_core.proofs.Needs.{asked_in_more, last_asked_more, blank_child, max_small}
 use Rattle.scene_core.proofs.asked.all_asked.Goals as goal
 
 pub loop-child-preserved : goal.loop-child-preserved
@@ -11,7 +11,7 @@ loop-child-preserved c =
         let p = c.loop-child.invariant.rooms index h in
         let q = c.raise.ensures.rooms index h in
         cc;
-      small = λ index h. let q = c.raise.ensures.rooms index h in let p = c.loop-child.invariant.small index h in ?;
+      small = λ index h. max_small _ _ _ 4128 _ (c.raise.ensures.rooms index h) (c.loop-child.invariant.small index h) c.raise.ensures.small;
       last = let p = c.loop-child.invariant.last in let q = c.raise.ensures.last in cc;
       last_small = omega (arith, c.raise.ensures.last);
     }
