@@ -6,3 +6,6 @@ pub mod LevelLaws
 pub mod FitRows
 pub mod Leasts
 pub mod Ranges
+pub mod Apart
+pub mod FromParents
+pub mod OwnRows

@@ -11,6 +11,8 @@ pub mod LookOf
 pub mod Colours
 pub mod LevelLaws
 pub mod RangeLaws
+pub mod ShowingLaws
+pub mod DependLaws
 pub mod Windows
 pub mod OpenWindows
 pub mod Picture
