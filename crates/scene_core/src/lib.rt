@@ -4,6 +4,8 @@
 mod asked;
 mod child;
 mod children;
+mod known;
+mod own;
 mod reading;
 mod size;
 mod spans;

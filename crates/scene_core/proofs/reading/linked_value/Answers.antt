@@ -10,7 +10,7 @@ use Rattle.scene_core.proofs.reading.linked_value.Goals as goal
 
 pub returns-in-Some : goal.returns-in-Some
 returns-in-Some c =
-    ap Some (to_z-of_z w32 c.number_of.result c.number_of.type_inv ∙ c.number_of.ensures)
+    ap Some (to_z-of_z w32 c.number_of.result (search rules) ∙ c.number_of.ensures)
     ∙ ap (option_map (λ (n : ℕ). number_of Value (row_for c.args.tree.now n))) c.in-Some.ensures.found
     ∙ sym (linked_read c.args.tree.now c.args.id.key c.link.ensures.valid c.requires)
 
