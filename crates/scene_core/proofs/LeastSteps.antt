@@ -1,8 +1,8 @@
 -- The least size of a numbered widget, from its kind and its children.
-use Rattle.std.proofs.Common.{◌≡◌, ℕ, zero, suc, ◌+◌, ◌-◌, ◌<◌, ◌≤◌, Bool, true, false, cond, ◌&&◌, nat_eq, min, sum, take, List, length, map, get_or, set, slice_get, All, Option, Some, None, IfSome, refl, sym, ap, ◌∙◌, arith, subst, inl, inr, ◌⊎◌}
+use Rattle.std.proofs.Common.{◌≡◌, ℕ, zero, suc, ◌+◌, ◌-◌, ◌<◌, ◌≤◌, Bool, true, false, cond, ◌&&◌, nat_eq, min, sum, take, List, length, map, get_or, set, replicate, slice_get, All, Option, Some, None, IfSome, refl, sym, ap, ◌∙◌, arith, subst, inl, inr, ◌⊎◌}
 use Rattle.std.proofs.lemmas.Bool.{and_parts, eqb-true, true≢false, cases_eq, cases_lt}
 use Rattle.std.specs.Option.{option_map}
-use Rattle.std.proofs.lemmas.List.{get_or-set_other, get_or-set_same, length-set}
+use Rattle.std.proofs.lemmas.List.{get_or-set_other, get_or-set_same, length-set, set_past}
 use Rattle.std.specs.List.{list_all}
 use Rattle.kind_core.specs.declared.kinds.Kind.{Kind}
 use Rattle.widget_model.specs.Rows.{Row}
@@ -133,5 +133,17 @@ known-put widgets sizes id size known is other = elim (cases_eq other id) [ inl 
     Q n o = IfSome o (λ (s : Size). s ≡ size_for widgets n)
 
     at : other ≡ id → (id < length sizes) ⊎ (length sizes ≤ id) → IfSome (get_or (set sizes id (Some size)) other None) (λ (s : Size). s ≡ size_for widgets other)
-    at same (inl less) = ?
-    at same (inr past) = ?
+    at same (inl less) =
+        subst (λ (n : ℕ). IfSome (get_or (set sizes id (Some size)) n None) (λ (s : Size). s ≡ size_for widgets n)) (sym same)
+        (subst (λ (o : Option Size). IfSome o (λ (s : Size). s ≡ size_for widgets id)) (sym (get_or-set_same sizes id (Some size) None less)) is)
+    at same (inr past) =
+        subst (λ (xs : List (Option Size)). IfSome (get_or xs other None) (λ (s : Size). s ≡ size_for widgets other)) (sym (set_past sizes id (Some size) past)) (known other)
+
+-- at first none is known
+pub none-known : (n i : ℕ) → get_or {A = Option Size} (replicate n None) i None ≡ None
+none-known zero i = refl
+none-known (suc n) zero = refl
+none-known (suc n) (suc i) = none-known n i
+
+pub known-none : (widgets : Widgets) (sizes : List (Option Size)) → ((id : ℕ) → get_or sizes id None ≡ None) → AreKnown widgets sizes
+known-none widgets sizes none id = subst (λ (o : Option Size). IfSome o (λ (s : Size). s ≡ size_for widgets id)) (sym (none id)) tt

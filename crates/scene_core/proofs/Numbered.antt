@@ -3,10 +3,11 @@ use Rattle.std.proofs.Common.{◌≡◌, ℕ, Bool, true, false, cond, List, [],
 use Rattle.std.specs.Option.{option_map, option_map_or, option_and_then}
 use Rattle.kind_core.specs.declared.kinds.Attr.TheVariants.{Value}
 use Rattle.kind_core.specs.declared.shapes.Cell.{Cell}
+use Rattle.kind_core.specs.declared.kinds.Kind.TheVariants.{Grid}
 use Rattle.widget_model.specs.Rows.{Row}
 use Rattle.widget_model.specs.Named.{has_name, row_named}
 use Rattle.widget_model.specs.Nodes.{id_named}
-use Rattle.widget_model.specs.Widgets.{Widgets, rows_of, row_at, nodes, IsLive}
+use Rattle.widget_model.specs.Widgets.{Widgets, rows_of, row_at, nodes, IsLive, IsGrid}
 use Rattle.widget_model.specs.Forest.{IsWidgets}
 use Rattle.widget_model.specs.Links.{linked_id}
 use Rattle.widget_model.specs.Relatives.{parent_id}
@@ -103,3 +104,17 @@ cell_read row = by row.attached
 pub map_key : {X : Type 0} (f : ℕ → X) (o : Option Id) → option_map (λ (id : Id). f id.key) o ≡ option_map f (option_map (λ (id : Id). id.key) o)
 map_key f None = refl
 map_key f (Some id) = refl
+
+-- a Grid's number is live, and its row is a Grid's
+pub grid-live : (widgets : Widgets) (id : ℕ) → IsGrid widgets id → IsLive widgets id
+grid-live widgets id grid = by (row_at widgets.entries id) refl grid
+  where
+    by : (o : Option Row) → row_at widgets.entries id ≡ o → option_map (λ (row : Row). row.kind) o ≡ Some Grid → IsSome o
+    by None q h = absurd (cc)
+    by (Some row) q h = refl
+
+pub grid-kind : (widgets : Widgets) (id : ℕ) → IsGrid widgets id → (row_for widgets id).kind ≡ Grid
+grid-kind widgets id grid = sym (read (λ (row : Row). row.kind) widgets id Grid grid)
+
+pub kind-grid : (widgets : Widgets) (id : ℕ) → IsLive widgets id → (row_for widgets id).kind ≡ Grid → IsGrid widgets id
+kind-grid widgets id live is = ap (option_map (λ (row : Row). row.kind)) (live-there widgets id live) ∙ ap Some is
