@@ -98,8 +98,8 @@ child-at widgets id key valid parent =
       index = place.0;
       there = place.1 ∙ ap (λ (row : Row). Some row) (sym lower);
       is = ap (λ (row : Row). is_child (row_for widgets id).client (row_for widgets id).name row) lower
-        ∙ ap (λ (row : Row). is_child row.client row.name f.lower) upper
-        ∙ is_child-attached f.upper.client f.upper.name f.lower f.cell f.owner f.attached;
+          ∙ ap (λ (row : Row). is_child row.client row.name f.lower) upper
+          ∙ is_child-attached f.upper.client f.upper.name f.lower f.cell f.owner f.attached;
     }
 
 -- a child's row is the row of a child
@@ -108,12 +108,14 @@ pub child-number : (widgets : Widgets) (id i : ℕ) (row : Row) → IsWidgets wi
 child-number widgets id i row valid live there is =
     let number = listed_number widgets.entries i row valid.forest.own_numbers there in
     let of = IsChildOf-is_child (row_for widgets id).client (row_for widgets id).name row is in
-    let own : id_named (nodes widgets.entries) (row_for widgets id).client (row_for widgets id).name ≡ Some id = id_named-row widgets.entries id (row_for widgets id) valid.forest.own_names (live-there widgets id live) in
-    (number.0, row_for-there widgets number.0 row number.1,
+    let own : id_named (nodes widgets.entries) (row_for widgets id).client (row_for widgets id).name ≡ Some id = id_named-row widgets.entries id (row_for widgets id) valid.forest.own_names (live-there widgets id live) in (
+      number.0,
+      row_for-there widgets number.0 row number.1,
       ap (option_and_then (λ (row : Row). option_and_then (λ (attached : List ℕ × Cell). id_named (nodes widgets.entries) row.client attached.0) row.attached)) number.1
-      ∙ ap (option_and_then (λ (attached : List ℕ × Cell). id_named (nodes widgets.entries) row.client attached.0)) of.attached
-      ∙ ap (λ (client : ℕ). id_named (nodes widgets.entries) client (row_for widgets id).name) of.owner
-      ∙ own)
+          ∙ ap (option_and_then (λ (attached : List ℕ × Cell). id_named (nodes widgets.entries) row.client attached.0)) of.attached
+          ∙ ap (λ (client : ℕ). id_named (nodes widgets.entries) client (row_for widgets id).name) of.owner
+          ∙ own,
+    )
 
 -- the greatest of a number of each child, asked of the measured children or of the rows
 greatest-children : (axis : Axis) (f : Need → ℕ) (widgets : Widgets) (id : ℕ) (keys : List ℕ) → IsWidgets widgets → IsLive widgets id → AreChildren widgets id keys
@@ -152,7 +154,7 @@ greatest-children axis f widgets id keys valid live kids =
             let in_keys = kids.all number.0 number.2 in
             let bound = le-greatest (λ (key : ℕ). f (need_seen axis (child_for widgets key))) keys in_keys.0 number.0 in_keys.1 in
             let e : f (need_seen axis (child_for widgets (get_or keys in_keys.0 number.0))) ≡ f (need_of (least_of (rows_of widgets) axis) axis row) =
-                ap (λ (key : ℕ). f (need_seen axis (child_for widgets key))) in_keys.2 ∙ ap f (need-same axis widgets number.0) ∙ ap (λ (r : Row). f (need_of (least_of (rows_of widgets) axis) axis r)) number.1 in
+            ap (λ (key : ℕ). f (need_seen axis (child_for widgets key))) in_keys.2 ∙ ap f (need-same axis widgets number.0) ∙ ap (λ (r : Row). f (need_of (least_of (rows_of widgets) axis) axis r)) number.1 in
             rw (← e) bound
 
 pub asked-children : (axis : Axis) (widgets : Widgets) (id : ℕ) (keys : List ℕ) (track : ℕ) → IsWidgets widgets → IsLive widgets id → AreChildren widgets id keys

@@ -109,22 +109,22 @@ found_more widgets id index keys valid h = by (child_id widgets id (index / 16 +
       few = omega (arith, h.few, length-append keys (one_or_none None));
       each = rw append-nil h.each;
       all = λ kid column line c l within found.
-        elim (split ((column - 1) * 16 + (line - 1)) index within) [ inl less ↦ Contains-left keys [] kid (h.all kid column line c l less found) | inr at ↦ absurd (let e = here None q kid column line c l at found in cc) ];
+          elim (split ((column - 1) * 16 + (line - 1)) index within) [ inl less ↦ Contains-left keys [] kid (h.all kid column line c l less found) | inr at ↦ absurd (let e = here None q kid column line c l at found in cc) ];
     }
     by (Some kid) q = record {
       few = omega (arith, h.few, length-append keys (kid ∷ []));
       each = All-push P keys kid h.each (child_id-parent widgets id (index / 16 + 1) (index % 16 + 1) kid valid q);
       all = λ other column line c l within found.
-        elim (split ((column - 1) * 16 + (line - 1)) index within) [ inl less ↦ Contains-left keys (kid ∷ []) other (h.all other column line c l less found) | inr at ↦ (let e = here (Some kid) q other column line c l at found in let same : kid ≡ other = cc in rw (← same) (Contains-push keys kid)) ];
+          elim (split ((column - 1) * 16 + (line - 1)) index within) [ inl less ↦ Contains-left keys (kid ∷ []) other (h.all other column line c l less found) | inr at ↦ (let e = here (Some kid) q other column line c l at found in let same : kid ≡ other = cc in rw (← same) (Contains-push keys kid)) ];
     }
 
 -- all cells of the widget have its children
 pub found_all : (widgets : Widgets) (id : ℕ) (kind : Kind) (keys : List ℕ) → IsWidgets widgets → option_map (λ (row : Row). row.kind) (row_at widgets.entries id) ≡ Some kind
     → AreFound widgets id (cells_of kind) keys → AreChildren widgets id keys
 found_all widgets id kind keys valid is h = record {
-    each = h.each;
-    all = λ kid parent.
-        let f = parent_id-found widgets id kid valid parent in
-        let same : f.upper.kind ≡ kind = let e = ap (option_map (λ (row : Row). row.kind)) (sym f.upper_there) ∙ is in cc in
-        h.all kid f.cell.column f.cell.row f.cell_is.column f.cell_is.line (rw (← same) f.cell_is.within) f.found;
-  }
+  each = h.each;
+  all = λ kid parent.
+      let f = parent_id-found widgets id kid valid parent in
+      let same : f.upper.kind ≡ kind = let e = ap (option_map (λ (row : Row). row.kind)) (sym f.upper_there) ∙ is in cc in
+      h.all kid f.cell.column f.cell.row f.cell_is.column f.cell_is.line (rw (← same) f.cell_is.within) f.found;
+}

@@ -85,8 +85,8 @@ deep-child widgets most id kid valid deep live parent =
     let e : most_levels - most ≡ suc (most_levels - suc most) = omega (arith, less) in
     record {
       upper = ap (λ (n : ℕ). ends_within n (rows_of widgets) (row_for widgets kid).client (row_for widgets kid).name) e
-        ∙ ends_within-child (most_levels - suc most) (rows_of widgets) (row_for widgets id).client (row_for widgets id).name (row_for widgets kid) (record { named = key-found widgets kid valid live }) of
-        ∙ deep.upper;
+          ∙ ends_within-child (most_levels - suc most) (rows_of widgets) (row_for widgets id).client (row_for widgets id).name (row_for widgets kid) (record { named = key-found widgets kid valid live }) of
+          ∙ deep.upper;
       within = omega (arith, less);
     }
 
@@ -101,9 +101,9 @@ deep-none widgets id valid live deep =
 
 pub deep-all : (widgets : Widgets) (id : ℕ) → IsDeep widgets most_levels id
 deep-all widgets id = record {
-    upper = ap (λ (n : ℕ). ends_within n (rows_of widgets) (row_for widgets id).client (row_for widgets id).name) (let e : most_levels - most_levels ≡ 0 = omega arith in e);
-    within = omega arith;
-  }
+  upper = ap (λ (n : ℕ). ends_within n (rows_of widgets) (row_for widgets id).client (row_for widgets id).name) (let e : most_levels - most_levels ≡ 0 = omega arith in e);
+  within = omega arith;
+}
 
 -- a child of a widget is live
 pub child-live : (widgets : Widgets) (id kid : ℕ) → IsWidgets widgets → parent_id widgets kid ≡ Some id → IsLive widgets kid

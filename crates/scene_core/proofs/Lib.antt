@@ -6,3 +6,6 @@ pub mod ChildNeeds
 pub mod OwnSizes
 pub mod TrackSteps
 pub mod LeastSteps
+pub mod Measures
+pub mod Finds
+pub mod Tops

@@ -45,7 +45,7 @@ pub used_more : (last : ℕ) (rules : List (ℕ × ℕ)) (i old new : ℕ) (rule
 used_more last rules i old new rule less at is before =
     let same : get_or rules i (0, 0) ≡ rule = ap (λ (n : ℕ). get_or rules n (0, 0)) (omega arith) ∙ sym at in
     let more : last_ruled 1 (take (i + 1) rules) ≡ max (last_ruled 1 (take i rules)) (if nat_lt 0 rule.0 || nat_lt 0 rule.1 then 1 + length (take i rules) else 0) =
-        ap (last_ruled 1) (take_more rules i (0, 0) less ∙ ap (λ (r : ℕ × ℕ). take i rules ++ r ∷ []) same) ∙ last_ruled-last 1 (take i rules) rule in
+    ap (last_ruled 1) (take_more rules i (0, 0) less ∙ ap (λ (r : ℕ × ℕ). take i rules ++ r ∷ []) same) ∙ last_ruled-last 1 (take i rules) rule in
     let few : length (take i rules) ≡ i = length_take_of i rules (omega arith) in
     by (nat_lt 0 rule.0 || nat_lt 0 rule.1) is more few
   where

@@ -35,14 +35,12 @@ fn push_key(keys: &mut ArrayVec<u32, 256>, child: Option<Id>)
 /// The numbers of the widgets that hang in this one, row by row in each column.
 pub(crate) fn child_keys(tree: &Tree, id: Id) -> ArrayVec<u32, 256>
     requires { IsLive tree.now id.key }
-    ensures { AreChildren tree.now id.key result.items }
+    ensures children { AreChildren tree.now id.key result.items }
+    ensures few { length result.items ≤ 256 }
 {
     let mut keys = ArrayVec::new();
     for index in 0..cells_of(tree.kind(id)) {
-        push_key(
-            &mut keys,
-            tree.child_at(id, index / 16 + 1, index % 16 + 1),
-        );
+        push_key(&mut keys, tree.child_at(id, index / 16 + 1, index % 16 + 1));
     }
     keys
 }

@@ -4,6 +4,7 @@ ghost use Rattle.std.specs.Prelude.{◌≡◌, ℕ, Some, None, slice_index_or, 
 use crate::size::Size;
 
 /// The least size of each number, 0 to 2,047, none where it isn't known yet.
+#[derive(Drop)]
 pub(crate) struct Known {
     sizes: [Option<Size>; 2048],
 }

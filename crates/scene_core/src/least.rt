@@ -1,11 +1,13 @@
 //! Least sizes, from the leaves up.
-ghost use Rattle.std.specs.Prelude.{◌≡◌, ◌≤◌, map, length, All};
-ghost use Rattle.widget_model.specs.Widgets.{IsLive, IsGrid, rows_of};
+ghost use Rattle.std.specs.Prelude.{◌≡◌, Some};
+ghost use Rattle.std.specs.Option.{option_map};
+ghost use Rattle.widget_model.specs.Trees.{most_levels};
+ghost use Rattle.widget_model.specs.Widgets.{IsLive, IsGrid, rows_of, row_at};
 ghost use Rattle.scene_model.specs.Least.{least_of};
 ghost use Rattle.scene_model.specs.Tracks.{rules_of};
 ghost use Rattle.scene_core.specs.Ready.{AreReady};
-ghost use Rattle.scene_core.specs.Children.{row_for, size_for, child_for, needs_for, AreKnown, AreMeasured, IsDeep};
-ghost use Rattle.scene_core.specs.Measured.{AreTracks, side};
+ghost use Rattle.scene_core.specs.Children.{row_for, size_of, size_for, needs_for, AreKnown, AreMeasured, IsDeep};
+ghost use Rattle.scene_core.specs.Measured.{AreTracks};
 
 use crate::asked::all_asked;
 use crate::child::Child;
@@ -96,12 +98,45 @@ fn fresh(tree: &Tree, known: &mut Known, most: u32, id: Id) -> Size
     ensures known { AreKnown tree.now known.new.sizes }
 {
     let kind = kind_of(tree, id);
-    if kind != Kind::Grid {
-        return own_size(tree, id, kind);
+    match kind {
+        Kind::Grid => grid_size(tree, known, most, id),
+        _ => own_size(tree, id, kind),
     }
+}
+
+/// The least size of a Grid, from its children.
+#[cycle(least)]
+fn grid_size(tree: &Tree, known: &mut Known, most: u32, id: Id) -> Size
+    requires ready { AreReady tree.now }
+    requires grid { IsGrid tree.now id.key }
+    requires live { IsLive tree.now id.key }
+    requires deep { IsDeep tree.now most id.key }
+    requires known { AreKnown tree.now known.old.sizes }
+    ensures size { result ≡ size_for tree.now id.key }
+    ensures known { AreKnown tree.now known.new.sizes }
+{
     let children = measured(tree, known, most, id);
-    Size {
-        w: grid_length(tree, id, Axis::Across, children.as_slice()),
-        h: grid_length(tree, id, Axis::Down, children.as_slice()),
-    }
+    let w = grid_length(tree, id, Axis::Across, children.as_slice());
+    let h = grid_length(tree, id, Axis::Down, children.as_slice());
+    Size { w, h }
+}
+
+/// The least size of the widget, in pixels: what it needs to show all that it has. It is worked out from scratch: each
+/// widget below is visited once, with a few look-ups in hash maps and, for a Grid, its 256 cells. See docs/MACHINE.md,
+/// "Layout".
+pub fn least_size(tree: &Tree, id: Id) -> Size
+    requires ready { AreReady tree.now }
+    requires live { IsLive tree.now id.key }
+    ensures { option_map (size_of (rows_of tree.now)) (row_at tree.now.entries id.key) ≡ Some result }
+{
+    let mut known = Known::new();
+    least(tree, &mut known, most_levels(), id)
+}
+
+/// A tree has at most that many levels.
+#[tactic(auto, unfolding(widget_model::specs::Trees::most_levels))]
+pub(crate) fn most_levels() -> u32
+    ensures { result ≡ most_levels }
+{
+    12
 }

@@ -62,8 +62,13 @@ fn film_size(tree: &Tree, id: Id) -> Size
     ensures w { result.w ≡ (film_size (row_for tree.now id.key).film).0 }
     ensures h { result.h ≡ (film_size (row_for tree.now id.key).film).1 }
 {
-    let _kind = tree.kind(id);
-    Size { w: 16, h: 16 }
+    match tree.film(id) {
+        Some(film) => Size {
+            w: film.width(),
+            h: film.height(),
+        },
+        None => Size { w: 16, h: 16 },
+    }
 }
 
 /// What a widget of the kind needs by itself.

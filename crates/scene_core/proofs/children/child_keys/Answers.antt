@@ -13,9 +13,12 @@ loop-index-preserved c =
     let P : List ℕ → Type 0 = λ keys. AreFound c.args.tree.now c.args.id.key (c.loop-index.index + 1) keys in
     subst P (ap (λ o. c.loop-index.keys.items ++ one_or_none o) (sym c.child_at.ensures.found) ∙ sym c.push_key.ensures) more
 
-pub returns : goal.returns
-returns c =
+pub returns-clause-children : goal.returns-clause-children
+returns-clause-children c =
     let P : ℕ → Type 0 = λ n. AreFound c.args.tree.now c.args.id.key n c.loop-index.keys.items in
     let end : c.loop-index.index ≡ c.cells_of-index-end.result = omega arith in
     found_all c.args.tree.now c.args.id.key c.kind.result c.loop-index.keys.items c.kind.ensures.valid c.kind.ensures.kind
     (subst P (end ∙ c.cells_of-index-end.ensures.count) c.loop-index.invariant)
+
+pub returns-clause-few : goal.returns-clause-few
+returns-clause-few c = omega (arith, c.loop-index.invariant.few, c.cells_of-index-end.ensures.within)

@@ -21,6 +21,8 @@ pub returns-in-Some-clause-few : goal.returns-in-Some-clause-few
 returns-in-Some-clause-few c = omega (arith, shown c, label_small c.args.tree.now c.args.id.key c.requires.ready c.requires.live)
 
 pub returns-in-None-clause-few : goal.returns-in-None-clause-few
-returns-in-None-clause-few c = omega (arith,
-    label_plain (rows_of c.args.tree.now) (row_for c.args.tree.now c.args.id.key) c.text_length-own.result (sym c.in-None.ensures) c.text_length-own.ensures,
-    label_small c.args.tree.now c.args.id.key c.requires.ready c.requires.live)
+returns-in-None-clause-few c = omega (
+  arith,
+  label_plain (rows_of c.args.tree.now) (row_for c.args.tree.now c.args.id.key) c.text_length-own.result (sym c.in-None.ensures) c.text_length-own.ensures,
+  label_small c.args.tree.now c.args.id.key c.requires.ready c.requires.live,
+)
