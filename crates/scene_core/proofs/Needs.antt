@@ -40,3 +40,12 @@ pub last_asked_more : (axis : Axis) (children : List Child) (i : ℕ) (d : Child
     → last_asked (needs_seen axis (take (i + 1) children)) ≡ max (last_asked (needs_seen axis (take i children))) (need_seen axis (get_or children i d)).track
 last_asked_more axis children i d h =
     ap last_asked (map_more (need_seen axis) children i d h) ∙ last_asked-last (needs_seen axis (take i children)) (need_seen axis (get_or children i d))
+
+-- what stands for a child past the end of a list
+abbrev pub blank_child : Child
+blank_child = record { key = 0; cell = record { column = 0; row = 0; pad = 0 }; least = record { w = 0; h = 0 } }
+
+-- the greater of two small numbers, one of which counts only where the test holds
+pub max_small : (n a b most : ℕ) (t : Bool) → n ≡ max a (if t then b else 0) → a ≤ most → b ≤ most → n ≤ most
+max_small n a b most true e p q = omega arith
+max_small n a b most false e p q = omega arith

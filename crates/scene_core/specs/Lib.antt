@@ -1,3 +1,5 @@
 pub mod View
+pub mod Ready
+pub mod Children
 pub mod Measured
 pub mod Shot

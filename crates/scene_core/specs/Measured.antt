@@ -1,11 +1,11 @@
 -- An inner word of the proofs: what the code has of a widget's children and of a Grid's tracks is what the definitions of
 -- layout have.
-use Rattle.std.specs.Prelude.{ℕ, ◌≡◌, ◌≤◌, ◌+◌, ◌*◌, true, List, map, length, take}
+use Rattle.std.specs.Prelude.{ℕ, ◌≡◌, ◌≤◌, ◌+◌, ◌*◌, List, map, length, take}
 use Rattle.std.specs.List.{All}
 use Rattle.scene_model.specs.declared.axis.Axis.{Axis}
 use Rattle.scene_model.specs.Spans.{along}
 use Rattle.scene_model.specs.Tracks.{Need, track_in, tracks_used, track_leasts, track_weights}
-use Rattle.widget_model.specs.Planted.{is_cell}
+use Rattle.widget_model.specs.Rows.{IsIndex}
 use Rattle.scene_core.specs.declared.child.Child.{Child}
 use Rattle.scene_core.specs.declared.size.Size.{Size}
 use Rattle.scene_core.specs.declared.tracks.Tracks.{Tracks}
@@ -23,7 +23,9 @@ needs_seen axis children = map (need_seen axis) children
 
 -- a child's cell and least size are in range
 pub record IsMeasured (child : Child) : Type 0 where
-  pub cell : is_cell child.cell ≡ true
+  pub column : IsIndex child.cell.column
+  pub line : IsIndex child.cell.row
+  pub pad : child.cell.pad ≤ 16
   pub width : child.least.w ≤ 4096
   pub height : child.least.h ≤ 4096
 

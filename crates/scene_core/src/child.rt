@@ -10,3 +10,18 @@ pub(crate) struct Child {
     pub(crate) cell: Cell,
     pub(crate) least: Size,
 }
+
+impl Default for Child {
+    /// What lies in an unused place of a list of fixed capacity.
+    fn default() -> Self {
+        Child {
+            key: 0,
+            cell: Cell {
+                column: 0,
+                row: 0,
+                pad: 0,
+            },
+            least: Size { w: 0, h: 0 },
+        }
+    }
+}

@@ -3,19 +3,28 @@
 
 mod asked;
 mod child;
+mod children;
+mod known;
 pub mod laws;
+mod least;
 mod no_memory;
+mod own;
+mod reading;
 mod shot;
+mod shown;
 mod size;
 mod spans;
 mod spot;
+mod top;
 mod tracks;
 mod view;
 
 pub use geom_core::Rect;
+pub use least::least_size;
 pub use no_memory::NoMemory;
 pub use shot::Shot;
 pub use size::Size;
 pub use spot::Spot;
+pub use top::top_at;
 pub use tree_core::{Grab, Pointer};
 pub use view::View;
