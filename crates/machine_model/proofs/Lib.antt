@@ -8,3 +8,11 @@ pub mod Progress
 pub mod Ticks
 pub mod Runs
 pub mod Beat
+pub mod DamageKeys
+pub mod DamageOrder
+pub mod DamageLevels
+pub mod DamageWay
+pub mod DamageScenes
+pub mod OutsideDamage
+pub mod DamageByKeys
+pub mod DeskDamage

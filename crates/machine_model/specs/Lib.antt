@@ -5,3 +5,7 @@ pub mod Chosen
 pub mod Run
 pub mod Laws
 pub mod Reach
+pub mod Damage
+pub mod DamageLaws
+pub mod DamageKeys
+pub mod DeskDamage

@@ -1,0 +1,4 @@
+//! The reach of a change: the pixels that have to be drawn again after one event, from what was shown before and after.
+#![tactic(auto)]
+
+pub mod laws;
