@@ -1,6 +1,6 @@
 -- A shot is what the screen shows at one moment, by the numbers of rows: the open windows from top to bottom, each with
 -- its place, and for each number the spot of the shown row that has it.
-use Rattle.std.specs.Prelude.{ℕ, ◌≡◌, ◌≤◌, Bool, false, nat_eq, List, [], ◌∷◌, map, length, Option, Some, None, slice_index_or}
+use Rattle.std.specs.Prelude.{ℕ, ◌≡◌, ◌≤◌, ◌<◌, false, nat_eq, List, [], ◌∷◌, map, length, Option, Some, None, IfSome, slice_index_or}
 use Rattle.std.specs.List.{list_any}
 use Rattle.geom_core.specs.declared.rectangle.Rect.{Rect}
 use Rattle.shot_core.specs.declared.spot.Spot.{Spot}
@@ -17,9 +17,12 @@ pub record Seen : Type 0 where
 abbrev pub spot_at : Seen → ℕ → Option Spot
 spot_at shot key = slice_index_or shot.spots key None
 
--- the numbers of the open windows, from top to bottom
+-- the numbers of the windows, from top to bottom
+abbrev pub numbers_of : List (ℕ × Rect) → List ℕ
+numbers_of windows = map (λ window. window.0) windows
+
 abbrev pub windows_in : Seen → List ℕ
-windows_in shot = map (λ window. window.0) shot.windows
+windows_in shot = numbers_of shot.windows
 
 -- no number stands in the list twice
 abbrev pub AreOnce : List ℕ → Type 0
@@ -31,6 +34,7 @@ pub record IsShot (shot : Seen) : Type 0 where
   pub few : length shot.windows ≤ 128
   pub once : AreOnce (windows_in shot)
   pub spots : length shot.spots ≡ most_numbers
+  pub within : (key : ℕ) → IfSome (spot_at shot key) (λ spot. spot.window < most_numbers)
 
 -- whether the shot has no windows and no spots, as at first
 pub record IsBare (shot : Seen) : Type 0 where

@@ -57,6 +57,14 @@ impl Shot {
         self.windows.get(index).copied()
     }
 
+    /// All open windows from top to bottom, each with its place.
+    pub fn windows(&self) -> &[(u32, Rect)]
+        ensures windows { result.now ≡ self.now.windows }
+        ensures valid { IsShot self.now }
+    {
+        self.windows.as_slice()
+    }
+
     /// The spot of the shown row with that number, which is below 2,048; `None` exactly where no shown row has it.
     #[tactic(auto, unfolding(crate::specs::Shot::most_numbers))]
     pub fn spot(&self, key: u32) -> Option<Spot>
