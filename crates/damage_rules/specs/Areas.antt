@@ -12,10 +12,10 @@ same_number None None = true
 same_number (Some a) (Some b) = nat_eq a b
 same_number _ _ = false
 
--- whether both are there, in one place
-abbrev pub is_placed_alike : Option Spot → Option Spot → Bool
-is_placed_alike (Some before) (Some after) = same_place before.place after.place
-is_placed_alike _ _ = false
+-- whether both are there and the spots of this window itself, in one place
+abbrev pub is_placed_alike : ℕ → Option Spot → Option Spot → Bool
+is_placed_alike window (Some before) (Some after) = (nat_eq before.window window && nat_eq after.window window) && same_place before.place after.place
+is_placed_alike window _ _ = false
 
 -- whether some window, open before and after, was above this one and is below it, in these orders
 unfoldable pub is_higher_in : List ℕ → List ℕ → ℕ → Bool
@@ -23,7 +23,7 @@ is_higher_in before after window = list_any (λ other. is_over nat_eq before oth
 
 -- whether the window is open in one of the shots alone, or its place differs, or it is put higher
 unfoldable pub is_shifted : Seen → Seen → ℕ → Bool
-is_shifted before after window = not (is_placed_alike (spot_at before window) (spot_at after window)) || is_higher_in (windows_in before) (windows_in after) window
+is_shifted before after window = not (is_placed_alike window (spot_at before window) (spot_at after window)) || is_higher_in (windows_in before) (windows_in after) window
 
 -- whether both are there, under this window, with one parent and one place
 abbrev pub is_kept : ℕ → Option Spot → Option Spot → Bool

@@ -73,7 +73,7 @@ fn is_shifted(before: &Shot, after: &Shot, window: u32) -> bool
     requires { window < most_numbers }
     ensures { result ≡ is_shifted before.now after.now window }
 {
-    if !is_placed_alike(before.spot(window), after.spot(window)) {
+    if !is_placed_alike(window, before.spot(window), after.spot(window)) {
         return true;
     }
     is_put_higher(before.windows(), after.windows(), window)

@@ -24,12 +24,15 @@ fn same_number(a: Option<u32>, b: Option<u32>) -> bool
     }
 }
 
-/// Whether both are there, in one place.
-pub(crate) fn is_placed_alike(before: Option<Spot>, after: Option<Spot>) -> bool
-    ensures { result ≡ is_placed_alike before after }
+/// Whether both are there and the spots of this window itself, in one place.
+pub(crate) fn is_placed_alike(window: u32, before: Option<Spot>, after: Option<Spot>) -> bool
+    ensures { result ≡ is_placed_alike window before after }
 {
     match (before, after) {
-        (Some(before), Some(after)) => same_place(before.place, after.place),
+        (Some(before), Some(after)) => {
+            (before.window == window && after.window == window)
+                && same_place(before.place, after.place)
+        }
         _ => false,
     }
 }
