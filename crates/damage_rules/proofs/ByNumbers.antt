@@ -27,8 +27,9 @@ use Rattle.machine_model.proofs.OutsideDamage.{IsSteady-unshifted}
 use Rattle.shot_core.specs.Shot.{Seen, spot_at, windows_in, numbers_of}
 use Rattle.shot_core.specs.declared.spot.Spot.{Spot}
 use Rattle.damage_rules.specs.Areas.{same_number, is_placed_alike, is_higher_in, is_shifted, is_kept, is_altered, is_named, area_of, areas_of}
-use Rattle.damage_rules.specs.Numbering.{IsNumbering, IsSpotOf, IsShotOf, is_shown, AreLooksOf, ReachByNumbers}
-use Rattle.damage_rules.proofs.Numbers.{Stands, nat_eq-number, same_number-parent, higher-number, numbers-placed}
+use Rattle.damage_rules.specs.Numbering.{IsNumbering, IsSpotOf, IsShotOf, is_shown, AreLooksOf, AreNumbered, in_areas, ReachByNumbers, NothingOfOtherNumbers, ReachIsTheirUnion}
+use Rattle.damage_rules.proofs.Numbers.{Stands, nat_eq-number, same_number-parent, higher-number, numbers-placed, any-number}
+use Rattle.machine_model.proofs.DamageByKeys.{reach_is_by_keys}
 
 -- one scene, its shot, and keys among which its own are
 record IsMine (number : ℕ × List ℕ → ℕ) (keys : List (ℕ × List ℕ)) (scene : Scene) (shot : Seen) : Type 0 where
@@ -128,3 +129,132 @@ shifted-is number keys before after shot shot' looks window are there =
     order' = ap numbers_of are.mine'.shot_is.windows ∙ numbers-placed number (place_of after) after.windows
     higher : is_higher_in (map number before.windows) (map number after.windows) (number window) ≡ list_any (λ other. reach.is_over same_key before.windows other window && reach.is_over same_key after.windows window other) before.windows
     higher = higher-number number keys before.windows after.windows window are.mine.own there (λ k is. are.mine.within k (window_stands before k are.mine.sound is)) (λ k is. are.mine'.within k (window_stands after k are.mine'.sound is))
+
+-- a widget that isn't shown is under no open window, and shows nothing that is named
+not_under : (scene : Scene) (window key : ℕ × List ℕ) → IsSound scene → is_open_in scene window ≡ true → is_shown scene key ≡ false → is_under scene window key ≡ false
+not_under scene window key sound opened unshown = false_from_ne_true (is_under scene window key) (λ h. true≢false (sym (shown h) ∙ unshown))
+  where
+    stands : window ≡ root_key scene.rows key → (o : Option (ℕ × List ℕ)) → parent_in scene key ≡ o → list_any (same_key key) (keys_in scene) ≡ true
+    stands root None hangs = ap (λ (k : ℕ × List ℕ). list_any (same_key k) (keys_in scene)) (sym (root ∙ root_key-top scene key hangs)) ∙ window_stands scene window sound opened
+    stands root (Some parent) hangs =
+        let upper = IsParentKey-parent_in scene key parent hangs in
+        let there = HangsIn-from scene.rows key.0 key.1 upper.name upper.hung in
+        row_stands scene key there.row there.found
+    shown : is_under scene window key ≡ true → is_shown scene key ≡ true
+    shown h =
+        let root : window ≡ root_key scene.rows key = same_key-is window (root_key scene.rows key) h in
+        and_from _ _ (stands root (parent_in scene key) refl) (ap (is_open_in scene) (sym root) ∙ opened)
+
+not_kept_left : (window : ℕ) (a b : Option Spot) → a ≡ None → is_kept window a b ≡ false
+not_kept_left window None None h = refl
+not_kept_left window None (Some b) h = refl
+not_kept_left window (Some a) b h = absurd (cc)
+
+not_kept_right : (window : ℕ) (a b : Option Spot) → b ≡ None → is_kept window a b ≡ false
+not_kept_right window None None h = refl
+not_kept_right window (Some a) None h = refl
+not_kept_right window a (Some b) h = absurd (cc)
+
+ungrouped : (u r p l : Bool) → (not (u && (r && p)) || not l) ≡ (not u || (not r || (not p || not l)))
+ungrouped true true p l = refl
+ungrouped true false p l = refl
+ungrouped false r p l = refl
+
+altered-is : (number : ℕ × List ℕ → ℕ) (keys : List (ℕ × List ℕ)) (before after : Scene) (shot shot' : Seen) (looks : List ℕ) (window key : ℕ × List ℕ) → AreShots number keys before after shot shot' looks → Stands window keys → Stands key keys → is_open_in before window ≡ true → is_open_in after window ≡ true → is_altered shot shot' looks (number window) (number key) ≡ reach.is_altered before after window key
+unfolding is_altered reach.is_altered
+altered-is number keys before after shot shot' looks window key are there key_there opened opened' = by (is_shown before key) refl (is_shown after key) refl
+  where
+    kept : Bool → Bool
+    kept k = not k || list_any (nat_eq (number key)) looks
+    rest : Bool
+    rest = not (same_parent (parent_in before key) (parent_in after key)) || (not (same_place (place_of before key) (place_of after key)) || not (same_look (look_at before key) (look_at after key)))
+    by : (a : Bool) → is_shown before key ≡ a → (b : Bool) → is_shown after key ≡ b → kept (is_kept (number window) (spot_at shot (number key)) (spot_at shot' (number key))) ≡ (not (is_under before window key && is_under after window key) || rest)
+    by false a b' b =
+        ap kept (not_kept_left (number window) _ _ (are.mine.shot_is.unshown key key_there a))
+        ∙ sym (ap (λ u. not (u && is_under after window key) || rest) (not_under before window key are.mine.sound opened a))
+    by true a false b =
+        ap kept (not_kept_right (number window) _ _ (are.mine'.shot_is.unshown key key_there b))
+        ∙ sym (ap (λ u. not u || rest) (and_right (is_under before window key) _ (not_under after window key are.mine'.sound opened' b)))
+    by true a true b =
+        let found = Spotted-shown number keys before shot key are.mine a in
+        let found' = Spotted-shown number keys after shot' key are.mine' b in
+        let under = spot_under number keys before shot window key are.mine there a found in
+        let under' = spot_under number keys after shot' window key are.mine' there b found' in
+        let parents : same_number found.spot.parent found'.spot.parent ≡ same_parent (parent_in before key) (parent_in after key) =
+            (λ i. same_number (found.is.parent i) (found'.is.parent i))
+            ∙ same_number-parent number keys (parent_in before key) (parent_in after key) are.mine.own
+                (λ k is. are.mine.within k (parent_stands before key k are.mine.sound.planted is))
+                (λ k is. are.mine'.within k (parent_stands after key k are.mine'.sound.planted is)) in
+        (λ i. kept (is_kept (number window) (found.at i) (found'.at i)))
+        ∙ ((λ i. not ((under i && under' i) && (parents i && same_place (found.is.place i) (found'.is.place i))) || are.looks_are key a b i)
+        ∙ ungrouped (is_under before window key && is_under after window key) (same_parent (parent_in before key) (parent_in after key)) (same_place (place_of before key) (place_of after key)) (same_look (look_at before key) (look_at after key)))
+
+named-is : (number : ℕ × List ℕ → ℕ) (keys : List (ℕ × List ℕ)) (before after : Scene) (shot shot' : Seen) (looks : List ℕ) (window key : ℕ × List ℕ) → AreShots number keys before after shot shot' looks → Stands window keys → Stands key keys → is_named shot shot' looks (number window) (number key) ≡ is_named_in before after window key
+unfolding is_named
+named-is number keys before after shot shot' looks window key are there key_there =
+    (λ i. cond (shifted-is number keys before after shot shot' looks window are there i) (nat_eq-number number keys window key are.mine.own there key_there i) (is_altered shot shot' looks (number window) (number key)))
+    ∙ by (reach.is_shifted before after window) refl
+  where
+    by : (s : Bool) → reach.is_shifted before after window ≡ s → cond s (same_key window key) (is_altered shot shot' looks (number window) (number key)) ≡ cond s (same_key window key) (reach.is_altered before after window key)
+    by true s = refl
+    by false s =
+        let steady = IsSteady-unshifted before after window s in
+        altered-is number keys before after shot shot' looks window key are there key_there steady.open_before steady.open_after
+
+-- what one of the shots gives of the row
+holds : ℤ → ℤ → List Rect → Bool
+holds x y areas = list_any (λ area. in_rect area x y) areas
+
+or_nothing : (b : Bool) → (b || false) ≡ b
+or_nothing true = refl
+or_nothing false = refl
+
+area-is : (number : ℕ × List ℕ → ℕ) (keys : List (ℕ × List ℕ)) (before after : Scene) (shot shot' : Seen) (looks : List ℕ) (scene : Scene) (one : Seen) (key : ℕ × List ℕ) (x y : ℤ) → AreShots number keys before after shot shot' looks → IsMine number keys scene one → Stands key keys → holds x y (area_of shot shot' looks (number key) (spot_at one (number key))) ≡ named_shows before after scene x y key
+unfolding holds keyed.is_named
+area-is number keys before after shot shot' looks scene one key x y are mine there = by (is_shown scene key) refl
+  where
+    root : ℕ × List ℕ
+    root = root_key scene.rows key
+    given : (n : Bool) (area : Rect) → holds x y (cond n (area ∷ []) []) ≡ (n && in_rect area x y)
+    given true area = or_nothing (in_rect area x y)
+    given false area = refl
+    nothing : is_shown scene key ≡ false → ((is_open_in scene root && is_named_in before after root key) && shows_at scene key x y) ≡ false
+    nothing unshown = inner (and_cases (list_any (same_key key) (keys_in scene)) (is_open_in scene root) unshown)
+      where
+        inner : (list_any (same_key key) (keys_in scene) ≡ false) ⊎ (is_open_in scene root ≡ false) → ((is_open_in scene root && is_named_in before after root key) && shows_at scene key x y) ≡ false
+        inner (inl absent) = and_right (is_open_in scene root && is_named_in before after root key) _ (false_from_ne_true (shows_at scene key x y) (λ shows. true≢false (sym (shows-stands scene key x y mine.sound.planted shows) ∙ absent)))
+        inner (inr shut) = and_left _ _ (and_left _ _ shut)
+    by : (s : Bool) → is_shown scene key ≡ s → holds x y (area_of shot shot' looks (number key) (spot_at one (number key))) ≡ ((is_open_in scene root && is_named_in before after root key) && shows_at scene key x y)
+    by true shown =
+        let found = Spotted-shown number keys scene one key mine shown in
+        let opened = (and_parts (list_any (same_key key) (keys_in scene)) (is_open_in scene root) shown).1 in
+        let root_there = mine.within root (window_stands scene root mine.sound opened) in
+        let named : is_named shot shot' looks found.spot.window (number key) ≡ is_named_in before after root key =
+            ap (λ (w : ℕ). is_named shot shot' looks w (number key)) found.is.window ∙ named-is number keys before after shot shot' looks root key are root_there there in
+        ap (λ (o : Option Spot). holds x y (area_of shot shot' looks (number key) o)) found.at
+        ∙ (given (is_named shot shot' looks found.spot.window (number key)) found.spot.shown
+        ∙ ((λ i. named i && found.is.shown x y i)
+        ∙ sym (ap (λ b. (b && is_named_in before after root key) && shows_at scene key x y) opened)))
+    by false unshown = ap (λ (o : Option Spot). holds x y (area_of shot shot' looks (number key) o)) (mine.shot_is.unshown key there unshown) ∙ sym (nothing unshown)
+
+pub reach_by_numbers : ReachByNumbers
+unfolding areas_of holds
+reach_by_numbers number before after shot shot' looks n key there x y =
+    let keys = keys_in before ++ keys_in after in
+    let mine : IsMine number keys before shot = record { sound = n.sound_before; own = n.own; shot_is = n.shot_before; within = λ k stands. joined_left (keys_in before) (keys_in after) k stands } in
+    let mine' : IsMine number keys after shot' = record { sound = n.sound_after; own = n.own; shot_is = n.shot_after; within = λ k stands. joined_right (keys_in before) (keys_in after) k stands } in
+    let are : AreShots number keys before after shot shot' looks = record { mine = mine; mine' = mine'; looks_are = n.looks_differ } in
+    let was = area-is number keys before after shot shot' looks before shot key x y are mine there in
+    let now = area-is number keys before after shot shot' looks after shot' key x y are mine' there in
+    list_any-append (λ (area : Rect). in_rect area x y) (area_of shot shot' looks (number key) (spot_at shot (number key))) (area_of shot shot' looks (number key) (spot_at shot' (number key)))
+    ∙ (λ i. was i || now i)
+
+pub nothing_of_other_numbers : NothingOfOtherNumbers
+unfolding areas_of
+nothing_of_other_numbers number before after shot shot' looks n id other =
+    λ i. area_of shot shot' looks id (n.shot_before.others id other i) ++ area_of shot shot' looks id (n.shot_after.others id other i)
+
+pub reach_is_their_union : ReachIsTheirUnion
+reach_is_their_union number before after shot shot' looks n x y =
+    reach_is_by_keys before after n.sound_before n.sound_after x y
+    ∙ sym (any-number number (in_areas shot shot' looks x y) (in_reach_by before after x y) (keys_in before ++ keys_in after) (λ key there. reach_by_numbers number before after shot shot' looks n key there x y))
