@@ -9,13 +9,13 @@ use Rattle.machine_model.specs.Damage.{is_over}
 use Rattle.machine_model.proofs.DamageKeys.{same_key-own, same_key-is, same_key-from, none_of, find-stands}
 
 -- the first one that passes is over each other one that passes
-pub first_over : (test : ℕ × List ℕ → Bool) (windows : List (ℕ × List ℕ)) (first other : ℕ × List ℕ) → find test windows ≡ Some first → list_any (same_key other) windows ≡ true → test other ≡ true → same_key other first ≡ false → is_over windows first other ≡ true
+pub first_over : (test : ℕ × List ℕ → Bool) (windows : List (ℕ × List ℕ)) (first other : ℕ × List ℕ) → find test windows ≡ Some first → list_any (same_key other) windows ≡ true → test other ≡ true → same_key other first ≡ false → is_over same_key windows first other ≡ true
 first_over test [] first other found there passes apart = absurd (cc)
 first_over test (window ∷ windows) first other found there passes apart = by (λ found there. first_over test windows first other found there passes apart) (test window) refl found
   where
     not_here : (same_key other window ≡ false) → list_any (same_key other) windows ≡ true
     not_here h = sym (ap (λ b. b || list_any (same_key other) windows) h) ∙ there
-    by : (find test windows ≡ Some first → list_any (same_key other) windows ≡ true → is_over windows first other ≡ true) → (b : Bool) → test window ≡ b → cond b (Some window) (find test windows) ≡ Some first → is_over (window ∷ windows) first other ≡ true
+    by : (find test windows ≡ Some first → list_any (same_key other) windows ≡ true → is_over same_key windows first other ≡ true) → (b : Bool) → test window ≡ b → cond b (Some window) (find test windows) ≡ Some first → is_over same_key (window ∷ windows) first other ≡ true
     by rest true h found =
         let same : window ≡ first = cc in
         cond-true (same_key first window) _ _ (same_key-from first window (sym same)) ∙ not_here (ap (same_key other) same ∙ apart)
@@ -31,11 +31,11 @@ first_over test (window ∷ windows) first other found there passes apart = by (
             inner false same = refl
 
 -- a window that is over another one stands in the order
-pub over_stands : (windows : List (ℕ × List ℕ)) (upper lower : ℕ × List ℕ) → is_over windows upper lower ≡ true → list_any (same_key upper) windows ≡ true
+pub over_stands : (windows : List (ℕ × List ℕ)) (upper lower : ℕ × List ℕ) → is_over same_key windows upper lower ≡ true → list_any (same_key upper) windows ≡ true
 over_stands [] upper lower over = absurd (true≢false (sym over))
 over_stands (window ∷ windows) upper lower over = by (over_stands windows upper lower) (same_key upper window) over
   where
-    by : (is_over windows upper lower ≡ true → list_any (same_key upper) windows ≡ true) → (b : Bool) → cond b (list_any (same_key lower) windows) (is_over windows upper lower) ≡ true → (b || list_any (same_key upper) windows) ≡ true
+    by : (is_over same_key windows upper lower ≡ true → list_any (same_key upper) windows ≡ true) → (b : Bool) → cond b (list_any (same_key lower) windows) (is_over same_key windows upper lower) ≡ true → (b || list_any (same_key upper) windows) ≡ true
     by rest true over = refl
     by rest false over = rest over
 
@@ -58,7 +58,7 @@ not_missed test (first ∷ windows) window none there passes = by (not_missed te
     by rest false h none true same there = true≢false (sym passes ∙ (ap test (same_key-is window first same) ∙ h))
     by rest false h none false same there = rest none there passes
 
-pub same_first : (test test' : ℕ × List ℕ → Bool) (windows windows' : List (ℕ × List ℕ)) → Passes test windows test' windows' → Passes test' windows' test windows → ((other window : ℕ × List ℕ) → list_any (same_key window) windows' ≡ true → test' window ≡ true → is_over windows other window ≡ true → is_over windows' window other ≡ true → ⊥) → find test windows ≡ find test' windows'
+pub same_first : (test test' : ℕ × List ℕ → Bool) (windows windows' : List (ℕ × List ℕ)) → Passes test windows test' windows' → Passes test' windows' test windows → ((other window : ℕ × List ℕ) → list_any (same_key window) windows' ≡ true → test' window ≡ true → is_over same_key windows other window ≡ true → is_over same_key windows' window other ≡ true → ⊥) → find test windows ≡ find test' windows'
 same_first test test' windows windows' forth back unmoved = by (find test windows) refl (find test' windows') refl
   where
     by : (a : Option (ℕ × List ℕ)) → find test windows ≡ a → (b : Option (ℕ × List ℕ)) → find test' windows' ≡ b → find test windows ≡ find test' windows'

@@ -1,5 +1,5 @@
 -- What the way down takes of a scene, from what every valid desk has.
-use Rattle.std.proofs.Common.{◌≡◌, ℕ, ℤ, pos, ◌+ℤ◌, Bool, true, false, ◌&&◌, nat_eq, List, Option, Some, None, refl, sym, ap, ◌∙◌, slice_get, map, [], ◌∷◌, ◌||◌}
+use Rattle.std.proofs.Common.{◌≡◌, ℕ, ℤ, pos, ◌+ℤ◌, Bool, true, false, ◌&&◌, nat_eq, List, Option, Some, None, refl, sym, ap, ◌∙◌, slice_get, is_some, map, [], ◌∷◌, ◌||◌}
 use Rattle.std.specs.List.{find, list_any, list_all}
 use Rattle.std.specs.Option.{option_map, option_map_or, option_and_then}
 use Rattle.std.specs.Str.{bytes_eq}
@@ -16,15 +16,17 @@ use Rattle.widget_model.specs.Kinds.{is_window_kind}
 use Rattle.widget_model.specs.Keys.{key_of, same_key, row_of}
 use Rattle.widget_model.specs.Planted.{IsPlanted, hangs_right}
 use Rattle.widget_model.specs.Trees.{parent_of, is_child, can_be_child}
+use Rattle.widget_model.proofs.Planting.{row_named-parent}
 use Rattle.widget_model.proofs.Hanging.{find-passes, find-element, find_none_at, all_at, row_named-own, HangsIn-from, HangsIn-child, hangs_right-at, IsNamed-row_named}
 use Rattle.scene_model.specs.Placing.{place_in}
 use Rattle.scene_model.specs.Scene.{Scene}
 use Rattle.scene_model.specs.Showing.{place_of, parent_in, shows_at, child_at, is_open_in}
+use Rattle.scene_model.proofs.Apart.{children_share_no_pixel}
 use Rattle.scene_model.proofs.Parents.{IsChildOf-is_child, parent_of-found}
 use Rattle.scene_model.proofs.LevelLaws.{IsParentKey-parent_in}
 use Rattle.machine_model.specs.Damage.{keys_in}
-use Rattle.machine_model.specs.DamageLaws.{IsSound, AreChildrenApart}
-use Rattle.machine_model.proofs.DamageKeys.{find-any, none_in_span, all_of}
+use Rattle.machine_model.specs.DamageLaws.{IsSound}
+use Rattle.machine_model.proofs.DamageKeys.{find-any, none_in_span, all_of, same_key-is}
 use Rattle.machine_model.proofs.DamageLevels.{shows_at-up, shown_through}
 use Rattle.machine_model.proofs.DamageWay.{IsClimbed}
 
@@ -67,19 +69,30 @@ child_missing scene x y key child missing hangs =
     none None h = refl
     none (Some row) h = absurd (cc)
 
-pub IsClimbed-sound : (scene : Scene) (x y : ℤ) → IsSound scene → AreChildrenApart scene → IsClimbed scene x y
-IsClimbed-sound scene x y sound apart =
+-- two children that show one pixel are one
+child_apart : (scene : Scene) (x y : ℤ) (key a b : ℕ × List ℕ) → IsPlanted scene.rows → parent_in scene a ≡ Some key → parent_in scene b ≡ Some key → shows_at scene a x y ≡ true → shows_at scene b x y ≡ true → a ≡ b
+child_apart scene x y key a b planted hangs hangs' shows shows' = by (same_key a b) refl
+  where
+    by : (c : Bool) → same_key a b ≡ c → a ≡ b
+    by true same = same_key-is a b same
+    by false differ = absurd (true≢false (sym (and_from _ _ shows shows') ∙ children_share_no_pixel scene a b key x y planted hangs hangs' differ))
+
+pub IsClimbed-sound : (scene : Scene) (x y : ℤ) → IsSound scene → IsClimbed scene x y
+IsClimbed-sound scene x y sound =
     record {
       planted = sound.planted;
       child = λ key child found. child_found scene x y key child sound.names found;
       childless = λ key child missing hangs. child_missing scene x y key child missing hangs;
-      apart = λ key a b hangs hangs' shows shows'. apart x y key a b hangs hangs' shows shows';
+      apart = λ key a b hangs hangs' shows shows'. child_apart scene x y key a b sound.planted hangs hangs' shows shows';
     }
 
 -- a widget's key stands among the keys
 stands_by_row : (rows : List Row) (key : ℕ × List ℕ) → list_any (same_key key) (map key_of rows) ≡ list_any (has_name key.0 key.1) rows
 stands_by_row [] key = refl
 stands_by_row (row ∷ rows) key = ap (λ b. has_name key.0 key.1 row || b) (stands_by_row rows key)
+
+pub row_stands : (scene : Scene) (key : ℕ × List ℕ) (row : Row) → row_of scene.rows key ≡ Some row → list_any (same_key key) (keys_in scene) ≡ true
+row_stands scene key row found = stands_by_row scene.rows key ∙ find-any (has_name key.0 key.1) scene.rows row found
 
 -- what has no row has no pixel
 no_row : (scene : Scene) (key : ℕ × List ℕ) (x y : ℤ) → row_of scene.rows key ≡ None → in_rect (place_of scene key) x y ≡ false
@@ -93,7 +106,7 @@ shows-stands scene key x y planted shows = by (row_of scene.rows key) refl
   where
     by : (o : Option Row) → row_of scene.rows key ≡ o → list_any (same_key key) (keys_in scene) ≡ true
     by None is = absurd (true≢false (sym shows ∙ (shows_at-up scene key x y planted ∙ and_left _ _ (no_row scene key x y is))))
-    by (Some row) is = stands_by_row scene.rows key ∙ find-any (has_name key.0 key.1) scene.rows row is
+    by (Some row) is = row_stands scene key row is
 
 -- no Window can be a child
 apart_kinds : (kind : Kind) → is_window_kind kind ≡ true → can_be_child kind ≡ true → ⊥
@@ -121,3 +134,23 @@ window_alone scene window sound there = by (parent_in scene window) refl
         let lower = HangsIn-from scene.rows window.0 window.1 upper.name upper.hung in
         let right = hangs_right-at scene.rows lower.row upper.name lower.cell (all_at (hangs_right scene.rows) scene.rows lower.i lower.row sound.planted.hang lower.there) lower.attached in
         absurd (apart_kinds lower.row.kind (sym (ap (is_kind_of is_window_kind) lower.found) ∙ is) right.can_be_child)
+
+-- an open window is one of the scene's widgets
+pub window_stands : (scene : Scene) (window : ℕ × List ℕ) → IsSound scene → is_open_in scene window ≡ true → list_any (same_key window) (keys_in scene) ≡ true
+window_stands scene window sound there = by (row_of scene.rows window) refl
+  where
+    is : is_kind_of is_window_kind (row_of scene.rows window) ≡ true
+    is = all_of (λ w. is_kind_of is_window_kind (row_of scene.rows w)) scene.windows window sound.windows there
+    by : (o : Option Row) → row_of scene.rows window ≡ o → list_any (same_key window) (keys_in scene) ≡ true
+    by None found = absurd (true≢false (sym is ∙ ap (is_kind_of is_window_kind) found))
+    by (Some row) found = row_stands scene window row found
+
+-- a parent is one of the scene's widgets
+pub parent_stands : (scene : Scene) (key parent : ℕ × List ℕ) → IsPlanted scene.rows → parent_in scene key ≡ Some parent → list_any (same_key parent) (keys_in scene) ≡ true
+parent_stands scene key parent planted hangs =
+    let upper = IsParentKey-parent_in scene key parent hangs in
+    by (row_of scene.rows parent) refl (ap (λ (k : ℕ × List ℕ). is_some (row_of scene.rows k)) (sym upper.keyed) ∙ row_named-parent scene.rows key.0 key.1 upper.name planted upper.hung)
+  where
+    by : (o : Option Row) → row_of scene.rows parent ≡ o → is_some (row_of scene.rows parent) ≡ true → list_any (same_key parent) (keys_in scene) ≡ true
+    by None found is = absurd (true≢false (sym is ∙ ap is_some found))
+    by (Some row) found is = row_stands scene parent row found

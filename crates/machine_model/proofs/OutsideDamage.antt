@@ -17,7 +17,7 @@ use Rattle.scene_model.specs.Scene.{Scene}
 use Rattle.scene_model.specs.Showing.{place_of, parent_in, on_screen, shows_at, window_at, lowest_in, top_of, is_open_in, is_under}
 use Rattle.scene_model.specs.Colours.{look_at, colour_in, colour_at}
 use Rattle.machine_model.specs.Damage.{same_place, same_parent, is_over, is_put_higher, is_shifted, is_altered, shows_open, shows_under, keys_in, in_window, in_widget, in_reach_of, in_reach}
-use Rattle.machine_model.specs.DamageLaws.{IsSound, AreChildrenApart, SameOutsideReach}
+use Rattle.machine_model.specs.DamageLaws.{IsSound, SameOutsideReach}
 use Rattle.machine_model.proofs.DamageKeys.{same_key-own, same_key-from, same_place-is, same_parent-is, none_of, joined_left, joined_right}
 use Rattle.machine_model.proofs.DamageLevels.{shows_at-up, root_key-top}
 use Rattle.machine_model.proofs.DamageOrder.{Passes, found_passes, same_first, over_stands}
@@ -142,8 +142,6 @@ is_unaltered before after x y window key planted planted' unreached shown seen =
 record IsUnreached (before after : Scene) (x y : ℤ) : Type 0 where
   sound : IsSound before
   sound' : IsSound after
-  apart : AreChildrenApart before
-  apart' : AreChildrenApart after
   width : before.width ≡ after.width
   height : before.height ≡ after.height
   unreached : in_reach before after x y ≡ false
@@ -190,11 +188,11 @@ back before after x y u window there shows =
     (steady.open_before, (seen_after after before window window x y u.sound'.planted u.sound.planted (keeps_back before after x y window u shown) (window_seen after window x y u.sound' there shows)).shows)
 
 -- and none of them is put higher
-unmoved : (before after : Scene) (x y : ℤ) → IsUnreached before after x y → (other window : ℕ × List ℕ) → list_any (same_key window) after.windows ≡ true → shows_at after window x y ≡ true → is_over before.windows other window ≡ true → is_over after.windows window other ≡ true → ⊥
+unmoved : (before after : Scene) (x y : ℤ) → IsUnreached before after x y → (other window : ℕ × List ℕ) → list_any (same_key window) after.windows ≡ true → shows_at after window x y ≡ true → is_over same_key before.windows other window ≡ true → is_over same_key after.windows window other ≡ true → ⊥
 unfolding IsShown is_put_higher
 unmoved before after x y u other window there shows over under =
     let steady = is_steady before after x y window u.unreached (inr (there, shows)) in
-    let none = none_of (λ o. is_over before.windows o window && is_over after.windows window o) before.windows other steady.unmoved (over_stands before.windows other window over) in
+    let none = none_of (λ o. is_over same_key before.windows o window && is_over same_key after.windows window o) before.windows other steady.unmoved (over_stands before.windows other window over) in
     true≢false (sym (and_from _ _ over under) ∙ none)
 
 same_window : (before after : Scene) (x y : ℤ) → IsUnreached before after x y → window_at before x y ≡ window_at after x y
@@ -220,9 +218,9 @@ same_colour before after x y u (Some window) first = λ i. colour_in (look i) (p
     seen : IsSeen before window window x y
     seen = window_seen before window x y u.sound found.0 found.1
     climbed : IsClimbed before x y
-    climbed = IsClimbed-sound before x y u.sound u.apart
+    climbed = IsClimbed-sound before x y u.sound
     lowest : lowest_in most_levels before x y window ≡ lowest_in most_levels after x y window
-    lowest = same_lowest most_levels before after window window x y climbed (IsClimbed-sound after x y u.sound' u.apart') keeps (keeps_back before after x y window u shown) seen
+    lowest = same_lowest most_levels before after window window x y climbed (IsClimbed-sound after x y u.sound') keeps (keeps_back before after x y window u shown) seen
     kept : IsKept before after window (lowest_in most_levels before x y window)
     kept = keeps.each (lowest_in most_levels before x y window) (lowest_seen most_levels before window window x y climbed seen)
     look : look_at before (lowest_in most_levels before x y window) ≡ look_at after (lowest_in most_levels after x y window)
@@ -232,6 +230,6 @@ same_colour before after x y u (Some window) first = λ i. colour_in (look i) (p
 
 pub same_outside_reach : SameOutsideReach
 unfolding colour_at top_of colour_through
-same_outside_reach before after sound sound' apart apart' width height x y unreached =
-    let u : IsUnreached before after x y = record { sound = sound; sound' = sound'; apart = apart; apart' = apart'; width = width; height = height; unreached = unreached } in
+same_outside_reach before after sound sound' width height x y unreached =
+    let u : IsUnreached before after x y = record { sound = sound; sound' = sound'; width = width; height = height; unreached = unreached } in
     same_colour before after x y u (window_at before x y) refl ∙ ap (colour_through after x y) (same_window before after x y u)

@@ -20,15 +20,16 @@ same_parent None None = true
 same_parent (Some a) (Some b) = same_key a b
 same_parent _ _ = false
 
--- whether the upper window comes before the lower one in the order from top to bottom
-abbrev pub is_over : List (ℕ × List ℕ) → ℕ × List ℕ → ℕ × List ℕ → Bool
-is_over [] upper lower = false
-is_over (window ∷ windows) upper lower = if same_key upper window then list_any (same_key lower) windows else is_over windows upper lower
+-- whether the upper window comes before the lower one in the order from top to bottom, where `same` tells whether two
+-- are one
+abbrev pub is_over : {Key : Type 0} → (Key → Key → Bool) → List Key → Key → Key → Bool
+is_over same [] upper lower = false
+is_over same (window ∷ windows) upper lower = if same upper window then list_any (same lower) windows else is_over same windows upper lower
 
 -- A window is put higher where some window, open before and after, was above it and is below it.
 unfoldable pub is_put_higher : Scene → Scene → ℕ × List ℕ → Bool
 is_put_higher before after window =
-    list_any (λ other. is_over before.windows other window && is_over after.windows window other) before.windows
+    list_any (λ other. is_over same_key before.windows other window && is_over same_key after.windows window other) before.windows
 
 -- A window is shifted where it is open in one of the scenes alone, or its place differs, or it is put higher.
 unfoldable pub is_shifted : Scene → Scene → ℕ × List ℕ → Bool

@@ -8,3 +8,4 @@ pub mod Reach
 pub mod Damage
 pub mod DamageLaws
 pub mod DamageKeys
+pub mod DeskDamage

@@ -2,4 +2,3 @@ pub mod View
 pub mod Ready
 pub mod Children
 pub mod Measured
-pub mod Shot

@@ -1,6 +1,7 @@
 //! What the screen shows at one moment, by numbers.
-ghost use Rattle.std.specs.Prelude.{◌≡◌, ◌<◌, ℕ, length, None, IfOk, slice_get, slice_index_or};
-ghost use Rattle.scene_core.specs.Shot.{IsShot, IsBare, most_numbers, spot_at};
+ghost use Rattle.std.specs.Prelude.{◌≡◌, ◌<◌, ◌++◌, ◌∷◌, [], ℕ, false, length, nat_eq, Some, None, IfOk, slice_get, slice_index_or, slice_set};
+ghost use Rattle.std.specs.List.{list_any};
+ghost use Rattle.shot_core.specs.Shot.{IsShot, IsBare, most_numbers, spot_at, windows_in};
 
 use crate::no_memory::NoMemory;
 use crate::spot::Spot;
@@ -17,7 +18,7 @@ pub struct Shot {
 }
 
 impl Model for Shot {
-    ghost use Rattle.scene_core.specs.Shot.{Seen, IsShot};
+    ghost use Rattle.shot_core.specs.Shot.{Seen, IsShot};
 
     ghost Value = { Seen };
 
@@ -48,6 +49,39 @@ impl Shot {
         })
     }
 
+    /// Takes all windows and spots out.
+    
+    pub fn clear(&mut self)
+        ensures bare { IsBare self.new }
+        ensures valid { IsShot self.new }
+    {
+        self.windows.clear();
+        clear_spots(&mut self.spots);
+    }
+
+    /// Puts an open window, which isn't there yet, with its place below the others. At most 128 are open.
+    pub fn put_window(&mut self, window: u32, place: Rect)
+        requires few { length self.old.windows < 128 }
+        requires absent { list_any (nat_eq window) (windows_in self.old) ≡ false }
+        ensures windows { self.new.windows ≡ self.old.windows ++ (window, place) ∷ [] }
+        ensures spots { self.new.spots ≡ self.old.spots }
+        ensures valid { IsShot self.new }
+    {
+        self.windows.push((window, place));
+    }
+
+    /// Gives the number, which is below 2,048 as the window's is, this spot.
+    #[tactic(auto, unfolding(crate::specs::Shot::most_numbers))]
+    pub fn put_spot(&mut self, key: u32, spot: Spot)
+        requires key { key < most_numbers }
+        requires window { spot.window < most_numbers }
+        ensures spots { self.new.spots ≡ slice_set self.old.spots key (Some spot) }
+        ensures windows { self.new.windows ≡ self.old.windows }
+        ensures valid { IsShot self.new }
+    {
+        self.spots[key as usize] = Some(spot);
+    }
+
     /// The open window at that index, from 0 at the top, and its place; `None` exactly where the index is at or past
     /// the number of windows.
     pub fn window(&self, index: usize) -> Option<(u32, Rect)>
@@ -57,7 +91,16 @@ impl Shot {
         self.windows.get(index).copied()
     }
 
+    /// All open windows from top to bottom, each with its place.
+    pub fn windows(&self) -> &[(u32, Rect)]
+        ensures windows { result.now ≡ self.now.windows }
+        ensures valid { IsShot self.now }
+    {
+        self.windows.as_slice()
+    }
+
     /// The spot of the shown row with that number, which is below 2,048; `None` exactly where no shown row has it.
+    #[tactic(auto, unfolding(crate::specs::Shot::most_numbers))]
     pub fn spot(&self, key: u32) -> Option<Spot>
         requires { key < most_numbers }
         ensures spot { result ≡ spot_at self.now key }
@@ -80,4 +123,13 @@ fn no_spots(alloc: Global, count: usize) -> Result<Vec<Option<Spot>>, NoMemory>
         }
     }
     Ok(spots)
+}
+
+// Takes all spots out.
+fn clear_spots(spots: &mut [Option<Spot>])
+    ensures { (key : ℕ) → slice_index_or spots.new key None ≡ None }
+{
+    for spot in spots.iter_mut() {
+        *spot = None;
+    }
 }

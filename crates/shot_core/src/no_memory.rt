@@ -1,3 +1,3 @@
-/// The answer of `Shot::new` for want of memory alone.
+/// Want of memory, the one reason for which a shot isn't made.
 #[derive(Clone, Copy, Debug, PartialEq, Eq)]
 pub struct NoMemory;
