@@ -15,3 +15,8 @@ pub mod Commands
 pub mod DeskFacts
 pub mod OwnPart
 pub mod Keeping
+pub mod InputEffects
+pub mod InputEdits
+pub mod InputValues
+pub mod InputTable
+pub mod Inputs
