@@ -5,18 +5,12 @@
 mod edits;
 mod effects;
 mod hit;
-mod key;
-mod motion;
 mod pixel;
 mod posts;
-mod press;
 mod reading;
-mod release;
-mod route;
 mod trough;
 mod values;
 
 pub use effects::Effects;
 pub use hit::Hit;
 pub use posts::{Post, Posts};
-pub use route::route;
