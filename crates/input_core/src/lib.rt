@@ -5,12 +5,18 @@
 mod edits;
 mod effects;
 mod hit;
+mod key;
+mod motion;
 mod pixel;
 mod posts;
+mod press;
 mod reading;
+mod release;
+mod routing;
 mod trough;
 mod values;
 
 pub use effects::Effects;
 pub use hit::Hit;
 pub use posts::{Post, Posts};
+pub use routing::route;

@@ -1,12 +1,11 @@
 //! What the tree says of a widget.
 
-ghost use Rattle.std.specs.Prelude.{◌≡◌, ◌≤◌, ◌<◌, length, map, IfSome};
+ghost use Rattle.std.specs.Prelude.{◌≡◌, ◌≤◌, ◌<◌, length, map, Some, IfSome};
 ghost use Rattle.std.specs.Option.{option_to_list};
-ghost use Rattle.kind_core.specs.declared.kinds.Attr.TheVariants.{Text};
 ghost use Rattle.widget_model.specs.Widgets.{IsLive, rows_of};
 ghost use Rattle.widget_model.specs.Forest.{IsWidgets};
 ghost use Rattle.widget_model.specs.Keys.{key_of, root_key};
-ghost use Rattle.scene_model.specs.Values.{number_of, text_of, linked_value, caret_of};
+ghost use Rattle.scene_model.specs.Values.{number_in, number_of, count_of, text_in, text_of, linked_value, caret_of};
 ghost use Rattle.desk_model.specs.InputEffects.{posted};
 ghost use Rattle.desk_model.specs.InputValues.{value_key};
 ghost use Rattle.input_core.specs.Numbered.{numbered};
@@ -30,31 +29,57 @@ pub(crate) fn number(tree: &Tree, id: Id, attr: Attr) -> i32
     requires { IsLive tree.now id.key }
     ensures { result ≡ number_of attr (numbered tree.now.entries id.key) }
 {
-    match tree.attr(id, attr) {
+    number_in(tree.attr(id, attr))
+}
+
+/// The number that a value is, 0 where it is none.
+fn number_in(value: Option<Value>) -> i32
+    ensures { result ≡ number_in value }
+{
+    match value {
         Some(Value::Number(number)) => number,
-        _ => 0,
+        Some(Value::Words(_)) => 0,
+        None => 0,
     }
+}
+
+/// The same of a number that isn't negative.
+pub(crate) fn count(tree: &Tree, id: Id, attr: Attr) -> u32
+    requires { IsLive tree.now id.key }
+    ensures { result ≡ count_of attr (numbered tree.now.entries id.key) }
+{
+    number(tree, id, attr).unsigned_abs()
 }
 
 /// The widget's text, the empty one where it has none.
 pub(crate) fn text(tree: &Tree, id: Id) -> Text
     requires { IsLive tree.now id.key }
-    ensures { result ≡ text_of Text (numbered tree.now.entries id.key) }
+    ensures { result ≡ text_of Attr.Text (numbered tree.now.entries id.key) }
 {
     match tree.attr(id, Attr::Text) {
-        Some(Value::Words(text)) => text,
-        _ => Text::empty(),
+        Some(value) => words_of(value),
+        None => Text::empty(),
+    }
+}
+
+/// The text that a value is, the empty one where it is a number.
+fn words_of(value: Value) -> Text
+    ensures { result ≡ text_in (Some value) }
+{
+    match value {
+        Value::Words(text) => text,
+        Value::Number(_) => Text::empty(),
     }
 }
 
 /// Where an Entry's caret stands in its text.
 pub(crate) fn caret(tree: &Tree, id: Id, text: &Text) -> u32
     requires live { IsLive tree.now id.key }
-    requires text { text.now ≡ text_of Text (numbered tree.now.entries id.key) }
+    requires text { text.now ≡ text_of Attr.Text (numbered tree.now.entries id.key) }
     ensures caret { result ≡ caret_of (numbered tree.now.entries id.key) }
     ensures within { result ≤ length text.now }
 {
-    let caret = number(tree, id, Attr::Caret).unsigned_abs();
+    let caret = count(tree, id, Attr::Caret);
     caret.min(text.as_slice().len() as u32)
 }
 

@@ -4,7 +4,8 @@ ghost use Rattle.std.specs.Prelude.{◌≡◌, ◌≤◌, ◌<◌, pos};
 ghost use Rattle.geom_core.specs.Rect.{IsInRange};
 ghost use Rattle.widget_model.specs.Widgets.{IsLive, rows_of};
 ghost use Rattle.widget_model.specs.Forest.{IsWidgets};
-ghost use Rattle.scene_model.specs.Values.{is_vertical};
+ghost use Rattle.kind_core.specs.Effective.{raw_value, scale_value, scrollbar_value};
+ghost use Rattle.scene_model.specs.Values.{is_vertical, linked_value, number_of};
 ghost use Rattle.desk_model.specs.InputValues.{pointed_value, shown_value, valued, knob_length, greatest_value};
 ghost use Rattle.tree_core.specs.Holds.{pointer_seen};
 ghost use Rattle.input_core.specs.Numbered.{numbered};
@@ -14,7 +15,7 @@ ghost use Rattle.input_core.specs.Live.{AreLive};
 use crate::effects::Effects;
 use crate::pixel::{local_x, local_y};
 use crate::posts::Posts;
-use crate::reading::{kind, linked_value, number, posted, value_id};
+use crate::reading::{count, kind, linked_value, number, posted, value_id};
 use crate::trough::{clamp, scrollbar_knob_length, value_at};
 use geom_core::Rect;
 use kind_core::{Attr, EventKind, Kind};
@@ -37,8 +38,8 @@ fn knob_length(tree: &Tree, id: Id, trough: u32) -> u32
 {
     match kind(tree, id) {
         Kind::Scrollbar => {
-            let real = number(tree, id, Attr::Real).unsigned_abs();
-            let view = number(tree, id, Attr::View).unsigned_abs();
+            let real = count(tree, id, Attr::Real);
+            let view = count(tree, id, Attr::View);
             scrollbar_knob_length(trough, real, view)
         }
         _ => 8,
@@ -54,11 +55,11 @@ fn greatest_value(tree: &Tree, id: Id) -> u32
 {
     match kind(tree, id) {
         Kind::Scrollbar => {
-            let real = number(tree, id, Attr::Real).unsigned_abs();
-            let view = number(tree, id, Attr::View).unsigned_abs();
+            let real = count(tree, id, Attr::Real);
+            let view = count(tree, id, Attr::View);
             real.saturating_sub(view)
         }
-        _ => number(tree, id, Attr::Max).unsigned_abs(),
+        _ => count(tree, id, Attr::Max),
     }
 }
 
@@ -81,27 +82,49 @@ fn pointed_value(tree: &Tree, id: Id, pointer: &Pointer, place: Rect) -> i32
     value_at(place.w, knob, most, local_x(pointer, place)) as i32
 }
 
+/// The number of the Variable that the widget is linked to, or its own without a link.
+fn raw_value(tree: &Tree, id: Id) -> i32
+    requires widgets { IsWidgets tree.now }
+    requires live { IsLive tree.now id.key }
+    ensures { result ≡ raw_value (linked_value (rows_of tree.now) (numbered tree.now.entries id.key)) (number_of Attr.Value (numbered tree.now.entries id.key)) }
+{
+    match linked_value(tree, id) {
+        Some(value) => value,
+        None => number(tree, id, Attr::Value),
+    }
+}
+
+/// What a Scale with that greatest value shows.
+fn scale_value(raw: i32, max: i32) -> i64
+    ensures { result ≡ scale_value raw max }
+{
+    clamp(i64::from(raw), 0, i64::from(max))
+}
+
+/// What a Scrollbar with that real length and view shows.
+fn scrollbar_value(raw: i32, real: i32, view: i32) -> i64
+    ensures { result ≡ scrollbar_value raw real view }
+{
+    if real <= view {
+        return 0;
+    }
+    clamp(i64::from(raw), 0, i64::from(real) - i64::from(view))
+}
+
 /// The value that the widget shows.
 fn shown_value(tree: &Tree, id: Id) -> i64
     requires widgets { IsWidgets tree.now }
     requires live { IsLive tree.now id.key }
     ensures { result ≡ shown_value (rows_of tree.now) (numbered tree.now.entries id.key) }
 {
-    let raw = match linked_value(tree, id) {
-        Some(value) => value,
-        None => number(tree, id, Attr::Value),
-    };
-    let raw = i64::from(raw);
+    let raw = raw_value(tree, id);
     match kind(tree, id) {
         Kind::Scrollbar => {
-            let real = i64::from(number(tree, id, Attr::Real));
-            let view = i64::from(number(tree, id, Attr::View));
-            if real <= view {
-                return 0;
-            }
-            clamp(raw, 0, real - view)
+            let real = number(tree, id, Attr::Real);
+            let view = number(tree, id, Attr::View);
+            scrollbar_value(raw, real, view)
         }
-        _ => clamp(raw, 0, i64::from(number(tree, id, Attr::Max))),
+        _ => scale_value(raw, number(tree, id, Attr::Max)),
     }
 }
 
