@@ -5,3 +5,5 @@ pub mod Keys
 pub mod Links
 pub mod Limits
 pub mod Posting
+pub mod Steps
+pub mod Effected

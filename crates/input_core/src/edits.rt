@@ -1,6 +1,6 @@
 //! What a key does to an Entry's text and caret, and where a press puts the caret.
 
-ghost use Rattle.std.specs.Prelude.{◌≡◌, ◌≤◌, ◌<◌, ◌-◌, ◌+◌, length, IsTrue, Some, None, take, drop};
+ghost use Rattle.std.specs.Prelude.{◌≡◌, ◌≤◌, ◌<◌, ◌-◌, ◌+◌, length, IsTrue, IfSome};
 ghost use Rattle.std.specs.List.{insert, remove};
 ghost use Rattle.std.specs.Option.{option_map};
 ghost use Rattle.kind_core.specs.Bytes.{is_printable, is_text};
@@ -66,6 +66,7 @@ fn is_printable(byte: u8) -> bool
 #[tactic(auto, unfolding(desk_model::specs::InputEdits::edit_of))]
 pub(crate) fn edit_of(byte: u8, text: &Text, caret: u32) -> Option<Edit>
     requires { caret ≤ length text.now }
+    ensures small { IfSome result (λ edit. edit.caret ≤ 64) }
     ensures edit { option_map edit_seen result ≡ edit_of byte text.now caret }
 {
     let length = text.as_slice().len() as u32;
@@ -99,7 +100,8 @@ pub(crate) fn edit_of(byte: u8, text: &Text, caret: u32) -> Option<Edit>
 /// Where a press at the local column u puts the caret of a text of that length (docs/MACHINE.md, "Input").
 #[tactic(auto, unfolding(desk_model::specs::InputEdits::caret_at))]
 pub(crate) fn caret_at(u: i32, length: u32) -> u32
-    ensures { result ≡ caret_at u length }
+    ensures caret { result ≡ caret_at u length }
+    ensures within { result ≤ length }
 {
     if u < 2 {
         return 0;

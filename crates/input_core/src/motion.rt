@@ -1,6 +1,8 @@
 //! What a motion of the pointer does.
 
-ghost use Rattle.std.specs.Prelude.{◌≡◌, ◌≤◌, ◌<◌, ◌-ℤ◌, pos, IfSome};
+ghost use Rattle.std.specs.Prelude.{◌≡◌, ◌≤◌, ◌<◌, ◌-ℤ◌, ◌&&◌, pos, IfSome};
+ghost use Rattle.std.specs.Ordering.{int_eq};
+ghost use Rattle.scene_model.specs.Values.{number_of};
 ghost use Rattle.kind_core.specs.Attributes.{minus};
 ghost use Rattle.kind_core.specs.Effective.{clamp};
 ghost use Rattle.geom_core.specs.Rect.{IsInRange};
@@ -29,6 +31,14 @@ fn dragged_to(pointer: u32, held: u32) -> i32
     clamp(i64::from(pointer) - i64::from(held), -1024, 1024) as i32
 }
 
+/// Whether the Window is at these x and y.
+fn is_at(tree: &Tree, id: Id, x: i32, y: i32) -> bool
+    requires { IsLive tree.now id.key }
+    ensures { result ≡ (int_eq x (number_of Attr.X (numbered tree.now.entries id.key)) && int_eq y (number_of Attr.Y (numbered tree.now.entries id.key))) }
+{
+    x == number(tree, id, Attr::X) && y == number(tree, id, Attr::Y)
+}
+
 /// A Window is dragged by its pixel (dx, dy).
 #[tactic(auto, unfolding(desk_model::specs::InputTable::dragged))]
 fn dragged(tree: &Tree, id: Id, dx: u32, dy: u32, pointer: Pointer) -> Effects
@@ -40,7 +50,7 @@ fn dragged(tree: &Tree, id: Id, dx: u32, dy: u32, pointer: Pointer) -> Effects
     let x = dragged_to(pointer.x, dx);
     let y = dragged_to(pointer.y, dy);
     let mut effects = only_pointer(pointer);
-    if x == number(tree, id, Attr::X) && y == number(tree, id, Attr::Y) {
+    if is_at(tree, id, x, y) {
         return effects;
     }
     effects.moved = Some((id, x, y));

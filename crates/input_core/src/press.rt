@@ -1,11 +1,12 @@
 //! What a press of the pointer's button does.
 
-ghost use Rattle.std.specs.Prelude.{◌≡◌, ◌<◌, IfSome};
+ghost use Rattle.std.specs.Prelude.{◌≡◌, ◌<◌, Some, None, IfSome, if◌then◌else◌};
+ghost use Rattle.widget_model.specs.Keys.{key_of, key_at};
 ghost use Rattle.geom_core.specs.Rect.{IsInRange};
 ghost use Rattle.widget_model.specs.Widgets.{IsLive, rows_of};
 ghost use Rattle.widget_model.specs.Forest.{IsWidgets};
 ghost use Rattle.desk_model.specs.InputTable.{takes_keys, pressed, grabbed_title, press_on, on_press};
-ghost use Rattle.std.specs.Option.{option_map};
+ghost use Rattle.std.specs.Option.{option_map, option_and_then};
 ghost use Rattle.tree_core.specs.Holds.{pointer_seen};
 ghost use Rattle.input_core.specs.Numbered.{numbered};
 ghost use Rattle.input_core.specs.Seen.{effects_seen, hit_seen};
@@ -29,6 +30,18 @@ fn takes_keys(kind: Kind) -> bool
     matches!(kind, Kind::Entry | Kind::VScreen)
 }
 
+/// The widget that has the focus after a press on this one.
+fn focus_of(tree: &Tree, id: Id) -> Option<Id>
+    requires { IsLive tree.now id.key }
+    ensures focus { option_and_then (λ id. key_at tree.now.entries id.key) result ≡ (if takes_keys (numbered tree.now.entries id.key).kind then Some (key_of (numbered tree.now.entries id.key)) else None) }
+    ensures live { IfSome result (λ id. IsLive tree.now id.key) }
+{
+    if takes_keys(kind(tree, id)) {
+        return Some(id);
+    }
+    None
+}
+
 /// The widget is grabbed, has the focus where it takes keys, and its window goes to the top.
 fn pressed(tree: &Tree, id: Id, pointer: &Pointer) -> Effects
     requires widgets { IsWidgets tree.now }
@@ -38,17 +51,12 @@ fn pressed(tree: &Tree, id: Id, pointer: &Pointer) -> Effects
     ensures x { result.pointer.x ≡ pointer.now.x }
     ensures y { result.pointer.y ≡ pointer.now.y }
 {
-    let focus = if takes_keys(kind(tree, id)) {
-        Some(id)
-    } else {
-        None
-    };
     let mut effects = only_pointer(Pointer {
         x: pointer.x,
         y: pointer.y,
         down: true,
         grab: Grab::Widget { id },
-        focus,
+        focus: focus_of(tree, id),
     });
     effects.raise = Some(root(tree, id));
     effects
