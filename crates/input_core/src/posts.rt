@@ -9,7 +9,7 @@ use tree_core::Id;
 
 /// An event that is posted to the client of a widget, with its two numbers. A widget's tag for the event is in its
 /// binding. See docs/MACHINE.md, "Input".
-#[derive(Clone, Copy, Debug)]
+#[derive(Clone, Copy, Debug, PartialEq, Eq)]
 pub struct Post {
     pub id: Id,
     pub event: EventKind,

@@ -82,7 +82,12 @@ fn release_on(tree: &Tree, id: Id, place: Rect, hit: Option<Hit>, pointer: Point
 
 /// The button goes up.
 #[tactic(auto, unfolding(desk_model::specs::InputTable::on_release))]
-pub(crate) fn on_release(tree: &Tree, pointer: &Pointer, hit: Option<Hit>, held: Option<Rect>) -> Effects
+pub(crate) fn on_release(
+    tree: &Tree,
+    pointer: &Pointer,
+    hit: Option<Hit>,
+    held: Option<Rect>,
+) -> Effects
     requires widgets { IsWidgets tree.now }
     requires holds { HoldsLive tree.now pointer.now }
     requires x { pointer.now.x < 1024 }

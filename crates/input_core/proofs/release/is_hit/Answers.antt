@@ -17,5 +17,5 @@ returns-in-Some c =
     let row = numbered es c.args.id.key in
     let live : IsLive w c.in-Some.hit.id.key = subst (λ (hit : Option Hit). IfSome hit (λ (h : Hit). IsLive w h.id.key)) c.in-Some.is c.requires.hit in
     sym (ap (λ (hit : Option Hit). is_hit (option_map (hit_seen es) hit) row) c.in-Some.is
-        ∙ ap (same_key (key_of row)) (key_seen-numbered es c.in-Some.hit.id live)
-        ∙ same_key-numbered w c.args.id.key c.in-Some.hit.id.key c.requires.widgets c.requires.live live)
+    ∙ ap (same_key (key_of row)) (key_seen-numbered es c.in-Some.hit.id live)
+    ∙ same_key-numbered w c.args.id.key c.in-Some.hit.id.key c.requires.widgets c.requires.live live)
