@@ -17,6 +17,7 @@ use std::test::Fail;
 use tree_core::{Grab, Id, Pointer, Tree};
 
 /// The effects of a row's answer.
+#[derive(Drop)]
 struct Wanted {
     raise: Option<Id>,
     value: Option<(Id, i32)>,
