@@ -154,5 +154,8 @@ pub fn plays(rt: &impl Abort, tree: &mut Tree, widgets: &str, table: &str) -> Re
     requires { is_joined tree.old.clients 1 ≡ false }
 {
     make(rt, tree, widgets)?;
+    if tree.count(1) == 0 {
+        return Err("a table has no widgets".into());
+    }
     play(rt, tree, table)
 }
