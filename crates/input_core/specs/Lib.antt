@@ -1,0 +1,4 @@
+pub mod Edited
+pub mod Numbered
+pub mod Seen
+pub mod Live
