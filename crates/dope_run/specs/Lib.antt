@@ -1,4 +1,5 @@
 pub mod Words
+pub mod WordLaws
 pub mod Text
 pub mod Report
 pub mod Framing

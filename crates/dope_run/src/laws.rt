@@ -1,6 +1,7 @@
-//! Laws of scripts, over the definitions alone. Each is a function without parameters whose contract is the
+//! Laws of scripts and of command lines, over the definitions alone. Each is a function without parameters whose contract is the
 //! law. docs/MACHINE.md, "Scripts", reads them in prose.
 ghost use Rattle.dope_run.specs.ScriptLaws.{BytesHaveAReading, ReadingsAreOne, PartsAreNotOff, ScriptsAreNotRefused, LittleIsReadAhead};
+ghost use Rattle.dope_run.specs.WordLaws.{OneShape};
 
 /// Any bytes are whole lines that are read, and then no whole line or one off the grammar.
 pub fn bytes_have_a_reading()
@@ -26,4 +27,9 @@ pub fn scripts_are_not_refused()
 /// and the bytes of that read: at most 520 bytes and 4,096.
 pub fn little_is_read_ahead()
     ensures { LittleIsReadAhead }
+{}
+
+/// The words of a command line ask for at most one shape to be played.
+pub fn one_shape()
+    ensures { OneShape }
 {}
