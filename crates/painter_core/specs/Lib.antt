@@ -1,0 +1,4 @@
+pub mod Layers
+pub mod Trail
+pub mod Painted
+pub mod Stage

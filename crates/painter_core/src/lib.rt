@@ -1,0 +1,8 @@
+//! Painting: a piece of the screen is cut through the window order and down the widgets, and each part is written into
+//! rows that the screen lends.
+#![tactic(auto)]
+
+mod filling;
+mod meeting;
+mod painting;
+mod view;
