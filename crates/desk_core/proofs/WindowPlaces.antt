@@ -13,13 +13,14 @@ use Rattle.widget_model.specs.Widgets.{Widgets, nodes, rows_of, row_at}
 use Rattle.widget_model.proofs.Naming.{row_named-found, id_named-row}
 use Rattle.tree_core.proofs.ForestLemmas.{node_at-nodes}
 use Rattle.desk_core.specs.Standing.{title_at, windows_at, desk_of, names_window, IsStanding}
-use Rattle.scene_model.specs.declared.window.Window.{Window}
-use Rattle.scene_model.specs.OpenWindows.{number_in, place_of_window, place_of_row}
+use Rattle.geom_core.specs.declared.rectangle.Rect.{Rect}
+use Rattle.scene_model.specs.OpenWindows.{place_of_window, place_of_row}
+use Rattle.scene_model.specs.Values.{number_in}
 use Rattle.scene_model.specs.OpenWindows.{window_places}
 use Rattle.desk_model.specs.Seen.{open_windows}
 
 -- a place as its sides
-abbrev pub sides : Window → ℤ × ℤ × ℕ × ℕ
+abbrev pub sides : Rect → ℤ × ℤ × ℕ × ℕ
 sides w = (w.x, w.y, w.w, w.h)
 
 slice_get-map : {X Y : Type 0} (f : X → Y) (xs : List X) (i : ℕ) → slice_get (map f xs) i ≡ option_map f (slice_get xs i)
@@ -37,7 +38,7 @@ slice_get-past [] i h = omega arith
 slice_get-past (y ∷ ys) zero h = absurd (cc)
 slice_get-past (y ∷ ys) (suc i) h = omega (arith, slice_get-past ys i h)
 
--- a key at an index names a Window, which has a row
+-- a key at an index names a Rect, which has a row
 slice_get-window : (ns : List (ℕ × Node)) (keys : List ℕ) (i key : ℕ) → list_all (names_window ns) keys ≡ true → slice_get keys i ≡ Some key → names_window ns key ≡ true
 slice_get-window ns [] i key windows there = absurd (cc)
 slice_get-window ns (k ∷ ks) zero key windows there =

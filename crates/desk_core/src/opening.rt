@@ -6,7 +6,8 @@ ghost use Rattle.stack_core.specs.Stack.{holds_key, IsStack};
 ghost use Rattle.desk_model.specs.Linking.{step_open};
 ghost use Rattle.widget_model.specs.Kinds.{is_window_kind};
 ghost use Rattle.widget_model.specs.Widgets.{IsLive, row_at, nodes};
-ghost use Rattle.scene_model.specs.OpenWindows.{number_in, place_of_row};
+ghost use Rattle.scene_model.specs.OpenWindows.{place_of_row};
+ghost use Rattle.scene_model.specs.Values.{number_in};
 ghost use Rattle.desk_core.specs.Standing.{IsStanding, names_window, is_others};
 ghost use Rattle.desk_core.specs.Did.{DidAll, TellsAll};
 

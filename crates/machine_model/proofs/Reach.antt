@@ -11,7 +11,7 @@ use Rattle.desk_model.specs.Seen.{open_windows}
 use Rattle.scene_model.specs.Picture.{colour_through}
 use Rattle.desk_model.specs.Seen.{colour}
 use Rattle.machine_model.specs.Reach.{ShowTheSame, IsTouched, is_shown, in_reach}
-use Rattle.scene_model.specs.declared.window.Window.{Window}
+use Rattle.geom_core.specs.declared.rectangle.Rect.{Rect}
 
 pub find-none : {X : Type 0} (p : X → Bool) (xs : List X) → list_any p xs ≡ false → find p xs ≡ None
 find-none p [] h = refl
@@ -30,7 +30,7 @@ open_windows-same d e same = λ i. map (place_of_window (same.rows i)) (same.win
 
 pub colour-same : (d e : Desk) (x y : ℕ) → ShowTheSame d e → colour d x y ≡ colour e x y
 unfolding colour scene_colour open_windows
-colour-same d e x y same = ap (λ (windows : List Window). colour_through (top_at windows x y) x y) (sym (open_windows-same d e same))
+colour-same d e x y same = ap (λ (windows : List Rect). colour_through (top_at windows x y) x y) (sym (open_windows-same d e same))
 
 pub colour-outside_reach : (d e : Desk) (touched : Bool) (x y : ℕ) → IsTouched touched d e → in_reach touched d e x y ≡ false → colour d x y ≡ colour e x y
 unfolding is_shown

@@ -1,4 +1,5 @@
 ghost use Rattle.std.specs.Prelude.{◌≡◌};
+ghost use Rattle.std.specs.Option.{option_copied};
 ghost use Rattle.widget_model.specs.Rows.{new_row, first_values, default_at, attr_of, IsIndex, column_rule_of, row_rule_of, binding_of};
 ghost use Rattle.row_store.specs.Changes.{changed_by, CanBeMade};
 
@@ -6,6 +7,7 @@ use crate::change::Change;
 use crate::places::{attr_slot, event_slot};
 use kind_core::{Attr, Cell, EventKind, Kind, Name, Value, default_of};
 use std::marker::Model;
+use vscreen_core::Film;
 
 /// One widget of a client, which contracts see as the record `Row` of desk_model. See docs/MACHINE.md,
 /// "Widgets".
@@ -20,6 +22,7 @@ pub struct Row {
     row_rules: [(u32, u32); 16],
     link: Option<Name>,
     bindings: [Option<Name>; 7],
+    film: Option<Film>,
 }
 
 impl Model for Row {
@@ -27,7 +30,7 @@ impl Model for Row {
 
     ghost Value = { Seen };
 
-    ghost view = { λ r. record { client = r.client; name = r.name; kind = r.kind; values = r.values; attached = r.attached; column_rules = r.column_rules; row_rules = r.row_rules; link = r.link; bindings = r.bindings } };
+    ghost view = { λ r. record { client = r.client; name = r.name; kind = r.kind; values = r.values; attached = r.attached; column_rules = r.column_rules; row_rules = r.row_rules; link = r.link; bindings = r.bindings; film = r.film } };
 }
 
 /// The default of the kind's attribute.
@@ -61,8 +64,8 @@ fn first_values(kind: Kind) -> [Option<Value>; 13]
 }
 
 impl Row {
-    /// The row of a new widget, with the defaults of its kind. It hangs in none, has no rules, no link and no
-    /// bindings.
+    /// The row of a new widget, with the defaults of its kind. It hangs in none, and has no rules, no link, no
+    /// bindings and no film.
     #[tactic(auto, unfolding(widget_model::specs::Rows::new_row))]
     pub fn new(client: u32, name: Name, kind: Kind) -> Row
         ensures { result ≡ new_row client name kind }
@@ -77,6 +80,7 @@ impl Row {
             row_rules: [(0, 0); 16],
             link: None,
             bindings: [None; 7],
+            film: None,
         }
     }
 
@@ -143,6 +147,13 @@ impl Row {
         ensures { result ≡ binding_of self.now event }
     {
         self.bindings[event_slot(event)]
+    }
+
+    /// The film that it has, lent; None exactly where it has none.
+    pub fn film(&self) -> Option<&Film>
+        ensures { option_copied result ≡ self.now.film }
+    {
+        self.film.as_ref()
     }
 
     /// Makes the change, and changes nothing else of the row. A rule's column or row is 1 to 16.

@@ -2,12 +2,15 @@ pub mod Shapes
 pub mod Scene
 pub mod Spans
 pub mod Values
+pub mod Fit
 pub mod Tracks
 pub mod Least
 pub mod Placing
 pub mod Showing
 pub mod LookOf
 pub mod Colours
+pub mod LevelLaws
+pub mod RangeLaws
 pub mod Windows
 pub mod OpenWindows
 pub mod Picture

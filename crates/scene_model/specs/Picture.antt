@@ -2,7 +2,7 @@
 -- 2 the desk, 3 a window's ground, 4 lines, 5 a title's ground.
 use Rattle.std.specs.Prelude.{ℕ, ◌-◌, ◌*◌, ◌/◌, ◌%◌, Bool, ◌||◌, ◌==◌, nat_lt, if◌then◌else◌, Option, Some, None, List, map}
 use Rattle.std.specs.List.{range_with_len}
-use Rattle.scene_model.specs.declared.window.Window.{Window}
+use Rattle.geom_core.specs.declared.rectangle.Rect.{Rect}
 use Rattle.scene_model.specs.Scene.{Scene}
 use Rattle.scene_model.specs.Windows.{top_at, local}
 use Rattle.scene_model.specs.OpenWindows.{window_places}
@@ -15,11 +15,11 @@ is_edge w h u v = u == 0 || v == 0 || u == w - 1 || v == h - 1
 abbrev pub window_look : ℕ → ℕ → ℕ → ℕ → ℕ
 window_look w h u v = if is_edge w h u v then 4 else (if nat_lt v 12 then 5 else 3)
 
-unfoldable pub window_colour : Window → ℕ → ℕ → ℕ
+unfoldable pub window_colour : Rect → ℕ → ℕ → ℕ
 window_colour window x y = window_look window.w window.h (local window.x x) (local window.y y)
 
 -- What is seen through the top window, or the desk's own colour where there is none.
-abbrev pub colour_through : Option Window → ℕ → ℕ → ℕ
+abbrev pub colour_through : Option Rect → ℕ → ℕ → ℕ
 colour_through None x y = 2
 colour_through (Some window) x y = window_colour window x y
 

@@ -3,8 +3,7 @@
 #![tactic(auto)]
 
 mod axis;
-mod window;
 
 pub use axis::{Axis, Span};
+pub use geom_core::Rect;
 pub use kind_core::Shape;
-pub use window::Window;

@@ -6,8 +6,9 @@ use Rattle.std.proofs.lemmas.List.{length-set, get_or-set_same, get_or-set_other
 use Rattle.std.proofs.lemmas.List.Sums.{sum_by-set}
 use Rattle.std.proofs.lemmas.Bool.{cases_lt, cond-false, true≢false}
 use Rattle.std.proofs.lemmas.List.Folds.{list_any_more}
-use Rattle.scene_model.specs.declared.window.Window.{Window}
-use Rattle.scene_model.specs.Windows.{is_within, shows, shown_by_any}
+use Rattle.geom_core.specs.declared.rectangle.Rect.{Rect}
+use Rattle.geom_core.specs.Rect.{in_span}
+use Rattle.scene_model.specs.Windows.{shows, shown_by_any}
 use Rattle.machine_model.specs.State.{count_true}
 use Rattle.server_core.specs.Sweeping.{mark_at}
 use Rattle.server_core.specs.Marking.{MarkedTo, MarkedAll, shown_at, shows_at}
@@ -33,19 +34,19 @@ and_and_false true b = and_false b
 and_and_false false b = refl
 
 -- above and below its rows a window shows nothing
-hidden_above : (window : Window) (x y : ℕ) → pos y <ℤ window.y → shows window x y ≡ false
+hidden_above : (window : Rect) (x y : ℕ) → pos y <ℤ window.y → shows window x y ≡ false
 unfolding shows
 hidden_above window x y above =
     let no : int_le window.y (pos y) ≡ false = grind (arith, ints) in
-    rw no (and_false (is_within window.x window.w x))
+    rw no (and_false (in_span window.x window.w (pos x)))
 
-hidden_below : (window : Window) (x y : ℕ) → (window.y +ℤ pos window.h) ≤ℤ pos y → shows window x y ≡ false
+hidden_below : (window : Rect) (x y : ℕ) → (window.y +ℤ pos window.h) ≤ℤ pos y → shows window x y ≡ false
 unfolding shows
 hidden_below window x y below =
     let no : int_lt (pos y) (window.y +ℤ pos window.h) ≡ false = grind (arith, ints) in
-    rw no (and_and_false (is_within window.x window.w x) (int_le window.y (pos y)))
+    rw no (and_and_false (in_span window.x window.w (pos x)) (int_le window.y (pos y)))
 
-pub MarkedTo-start : (start : ℕ) (window : Window) (width : ℕ) (marks : List Bool) (count : ℕ) → ((k : ℕ) → k < start → pos (k / width) <ℤ window.y) → count ≡ count_true marks → MarkedTo start window width marks count marks
+pub MarkedTo-start : (start : ℕ) (window : Rect) (width : ℕ) (marks : List Bool) (count : ℕ) → ((k : ℕ) → k < start → pos (k / width) <ℤ window.y) → count ≡ count_true marks → MarkedTo start window width marks count marks
 MarkedTo-start start window width marks count above counted = record {
   size = refl;
   before = λ k here. or_false (mark_at marks k) ∙ ap (λ b. mark_at marks k || b) (sym (hidden_above window (k % width) (k / width) (above k here)));
@@ -53,7 +54,7 @@ MarkedTo-start start window width marks count above counted = record {
   counted = counted;
 }
 
-pub MarkedTo-end : (i : ℕ) (window : Window) (width : ℕ) (marks : List Bool) (count : ℕ) (new_marks : List Bool) → ((k : ℕ) → i ≤ k → k < length marks → (window.y +ℤ pos window.h) ≤ℤ pos (k / width)) → MarkedTo i window width marks count new_marks → MarkedTo (length marks) window width marks count new_marks
+pub MarkedTo-end : (i : ℕ) (window : Rect) (width : ℕ) (marks : List Bool) (count : ℕ) (new_marks : List Bool) → ((k : ℕ) → i ≤ k → k < length marks → (window.y +ℤ pos window.h) ≤ℤ pos (k / width)) → MarkedTo i window width marks count new_marks → MarkedTo (length marks) window width marks count new_marks
 MarkedTo-end i window width marks count new_marks below m = record {
   size = m.size;
   before = λ k here.
@@ -74,7 +75,7 @@ kept now false shown e (inl on) = absurd (true≢false (sym on ∙ e))
 kept now false shown e (inr off) = e ∙ sym off
 
 -- a place that is dirty, or that the window doesn't show, is left
-pub MarkedTo-leave : (i : ℕ) (window : Window) (width : ℕ) (marks : List Bool) (count : ℕ) (new_marks : List Bool) (count' : ℕ) (new_marks' : List Bool) → MarkedTo i window width marks count new_marks → (mark_at new_marks i ≡ true) ⊎ (shows_at window width i ≡ false) → count' ≡ count → new_marks' ≡ new_marks → MarkedTo (i + 1) window width marks count' new_marks'
+pub MarkedTo-leave : (i : ℕ) (window : Rect) (width : ℕ) (marks : List Bool) (count : ℕ) (new_marks : List Bool) (count' : ℕ) (new_marks' : List Bool) → MarkedTo i window width marks count new_marks → (mark_at new_marks i ≡ true) ⊎ (shows_at window width i ≡ false) → count' ≡ count → new_marks' ≡ new_marks → MarkedTo (i + 1) window width marks count' new_marks'
 MarkedTo-leave i window width marks count new_marks count' new_marks' m either e f =
     subst (λ (c : ℕ). MarkedTo (i + 1) window width marks c new_marks') (sym e)
     (subst (λ (n : List Bool). MarkedTo (i + 1) window width marks count n) (sym f)
@@ -93,7 +94,7 @@ MarkedTo-leave i window width marks count new_marks count' new_marks' m either e
     }))
 
 -- a clean place that the window shows is marked
-pub MarkedTo-mark : (i : ℕ) (window : Window) (width : ℕ) (marks : List Bool) (count : ℕ) (new_marks : List Bool) (count' : ℕ) (new_marks' : List Bool) → MarkedTo i window width marks count new_marks → i < length marks → mark_at new_marks i ≡ false → shows_at window width i ≡ true → count' ≡ count + 1 → new_marks' ≡ set new_marks i true → MarkedTo (i + 1) window width marks count' new_marks'
+pub MarkedTo-mark : (i : ℕ) (window : Rect) (width : ℕ) (marks : List Bool) (count : ℕ) (new_marks : List Bool) (count' : ℕ) (new_marks' : List Bool) → MarkedTo i window width marks count new_marks → i < length marks → mark_at new_marks i ≡ false → shows_at window width i ≡ true → count' ≡ count + 1 → new_marks' ≡ set new_marks i true → MarkedTo (i + 1) window width marks count' new_marks'
 MarkedTo-mark i window width marks count new_marks count' new_marks' m within clean shown e f =
     let inside : i < length new_marks = omega (arith, m.size) in
     subst (λ (c : ℕ). MarkedTo (i + 1) window width marks c new_marks') (sym e)
@@ -120,12 +121,12 @@ pub MarkedAll-none : (width : ℕ) (marks : List Bool) (count : ℕ) → count �
 unfolding shown_by_any
 MarkedAll-none width marks count counted = record { size = refl; each = λ k within. or_false (mark_at marks k); counted = counted }
 
-shown_at-more : (windows : List Window) (i width k : ℕ) (nowhere : Window) → i < length windows → shown_at (take (i + 1) windows) width k ≡ (shown_at (take i windows) width k || shows_at (get_or windows i nowhere) width k)
+shown_at-more : (windows : List Rect) (i width k : ℕ) (nowhere : Rect) → i < length windows → shown_at (take (i + 1) windows) width k ≡ (shown_at (take i windows) width k || shows_at (get_or windows i nowhere) width k)
 unfolding shown_by_any
 shown_at-more windows i width k nowhere within = list_any_more (λ w. shows w (k % width) (k / width)) windows i nowhere within
 
 -- one more window
-pub MarkedAll-more : (windows : List Window) (i width : ℕ) (marks : List Bool) (count : ℕ) (new_marks : List Bool) (nowhere : Window) (last_count : ℕ) (last_marks : List Bool) → i < length windows → MarkedAll (take i windows) width marks count new_marks → MarkedTo (length new_marks) (get_or windows i nowhere) width new_marks last_count last_marks → MarkedAll (take (i + 1) windows) width marks last_count last_marks
+pub MarkedAll-more : (windows : List Rect) (i width : ℕ) (marks : List Bool) (count : ℕ) (new_marks : List Bool) (nowhere : Rect) (last_count : ℕ) (last_marks : List Bool) → i < length windows → MarkedAll (take i windows) width marks count new_marks → MarkedTo (length new_marks) (get_or windows i nowhere) width new_marks last_count last_marks → MarkedAll (take (i + 1) windows) width marks last_count last_marks
 MarkedAll-more windows i width marks count new_marks nowhere last_count last_marks within all to =
     let window = get_or windows i nowhere in
     record {

@@ -4,7 +4,7 @@ use Rattle.std.proofs.lemmas.Nat.{mul-add-lt, div-mul-add, mod-mul-add}
 use Rattle.cmd_words.specs.declared.inputs.Drew.{Drew}
 use Rattle.cmd_words.specs.declared.replies.Reply.{Reply}
 use Rattle.kind_core.specs.declared.shapes.Shape.{Shape}
-use Rattle.scene_model.specs.declared.window.Window.{Window}
+use Rattle.geom_core.specs.declared.rectangle.Rect.{Rect}
 use Rattle.scene_model.specs.Shapes.{area}
 use Rattle.desk_model.specs.Desk.{Desk, opening_desk}
 use Rattle.scene_model.specs.OpenWindows.{window_places}
@@ -41,7 +41,7 @@ at_pixel f w x y within =
     ap (λ m. f m ((y * w + x) / w)) (mod-mul-add y w x within) ∙ ap (λ m. f x m) (div-mul-add y w x within)
 
 -- after it has followed, the windows are the desk's open ones
-followed_windows : (before after : Standing) (windows new_windows : List Window) → windows ≡ open_windows before.desk → TellsChange before after → new_windows ≡ cond after.changed (open_windows after.desk) windows → new_windows ≡ open_windows after.desk
+followed_windows : (before after : Standing) (windows new_windows : List Rect) → windows ≡ open_windows before.desk → TellsChange before after → new_windows ≡ cond after.changed (open_windows after.desk) windows → new_windows ≡ open_windows after.desk
 followed_windows before after windows new_windows were tells are = by after.changed (IsTouched-told before.desk after.desk after.changed tells) are
   where
     by : (changed : Bool) → IsTouched changed before.desk after.desk → new_windows ≡ cond changed (open_windows after.desk) windows → new_windows ≡ open_windows after.desk
@@ -49,16 +49,16 @@ followed_windows before after windows new_windows were tells are = by after.chan
     by false touched are = are ∙ were ∙ sym (open_windows-same before.desk after.desk (touched.0 refl))
 
 -- the reach of a change at a pixel, by the windows before and after
-reach_at : (before after : Desk) (changed : Bool) (windows new_windows : List Window) (width x y : ℕ) → windows ≡ open_windows before → new_windows ≡ open_windows after → x < width → (changed && (shown_at windows width (y * width + x) || shown_at new_windows width (y * width + x))) ≡ in_reach changed before after x y
+reach_at : (before after : Desk) (changed : Bool) (windows new_windows : List Rect) (width x y : ℕ) → windows ≡ open_windows before → new_windows ≡ open_windows after → x < width → (changed && (shown_at windows width (y * width + x) || shown_at new_windows width (y * width + x))) ≡ in_reach changed before after x y
 unfolding is_shown
 reach_at before after changed windows new_windows width x y were are within =
     ap (λ b. changed && b)
     (at_pixel (λ u v. shown_by_any windows u v || shown_by_any new_windows u v) width x y within
-    ∙ ap (λ (ws : List Window). shown_by_any ws x y || shown_by_any new_windows x y) were
-    ∙ ap (λ (ws : List Window). shown_by_any (open_windows before) x y || shown_by_any ws x y) are)
+    ∙ ap (λ (ws : List Rect). shown_by_any ws x y || shown_by_any new_windows x y) were
+    ∙ ap (λ (ws : List Rect). shown_by_any (open_windows before) x y || shown_by_any ws x y) are)
 
 -- what follows a call on the desk is a change of the state
-Changed-followed : (before after : Standing) (windows : List Window) (bytes : List ℕ) (dirt : List Bool) (new_windows : List Window) (count : ℕ) (new_dirt : List Bool) (width : ℕ) → IsState (state_of before.desk bytes dirt) → width ≡ before.desk.shape.width → windows ≡ open_windows before.desk → after.desk.shape ≡ before.desk.shape → TellsChange before after → Followed after width windows dirt new_windows count new_dirt → Changed (state_of before.desk bytes dirt) after.desk (state_of after.desk bytes new_dirt)
+Changed-followed : (before after : Standing) (windows : List Rect) (bytes : List ℕ) (dirt : List Bool) (new_windows : List Rect) (count : ℕ) (new_dirt : List Bool) (width : ℕ) → IsState (state_of before.desk bytes dirt) → width ≡ before.desk.shape.width → windows ≡ open_windows before.desk → after.desk.shape ≡ before.desk.shape → TellsChange before after → Followed after width windows dirt new_windows count new_dirt → Changed (state_of before.desk bytes dirt) after.desk (state_of after.desk bytes new_dirt)
 Changed-followed before after windows bytes dirt new_windows count new_dirt width is wide were same tells f =
     let wide_after : after.desk.shape.width ≡ width = ap (λ (s : Shape). s.width) same ∙ sym wide in
     let high_after : after.desk.shape.height ≡ before.desk.shape.height = ap (λ (s : Shape). s.height) same in
@@ -81,7 +81,7 @@ Changed-followed before after windows bytes dirt new_windows count new_dirt widt
     }
 
 -- What a call on the desk, and following it, make of the parts: a change of the state, and parts that serve on.
-pub change_of_parts : {shape : Shape} {windows : List Window} {canvas : Screen} {dirt : List Bool} {dirty : ℕ} {new_windows : List Window} {count : ℕ} {new_dirt : List Bool} (before after : Standing) → after.desk.shape ≡ before.desk.shape → IsDesk after.desk → IsServing shape before.desk windows canvas dirt dirty → TellsChange before after → Followed after shape.width windows dirt new_windows count new_dirt → Changed (state_of before.desk canvas.bytes dirt) after.desk (state_of after.desk canvas.bytes new_dirt) × IsServing shape after.desk new_windows canvas new_dirt count
+pub change_of_parts : {shape : Shape} {windows : List Rect} {canvas : Screen} {dirt : List Bool} {dirty : ℕ} {new_windows : List Rect} {count : ℕ} {new_dirt : List Bool} (before after : Standing) → after.desk.shape ≡ before.desk.shape → IsDesk after.desk → IsServing shape before.desk windows canvas dirt dirty → TellsChange before after → Followed after shape.width windows dirt new_windows count new_dirt → Changed (state_of before.desk canvas.bytes dirt) after.desk (state_of after.desk canvas.bytes new_dirt) × IsServing shape after.desk new_windows canvas new_dirt count
 change_of_parts {shape} {windows} {canvas} {dirt} {dirty} {new_windows} {count} {new_dirt} before after same fine is tells f =
     let old = state_of before.desk canvas.bytes dirt in
     let new = state_of after.desk canvas.bytes new_dirt in
@@ -100,7 +100,7 @@ change_of_parts {shape} {windows} {canvas} {dirt} {dirty} {new_windows} {count} 
     )
 
 -- The same as a step of the machine.
-pub step_of_parts : {shape : Shape} {windows : List Window} {canvas : Screen} {dirt : List Bool} {dirty : ℕ} {new_windows : List Window} {count : ℕ} {new_dirt : List Bool} (before after : Standing) (stepped : Bool → Reply × Desk) (reply : Reply) → ((short : Bool) → (stepped short).1.shape ≡ before.desk.shape) → IsDesk after.desk → IsServing shape before.desk windows canvas dirt dirty → (reply, after.desk) ≡ stepped (is_memory reply) → TellsChange before after → Followed after shape.width windows dirt new_windows count new_dirt → Answered (state_of before.desk canvas.bytes dirt) stepped reply (state_of after.desk canvas.bytes new_dirt) × IsServing shape after.desk new_windows canvas new_dirt count
+pub step_of_parts : {shape : Shape} {windows : List Rect} {canvas : Screen} {dirt : List Bool} {dirty : ℕ} {new_windows : List Rect} {count : ℕ} {new_dirt : List Bool} (before after : Standing) (stepped : Bool → Reply × Desk) (reply : Reply) → ((short : Bool) → (stepped short).1.shape ≡ before.desk.shape) → IsDesk after.desk → IsServing shape before.desk windows canvas dirt dirty → (reply, after.desk) ≡ stepped (is_memory reply) → TellsChange before after → Followed after shape.width windows dirt new_windows count new_dirt → Answered (state_of before.desk canvas.bytes dirt) stepped reply (state_of after.desk canvas.bytes new_dirt) × IsServing shape after.desk new_windows canvas new_dirt count
 step_of_parts {shape} {windows} {canvas} {dirt} {dirty} {new_windows} {count} {new_dirt} before after stepped reply keeps fine is step tells f =
     let old = state_of before.desk canvas.bytes dirt in
     let new = state_of after.desk canvas.bytes new_dirt in
@@ -112,7 +112,7 @@ step_of_parts {shape} {windows} {canvas} {dirt} {dirty} {new_windows} {count} {n
     )
 
 -- The same of a client's command.
-pub obeyed_of_parts : {shape : Shape} {windows : List Window} {canvas : Screen} {dirt : List Bool} {dirty : ℕ} {new_windows : List Window} {count : ℕ} {new_dirt : List Bool} (before after : Standing) (client : ℕ) (command : Command) (reply : Reply) → IsDesk after.desk → IsServing shape before.desk windows canvas dirt dirty → step before.desk client command (is_memory reply) ≡ Some (reply, after.desk) → TellsChange before after → Followed after shape.width windows dirt new_windows count new_dirt → Obeyed (state_of before.desk canvas.bytes dirt) client command reply (state_of after.desk canvas.bytes new_dirt) × IsServing shape after.desk new_windows canvas new_dirt count
+pub obeyed_of_parts : {shape : Shape} {windows : List Rect} {canvas : Screen} {dirt : List Bool} {dirty : ℕ} {new_windows : List Rect} {count : ℕ} {new_dirt : List Bool} (before after : Standing) (client : ℕ) (command : Command) (reply : Reply) → IsDesk after.desk → IsServing shape before.desk windows canvas dirt dirty → step before.desk client command (is_memory reply) ≡ Some (reply, after.desk) → TellsChange before after → Followed after shape.width windows dirt new_windows count new_dirt → Obeyed (state_of before.desk canvas.bytes dirt) client command reply (state_of after.desk canvas.bytes new_dirt) × IsServing shape after.desk new_windows canvas new_dirt count
 obeyed_of_parts before after client command reply fine is steps tells f =
     let same : after.desk.shape ≡ before.desk.shape = shape-step_command before.desk client command (is_memory reply) reply after.desk steps in
     let made = change_of_parts before after same fine is tells f in
@@ -140,11 +140,11 @@ Ticked-from_sweep desk bytes dirt bands queue left new_bytes new_dirt is s none 
     }
 
 -- What a tick makes of the parts: a tick of the machine, and parts that serve on.
-pub tick_of_parts : {shape : Shape} {desk : Desk} {windows : List Window} {canvas : Screen} {dirt : List Bool} {dirty : ℕ} (bands : ℕ) (swept : Screen) {seen : List Window} {width : ℕ} {bytes : List ℕ} {queue : ℕ} {new_dirt : List Bool} → IsServing shape desk windows canvas dirt dirty → SweptTo (length dirt) (colour_under seen width) (shape.budget - bands) bytes dirt queue swept.bytes new_dirt → seen ≡ windows → width ≡ canvas.width → bytes ≡ canvas.bytes → bands ≡ 0 → IsScreen swept → swept.width ≡ canvas.width → swept.height ≡ canvas.height → Ticked (state_of desk canvas.bytes dirt) (record { bands = bands; queue = queue; left = dirty - queue }) (state_of desk swept.bytes new_dirt) × IsServing shape desk windows swept new_dirt (dirty - queue)
+pub tick_of_parts : {shape : Shape} {desk : Desk} {windows : List Rect} {canvas : Screen} {dirt : List Bool} {dirty : ℕ} (bands : ℕ) (swept : Screen) {seen : List Rect} {width : ℕ} {bytes : List ℕ} {queue : ℕ} {new_dirt : List Bool} → IsServing shape desk windows canvas dirt dirty → SweptTo (length dirt) (colour_under seen width) (shape.budget - bands) bytes dirt queue swept.bytes new_dirt → seen ≡ windows → width ≡ canvas.width → bytes ≡ canvas.bytes → bands ≡ 0 → IsScreen swept → swept.width ≡ canvas.width → swept.height ≡ canvas.height → Ticked (state_of desk canvas.bytes dirt) (record { bands = bands; queue = queue; left = dirty - queue }) (state_of desk swept.bytes new_dirt) × IsServing shape desk windows swept new_dirt (dirty - queue)
 tick_of_parts {shape} {desk} {windows} {canvas} {dirt} {dirty} bands swept {seen} {width} {bytes} {queue} {new_dirt} is s under wide f none screen same_width same_height =
     let shape_of : shape ≡ desk.shape = sym is.shape_is in
     let colours : colour_under seen width ≡ colour_under (open_windows desk) desk.shape.width =
-    ap (λ (ws : List Window). colour_under ws width) (under ∙ is.windows_are)
+    ap (λ (ws : List Rect). colour_under ws width) (under ∙ is.windows_are)
     ∙ ap (λ (w : ℕ). colour_under (open_windows desk) w) (wide ∙ is.width ∙ ap (λ (p : Shape). p.width) shape_of) in
     let over : SweptTo (length dirt) (colour_under (open_windows desk) desk.shape.width) (desk.shape.budget - bands) canvas.bytes dirt queue swept.bytes new_dirt =
     subst (λ (p : Shape). SweptTo (length dirt) (colour_under (open_windows desk) desk.shape.width) (p.budget - bands) canvas.bytes dirt queue swept.bytes new_dirt) shape_of
@@ -176,7 +176,7 @@ unfolding open_windows window_places
 open_windows-opening shape desk is = ap open_windows (sym is)
 
 -- one byte written at the pixel of the place k
-pub byte_of_pixel : (bytes new_bytes : List ℕ) (w width k byte : ℕ) (windows : List Window) → w ≡ width → k < length bytes → new_bytes ≡ with_span bytes (k / w * width + k % w) (byte ∷ []) → byte ≡ colour_through (top_at windows (k % w) (k / w)) (k % w) (k / w) → new_bytes ≡ set bytes k (colour_under windows width k)
+pub byte_of_pixel : (bytes new_bytes : List ℕ) (w width k byte : ℕ) (windows : List Rect) → w ≡ width → k < length bytes → new_bytes ≡ with_span bytes (k / w * width + k % w) (byte ∷ []) → byte ≡ colour_through (top_at windows (k % w) (k / w)) (k % w) (k / w) → new_bytes ≡ set bytes k (colour_under windows width k)
 byte_of_pixel bytes new_bytes w width k byte windows e within put colour_is =
     put
     ∙ ap (λ v. with_span bytes (k / v * width + k % v) (byte ∷ [])) e

@@ -1,7 +1,7 @@
 -- Inner words of the proofs.
 -- A sweep from the front of the dirt map that cleans and draws, place by place.
 use Rattle.std.specs.Prelude.{◌≡◌, ℕ, ◌+◌, ◌/◌, ◌%◌, ◌<◌, ◌≤◌, min, Bool, true, false, not, ◌&&◌, if◌then◌else◌, List, length, take, slice_index_or}
-use Rattle.scene_model.specs.declared.window.Window.{Window}
+use Rattle.geom_core.specs.declared.rectangle.Rect.{Rect}
 use Rattle.scene_model.specs.Windows.{top_at}
 use Rattle.scene_model.specs.Picture.{colour_through}
 use Rattle.machine_model.specs.State.{count_true}
@@ -10,7 +10,7 @@ abbrev pub mark_at : List Bool → ℕ → Bool
 mark_at marks k = slice_index_or marks k false
 
 -- the colour of the k-th pixel under these windows, in rows of `width` pixels
-abbrev pub colour_under : List Window → ℕ → ℕ → ℕ
+abbrev pub colour_under : List Rect → ℕ → ℕ → ℕ
 colour_under windows width k = colour_through (top_at windows (k % width) (k / width)) (k % width) (k / width)
 
 -- A sweep has gone over the first i places. Each pixel that was dirty and is clean now has its colour, and the

@@ -7,7 +7,7 @@ ghost use Rattle.server_core.specs.Marking.{MarkedTo, MarkedAll, Followed};
 use crate::painting::is_shown;
 use crate::places::Places;
 use desk_core::Desk;
-use scene_model::Window;
+use geom_core::Rect;
 
 /// Follows a call on the desk. Where it was changed, the windows' places are collected anew, and each pixel that
 /// one of them shows, before or after, becomes dirty in a map of rows of `width` pixels of which `dirty` are
@@ -33,7 +33,7 @@ pub fn follow(
 }
 
 // Makes dirty each pixel that one of the windows shows. How many are dirty then.
-fn mark_all(dirt: &mut Vec<bool>, dirty: u32, windows: &[Window], width: u32) -> u32
+fn mark_all(dirt: &mut Vec<bool>, dirty: u32, windows: &[Rect], width: u32) -> u32
     requires count { dirty ≡ count_true dirt.old.items }
     requires small { length dirt.old.items < 2 ^ 31 }
     requires width { 1 ≤ width }
@@ -47,7 +47,7 @@ fn mark_all(dirt: &mut Vec<bool>, dirty: u32, windows: &[Window], width: u32) ->
 }
 
 // Makes dirty each pixel that the window shows, going over its rows alone. How many are dirty then.
-fn mark_shown(dirt: &mut Vec<bool>, dirty: u32, window: &Window, width: u32) -> u32
+fn mark_shown(dirt: &mut Vec<bool>, dirty: u32, window: &Rect, width: u32) -> u32
     requires count { dirty ≡ count_true dirt.old.items }
     requires small { length dirt.old.items < 2 ^ 31 }
     requires width { 1 ≤ width }

@@ -1,10 +1,11 @@
 //! The colour of a pixel, worked out from the list of windows.
 
-ghost use Rattle.std.specs.Prelude.{◌≡◌};
-ghost use Rattle.scene_model.specs.Windows.{is_within, shows, top_at};
+ghost use Rattle.std.specs.Prelude.{◌≡◌, pos};
+ghost use Rattle.geom_core.specs.Rect.{in_span};
+ghost use Rattle.scene_model.specs.Windows.{shows, top_at};
 ghost use Rattle.scene_model.specs.Picture.{window_look, colour_through};
 
-use scene_model::Window;
+use geom_core::Rect;
 
 /// The palette number of the desk.
 const DESK: u8 = 2;
@@ -19,7 +20,7 @@ const TITLE_ROWS: u64 = 12;
 
 /// The colour of the pixel (x, y) under these windows, the top one first.
 #[tactic(auto, unfolding(scene_model::specs::Picture::window_colour))]
-pub fn colour_at(windows: &[Window], x: u32, y: u32) -> u8
+pub fn colour_at(windows: &[Rect], x: u32, y: u32) -> u8
     ensures { result ≡ colour_through (top_at windows.now x y) x y }
 {
     match top_window(windows, x, y) {
@@ -34,7 +35,7 @@ pub fn colour_at(windows: &[Window], x: u32, y: u32) -> u8
 
 /// Whether the window's place holds the pixel (x, y).
 #[tactic(auto, unfolding(scene_model::specs::Windows::shows))]
-pub fn is_shown(window: &Window, x: u32, y: u32) -> bool
+pub fn is_shown(window: &Rect, x: u32, y: u32) -> bool
     ensures { result ≡ shows window.now x y }
 {
     is_within(window.x, window.w, x) && is_within(window.y, window.h, y)
@@ -42,7 +43,7 @@ pub fn is_shown(window: &Window, x: u32, y: u32) -> bool
 
 // The first window of the list, from the top, that shows the pixel.
 #[tactic(auto, using(std::proofs::lemmas::List::drop_more, std::proofs::lemmas::List::drop_all), unfolding(scene_model::specs::Windows::top_at))]
-fn top_window(windows: &[Window], x: u32, y: u32) -> Option<Window>
+fn top_window(windows: &[Rect], x: u32, y: u32) -> Option<Rect>
     ensures { result ≡ top_at windows.now x y }
 {
     for window in windows {
@@ -55,7 +56,7 @@ fn top_window(windows: &[Window], x: u32, y: u32) -> Option<Window>
 
 // Whether `n` is one of the `len` numbers from `from` on.
 fn is_within(from: i32, len: u32, n: u32) -> bool
-    ensures { result ≡ is_within from len n }
+    ensures { result ≡ in_span from len (pos n) }
 {
     let start = i64::from(from);
     let at = i64::from(n);

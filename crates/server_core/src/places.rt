@@ -4,7 +4,7 @@ ghost use Rattle.std.specs.Prelude.{◌≡◌, ◌≤◌, [], length, take};
 ghost use Rattle.desk_model.specs.Seen.{open_windows};
 
 use desk_core::Desk;
-use scene_model::Window;
+use geom_core::Rect;
 use std::marker::Model;
 
 /// How many windows can be open at once: 8 of each of 16 clients.
@@ -13,15 +13,15 @@ const MOST: usize = 128;
 /// The places of at most 128 windows, from top to bottom. Contracts see the list.
 #[derive(Drop)]
 pub struct Places {
-    cells: [Window; MOST],
+    cells: [Rect; MOST],
     count: usize,
 }
 
 impl Model for Places {
     ghost use Rattle.std.specs.Prelude.{List, take, ◌≤◌};
-    ghost use Rattle.scene_model.specs.declared.window.Window.{Window};
+    ghost use Rattle.geom_core.specs.declared.rectangle.Rect.{Rect};
 
-    ghost Value = { List Window };
+    ghost Value = { List Rect };
 
     ghost view = { λ p. take p.count p.cells };
 
@@ -33,7 +33,7 @@ impl Places {
     pub fn new() -> Places
         ensures { result ≡ [] }
     {
-        let nowhere = Window {
+        let nowhere = Rect {
             x: 0,
             y: 0,
             w: 0,
@@ -53,7 +53,7 @@ impl Places {
     }
 
     /// The places, the top one first.
-    pub fn as_slice(&self) -> &[Window]
+    pub fn as_slice(&self) -> &[Rect]
         ensures { result.now ≡ self.now }
     {
         &self.cells[..self.count]
@@ -61,14 +61,14 @@ impl Places {
 }
 
 // Puts the places of the desk's open windows in front, and says how many there are.
-fn fill(cells: &mut [Window], desk: &Desk) -> usize
+fn fill(cells: &mut [Rect], desk: &Desk) -> usize
     requires { 128 ≤ length cells.old }
     ensures front { take result cells.new ≡ open_windows desk.now.desk }
     ensures few { result ≤ 128 }
 {
     for index in 0..MOST {
         match desk.window_at(index) {
-            Some((x, y, w, h)) => cells[index] = Window { x, y, w, h },
+            Some((x, y, w, h)) => cells[index] = Rect { x, y, w, h },
             None => return index,
         }
     }

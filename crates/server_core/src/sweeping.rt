@@ -6,11 +6,11 @@ ghost use Rattle.server_core.specs.Sweeping.{colour_under, SweptTo};
 
 use crate::painting::colour_at;
 use canvas_core::Canvas;
-use scene_model::Window;
+use geom_core::Rect;
 
 /// Goes over the map from its front and cleans dirty pixels, writing each with its colour, until `room` are
 /// written. How many it wrote.
-pub fn sweep(canvas: &mut Canvas, dirt: &mut Vec<bool>, windows: &[Window], room: u32) -> u32
+pub fn sweep(canvas: &mut Canvas, dirt: &mut Vec<bool>, windows: &[Rect], room: u32) -> u32
     requires canvas { IsScreen canvas.old }
     requires unwritten { canvas.old.writes ≡ 0 }
     requires size { length dirt.old.items ≡ length canvas.old.bytes }
@@ -35,7 +35,7 @@ pub fn sweep(canvas: &mut Canvas, dirt: &mut Vec<bool>, windows: &[Window], room
 }
 
 // Cleans the k-th pixel: it is written with its colour, and isn't dirty any more.
-fn clean(canvas: &mut Canvas, dirt: &mut Vec<bool>, windows: &[Window], k: usize)
+fn clean(canvas: &mut Canvas, dirt: &mut Vec<bool>, windows: &[Rect], k: usize)
     requires canvas { IsScreen canvas.old }
     requires size { length dirt.old.items ≡ length canvas.old.bytes }
     requires within { k < length dirt.old.items }

@@ -9,7 +9,7 @@ use Rattle.kind_core.specs.declared.shapes.Cell.{Cell}
 use Rattle.widget_model.specs.Rows.{Row, with_link, with_attached, new_row}
 use Rattle.widget_model.specs.Nodes.{Node, node_of, node_at, is_number_of, first_number}
 use Rattle.widget_model.specs.Planted.{IsPlanted}
-use Rattle.widget_model.specs.Fitting.{fits_table}
+use Rattle.widget_model.specs.Fitting.{fits_table, IsFitFilm, HaveFitFilms}
 use Rattle.widget_model.specs.Links.{ties, leads, all_lead}
 use Rattle.widget_model.specs.Widgets.{Widgets, row_at, nodes, with_row, is_joined, IsLive, IsGrid}
 use Rattle.widget_model.specs.Forest.{IsForest, IsWidgets}
@@ -26,17 +26,18 @@ use Rattle.tree_core.proofs.ForestLemmas.{ties-with_row, linked-with_link, linke
 use Rattle.tree_core.proofs.Groves.{IsGrove-leaves}
 use Rattle.tree_core.proofs.Moves.{HasChildren-still}
 use Rattle.tree_core.proofs.Fits.{fitting-with_row, fitting-push, fits_table-new}
+use Rattle.widget_model.proofs.FitFilms.{IsFitFilm-still, HaveFitFilms-with_row, HaveFitFilms-push}
 use Rattle.tree_core.proofs.Newcomer.{planted-push, HasChildren-push}
 
 pub IsGrove-tree : (clients : List ℕ) (names : List ((ℕ × List ℕ) × ℕ)) (es : List (ℕ × Row)) (cells : List (Option ℕ)) → IsTree clients names es cells → IsGrove es
 IsGrove-tree clients names es cells tree = record { own_numbers = tree.forest.own_numbers; own_names = tree.forest.own_names; planted = tree.planted }
 
 pub IsWidgets-tree : (clients : List ℕ) (names : List ((ℕ × List ℕ) × ℕ)) (es : List (ℕ × Row)) (cells : List (Option ℕ)) → IsTree clients names es cells → IsWidgets (record { clients = clients; entries = es })
-IsWidgets-tree clients names es cells tree = record { forest = tree.forest; linked = tree.linked; planted = tree.planted; fitting = tree.fitting }
+IsWidgets-tree clients names es cells tree = record { forest = tree.forest; linked = tree.linked; planted = tree.planted; fitting = tree.fitting; films = tree.films }
 
 -- a change of one row that leaves the nodes
-pub IsTree-with_row : (clients : List ℕ) (names : List ((ℕ × List ℕ) × ℕ)) (es : List (ℕ × Row)) (cells new_cells : List (Option ℕ)) (id : ℕ) (change : Row → Row) → ((row : Row) → node_of (change row) ≡ node_of row) → all_lead (nodes es) (ties (with_row id change es)) ≡ true → IsPlanted (rows_in (with_row id change es)) → list_all fits_table (rows_in (with_row id change es)) ≡ true → HasChildren (with_row id change es) new_cells → length new_cells ≡ length cells → IsTree clients names es cells → IsTree clients names (with_row id change es) new_cells
-IsTree-with_row clients names es cells new_cells id change same linked planted fitting children len tree =
+pub IsTree-with_row : (clients : List ℕ) (names : List ((ℕ × List ℕ) × ℕ)) (es : List (ℕ × Row)) (cells new_cells : List (Option ℕ)) (id : ℕ) (change : Row → Row) → ((row : Row) → node_of (change row) ≡ node_of row) → all_lead (nodes es) (ties (with_row id change es)) ≡ true → IsPlanted (rows_in (with_row id change es)) → list_all fits_table (rows_in (with_row id change es)) ≡ true → HaveFitFilms (rows_in (with_row id change es)) → HasChildren (with_row id change es) new_cells → length new_cells ≡ length cells → IsTree clients names es cells → IsTree clients names (with_row id change es) new_cells
+IsTree-with_row clients names es cells new_cells id change same linked planted fitting films children len tree =
     let nodes_same = nodes-with_row es id change same in
     let P : List (ℕ × Node) → Type 0 = λ ns. IsIndexed names ns in
     let Q : List (ℕ × Node) → Type 0 = λ ns. IsForest clients ns in
@@ -46,6 +47,7 @@ IsTree-with_row clients names es cells new_cells id change same linked planted f
       linked = ap (λ (ns : List (ℕ × Node)). all_lead ns (ties (with_row id change es))) nodes_same ∙ linked;
       planted = planted;
       fitting = fitting;
+      films = films;
       children = children;
       reach = λ client there. omega (arith, tree.reach client there, len);
     }
@@ -71,15 +73,17 @@ pub record LeavesTies (change : Row → Row) : Type 0 where
   pub node : (row : Row) → node_of (change row) ≡ node_of row
   pub link : (row : Row) → (change row).link ≡ row.link
   pub attached : (row : Row) → (change row).attached ≡ row.attached
+  pub film : (row : Row) → (change row).film ≡ row.film
 
 module _ (clients : List ℕ) (names : List ((ℕ × List ℕ) × ℕ)) (es : List (ℕ × Row)) (cells : List (Option ℕ)) (id : ℕ) (change : Row → Row) (row : Row) (tree : IsTree clients names es cells) (there : row_at es id ≡ Some row) where
   -- a change that leaves where the row hangs
-  IsTree-still : ((row : Row) → node_of (change row) ≡ node_of row) → ((row : Row) → (change row).attached ≡ row.attached) → all_lead (nodes es) (ties (with_row id change es)) ≡ true → fits_table (change row) ≡ true → IsTree clients names (with_row id change es) cells
-  IsTree-still same still linked fits =
+  IsTree-still : ((row : Row) → node_of (change row) ≡ node_of row) → ((row : Row) → (change row).attached ≡ row.attached) → all_lead (nodes es) (ties (with_row id change es)) ≡ true → fits_table (change row) ≡ true → ((r : Row) → row_at es id ≡ Some r → IsFitFilm r → IsFitFilm (change r)) → IsTree clients names (with_row id change es) cells
+  IsTree-still same still linked fits films =
       let grove = IsGrove-tree clients names es cells tree in
       let new = IsGrove-leaves es id change row same still grove there in
       IsTree-with_row clients names es cells cells id change same linked new.planted
       (fitting-with_row es id change row tree.forest.own_numbers there fits tree.fitting)
+      (HaveFitFilms-with_row es id change tree.forest.own_numbers films tree.films)
       (HasChildren-still es id change same cells grove new (λ below r at. by r (nat_eq id below)) tree.children)
       refl tree
     where
@@ -90,6 +94,7 @@ module _ (clients : List ℕ) (names : List ((ℕ × List ℕ) × ℕ)) (es : Li
   pub IsTree-leaves : LeavesTies change → fits_table (change row) ≡ true → IsTree clients names (with_row id change es) cells
   IsTree-leaves leaves fits =
       IsTree-still leaves.node leaves.attached (ap (all_lead (nodes es)) (ties-with_row es id change (λ r. (leaves.node r, leaves.link r))) ∙ tree.linked) fits
+      (λ r at. IsFitFilm-still change r (leaves.node r) (leaves.film r))
 
 -- a link to a Variable
 pub IsTree-with_link : (clients : List ℕ) (names : List ((ℕ × List ℕ) × ℕ)) (es : List (ℕ × Row)) (cells : List (Option ℕ)) (id : ℕ) (row : Row) (link : Option (List ℕ)) → row_at es id ≡ Some row → leads (nodes es) row.client link ≡ true → IsTree clients names es cells → IsTree clients names (with_row id (with_link link) es) cells
@@ -97,6 +102,7 @@ IsTree-with_link clients names es cells id row link there new tree =
     IsTree-still clients names es cells id (with_link link) row tree there (λ r. refl) (λ r. refl)
     (linked-with_link (nodes es) es id row link tree.forest.own_numbers there new tree.linked)
     (fits_at es id row tree.fitting there)
+    (λ r at. IsFitFilm-still (with_link link) r refl refl)
 
 was_joined : (clients : List ℕ) (client other : ℕ) → is_joined (clients ++ client ∷ []) other ≡ true → nat_eq other client ≡ false → is_joined clients other ≡ true
 was_joined [] client other h apart = absurd (true≢false (sym h ∙ ap (λ (b : Bool). b || false) apart))
@@ -115,6 +121,7 @@ IsTree-join clients names es cells new_cells client low high same longer reach t
       linked = tree.linked;
       planted = tree.planted;
       fitting = tree.fitting;
+      films = tree.films;
       children = record { each = λ id column line c l. same (cell_place id column line) ∙ tree.children.each id column line c l };
       reach = λ other there. by other there (nat_eq other client) refl;
     }
@@ -137,6 +144,7 @@ IsTree-grown clients names es cells new_cells same longer tree =
       linked = tree.linked;
       planted = tree.planted;
       fitting = tree.fitting;
+      films = tree.films;
       children = record { each = λ id column line c l. same (cell_place id column line) ∙ tree.children.each id column line c l };
       reach = λ client there. omega (arith, tree.reach client there, longer);
     }
@@ -144,7 +152,7 @@ IsTree-grown clients names es cells new_cells same longer tree =
 -- another index that finds the same
 pub IsTree-renamed : (clients : List ℕ) (names new_names : List ((ℕ × List ℕ) × ℕ)) (es : List (ℕ × Row)) (cells : List (Option ℕ)) → IsIndexed new_names (nodes es) → IsTree clients names es cells → IsTree clients new_names es cells
 IsTree-renamed clients names new_names es cells indexed tree =
-    record { indexed = indexed; forest = tree.forest; linked = tree.linked; planted = tree.planted; fitting = tree.fitting; children = tree.children; reach = tree.reach }
+    record { indexed = indexed; forest = tree.forest; linked = tree.linked; planted = tree.planted; fitting = tree.fitting; films = tree.films; children = tree.children; reach = tree.reach }
 
 -- a new row of a joined client
 pub IsTree-push : (clients : List ℕ) (names new_names : List ((ℕ × List ℕ) × ℕ)) (es : List (ℕ × Row)) (cells : List (Option ℕ)) (id client : ℕ) (name : List ℕ) (kind : Kind) → row_at es id ≡ None → add_refusal (nodes es) client name kind ≡ None → is_number_of client id ≡ true → is_joined clients client ≡ true → IsIndexed new_names (nodes (es ++ (id, new_row client name kind) ∷ [])) → IsTree clients names es cells → IsTree clients new_names (es ++ (id, new_row client name kind) ∷ []) cells
@@ -163,6 +171,7 @@ IsTree-push clients names new_names es cells id client name kind absent allowed 
       linked = linked-push es id row refl tree.linked;
       planted = planted;
       fitting = fitting-push es id row (fits_table-new client name kind) tree.fitting;
+      films = HaveFitFilms-push es id row refl tree.films;
       children = HasChildren-push es id row absent cells (IsGrove-tree clients names es cells tree) grove refl checks.0 tree.children;
       reach = tree.reach;
     }
@@ -174,6 +183,7 @@ IsTree-attached clients names es cells new_cells id attached row there grove chi
     (ap (all_lead (nodes es)) (ties-with_row es id (with_attached attached) (λ r. (refl, refl))) ∙ tree.linked)
     grove.planted
     (fitting-with_row es id (with_attached attached) row tree.forest.own_numbers there (fits_at es id row tree.fitting there) tree.fitting)
+    (HaveFitFilms-with_row es id (with_attached attached) tree.forest.own_numbers (λ r at. IsFitFilm-still (with_attached attached) r refl refl) tree.films)
     children len tree
 
 -- what holds of all nodes holds of a numbered row's

@@ -10,7 +10,7 @@ use Rattle.std.specs.Str.{bytes_eq}
 use Rattle.kind_core.specs.declared.shapes.Cell.{Cell}
 use Rattle.widget_model.specs.Rows.{Row}
 use Rattle.widget_model.specs.Nodes.{Node}
-use Rattle.widget_model.specs.Trees.{hangs, is_child, links_to, is_used}
+use Rattle.widget_model.specs.Trees.{hangs, is_child, links_to, is_admitted, is_used}
 use Rattle.widget_model.specs.Planted.{IsPlanted}
 use Rattle.widget_model.specs.Fitting.{fits_table}
 use Rattle.widget_model.specs.Links.{ties, all_lead}
@@ -23,6 +23,7 @@ use Rattle.row_store.specs.Index.{IsIndexed}
 use Rattle.tree_core.specs.Kept.{IsGrove, IsTree}
 use Rattle.tree_core.proofs.Listed.{any_at, numbered_place, row_named-row}
 use Rattle.tree_core.proofs.Children.{HangsAt, child_id-hangs, own_number}
+use Rattle.widget_model.proofs.FitFilms.{HaveFitFilms-filter}
 use Rattle.widget_model.proofs.Planting.{IsPlanted-remove}
 use Rattle.row_store.proofs.Taken.{kept, nodes-kept, own_numbers-kept, own_names-kept, without_row-kept}
 use Rattle.tree_core.proofs.ForestTaken.{list_all-kept, IsForest-kept}
@@ -53,6 +54,7 @@ IsTree-kept clients joined names new_names test es cells new_cells tree left =
       linked = left.linked;
       planted = left.planted;
       fitting = fitting-kept test es tree.fitting;
+      films = HaveFitFilms-filter (λ (e : ℕ × Row). test e.0) es tree.films;
       children = left.children;
       reach = λ client there. omega (arith, tree.reach client (left.fewer client there), left.len);
     }
@@ -75,12 +77,14 @@ pub record IsFree (es : List (ℕ × Row)) (id : ℕ) (row : Row) : Type 0 where
   pub alone : row.attached ≡ None
   pub childless : list_any (is_child row.client row.name) (rows_in es) ≡ false
   pub unlinked : list_any (links_to row.client row.name) (rows_in es) ≡ false
+  pub unadmitted : is_admitted row ≡ false
 
 pub IsFree-unused : (es : List (ℕ × Row)) (id : ℕ) (row : Row) → row_at es id ≡ Some row → is_used (rows_in es) row ≡ false → IsFree es id row
 IsFree-unused es id row there unused =
-    let parts = or_parts (hangs row) (list_any (is_child row.client row.name) (rows_in es) || list_any (links_to row.client row.name) (rows_in es)) unused in
-    let rest = or_parts (list_any (is_child row.client row.name) (rows_in es)) (list_any (links_to row.client row.name) (rows_in es)) parts.1 in
-    record { there = there; alone = by row.attached parts.0; childless = rest.0; unlinked = rest.1 }
+    let parts = or_parts (hangs row) (list_any (is_child row.client row.name) (rows_in es) || (list_any (links_to row.client row.name) (rows_in es) || is_admitted row)) unused in
+    let rest = or_parts (list_any (is_child row.client row.name) (rows_in es)) (list_any (links_to row.client row.name) (rows_in es) || is_admitted row) parts.1 in
+    let last = or_parts (list_any (links_to row.client row.name) (rows_in es)) (is_admitted row) rest.1 in
+    record { there = there; alone = by row.attached parts.0; childless = rest.0; unlinked = last.0; unadmitted = last.1 }
   where
     by : (attached : Option (List ℕ × Cell)) → option_map_or (λ (s : List ℕ × Cell). true) attached false ≡ false → attached ≡ None
     by None h = refl
@@ -105,7 +109,7 @@ module _ (clients : List ℕ) (names new_names : List ((ℕ × List ℕ) × ℕ)
   planted-without =
       let P : List Row → Type 0 = λ rows. IsPlanted rows in
       let E : List (ℕ × Row) → Type 0 = λ rest. IsPlanted (rows_in rest) in
-      let unused : is_used (rows_in es) row ≡ false = rw (free.alone, free.childless, free.unlinked) refl in
+      let unused : is_used (rows_in es) row ≡ false = rw (free.alone, free.childless, free.unlinked, free.unadmitted) refl in
       subst E (without_row-kept es id)
       (subst P (sym (rows-without_row es row.client row.name id tree.forest.own_numbers tree.forest.own_names (id_named-row es id row tree.forest.own_names free.there)))
       (IsPlanted-remove (rows_in es) row.client row.name row (row_named-row es id row tree.forest.own_numbers tree.forest.own_names free.there) unused tree.planted))

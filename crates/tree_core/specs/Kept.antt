@@ -7,7 +7,7 @@ use Rattle.widget_model.specs.Widgets.{nodes, is_joined}
 use Rattle.widget_model.specs.Links.{ties, all_lead}
 use Rattle.widget_model.specs.Forest.{HaveOwnNumbers, HaveOwnNames, IsForest}
 use Rattle.widget_model.specs.Planted.{IsPlanted}
-use Rattle.widget_model.specs.Fitting.{fits_table}
+use Rattle.widget_model.specs.Fitting.{fits_table, HaveFitFilms}
 use Rattle.row_store.specs.declared.count.Count.{Count}
 use Rattle.row_store.specs.Counts.{AreCounts}
 use Rattle.row_store.specs.Index.{IsIndexed}
@@ -26,6 +26,7 @@ pub record IsTree (clients : List ℕ) (names : List ((ℕ × List ℕ) × ℕ))
   pub linked : all_lead (nodes entries) (ties entries) ≡ true
   pub planted : IsPlanted (rows_in entries)
   pub fitting : list_all fits_table (rows_in entries) ≡ true
+  pub films : HaveFitFilms (rows_in entries)
   pub children : HasChildren entries cells
   pub reach : (client : ℕ) → is_joined clients client ≡ true → 32768 * client ≤ length cells
 

@@ -2,7 +2,7 @@
 #[derive(Clone, Copy, Debug, PartialEq, Eq)]
 pub struct NoMemory;
 
-/// The widget hangs in another, or has a child, or is linked by another.
+/// The widget hangs in another, has a child, is linked by another, or is an admitted VScreen.
 #[derive(Clone, Copy, Debug, PartialEq, Eq)]
 pub struct InUse;
 

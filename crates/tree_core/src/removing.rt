@@ -1,7 +1,7 @@
 ghost use Rattle.std.specs.Prelude.{◌≡◌, Some, IsSome, not, nat_eq};
 ghost use Rattle.std.specs.Option.{option_map};
 ghost use Rattle.std.specs.List.{list_any, filter};
-ghost use Rattle.widget_model.specs.Trees.{links_to, is_used};
+ghost use Rattle.widget_model.specs.Trees.{links_to, is_admitted, is_used};
 ghost use Rattle.widget_model.specs.Widgets.{row_at};
 ghost use Rattle.tree_core.specs.Children.{rows_in, HasChildren};
 ghost use Rattle.tree_core.specs.Kept.{IsGrove};
@@ -35,7 +35,17 @@ fn is_linked(store: &Store, client: u32, name: &Name) -> bool
     false
 }
 
-/// Whether the live widget hangs in another, or has a child, or is linked by another.
+/// Whether the row is an admitted VScreen: whether its film has a period.
+fn is_admitted(row: &Row) -> bool
+    ensures { result ≡ is_admitted row.now }
+{
+    match row.film() {
+        Some(film) => film.period() > 0,
+        None => false,
+    }
+}
+
+/// Whether the live widget hangs in another, or has a child, or is linked by another, or is admitted.
 pub(crate) fn is_used(store: &Store, cells: &Cells, id: u32) -> bool
     requires grove { IsGrove store.now }
     requires children { HasChildren store.now cells.now }
@@ -43,7 +53,10 @@ pub(crate) fn is_used(store: &Store, cells: &Cells, id: u32) -> bool
     ensures { option_map (is_used (rows_in store.now)) (row_at store.now id) ≡ Some result }
 {
     let row = store.row(id);
-    hangs(row) || has_child(store, cells, id) || is_linked(store, row.client(), &row.name())
+    hangs(row)
+        || has_child(store, cells, id)
+        || is_linked(store, row.client(), &row.name())
+        || is_admitted(row)
 }
 
 /// Takes the client out of the joined ones.

@@ -367,8 +367,8 @@ impl Tree {
         unhang(&self.names, &mut self.store, &mut self.cells, child.key);
     }
 
-    /// Removes the widget. Refuses InUse exactly where it hangs in another, has a child, or is linked by
-    /// another, and leaves the tree as it was. It walks the rows: for one that is linked to this one, and to
+    /// Removes the widget. Refuses InUse exactly where it hangs in another, has a child, is linked by
+    /// another, or is an admitted VScreen, and leaves the tree as it was. It walks the rows: for one that is linked to this one, and to
     /// close the gap.
     pub fn remove(&mut self, id: Id) -> Result<(), InUse>
         requires { IsLive self.old id.key }

@@ -5,3 +5,4 @@ pub mod Cells
 pub mod Levels
 pub mod Planting
 pub mod OwnRows
+pub mod FitFilms

@@ -102,7 +102,7 @@ id_named-row (e ∷ es) id row own there = by (id_named-row es id row own.1) (na
     by rest false q h = other (has_name row.client row.name e.1) refl (rest h)
 
 -- a number or a name that isn't there is changed nowhere
-with_row-absent : (es : List (ℕ × Row)) (id : ℕ) (change : Row → Row) → node_at (nodes es) id ≡ None → with_row id change es ≡ es
+pub with_row-absent : (es : List (ℕ × Row)) (id : ℕ) (change : Row → Row) → node_at (nodes es) id ≡ None → with_row id change es ≡ es
 with_row-absent [] id change absent = refl
 with_row-absent (e ∷ es) id change absent = by (with_row-absent es id change) (nat_eq id e.0) absent
   where

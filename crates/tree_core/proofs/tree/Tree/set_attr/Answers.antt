@@ -14,7 +14,7 @@ invariant_of-self c =
     let fits = fits_at c.self.inside.store c.args.id.key c.row.result.now c.self.invariant.tree.fitting c.row.ensures in
     let taken : judged (domain_of c.row.result.now.kind c.args.attr) c.args.value.now ≡ Ok tt = ap (λ (kind : Kind). judged (domain_of kind c.args.attr) c.args.value.now) (sym c.kind-kind.ensures) ∙ sym c.check.ensures ∙ c.in-Ok.is in
     let new = fits_table-with_attr c.row.result.now c.args.attr c.args.value.now taken fits in
-    let kept = IsTree-leaves c.self.inside.clients.items c.self.inside.names c.self.inside.store c.self.inside.cells c.args.id.key (with_attr c.args.attr c.args.value.now) c.row.result.now c.self.invariant.tree c.row.ensures (record { node = λ row. refl; link = λ row. refl; attached = λ row. refl }) new in
+    let kept = IsTree-leaves c.self.inside.clients.items c.self.inside.names c.self.inside.store c.self.inside.cells c.args.id.key (with_attr c.args.attr c.args.value.now) c.row.result.now c.self.invariant.tree c.row.ensures (record { node = λ row. refl; link = λ row. refl; attached = λ row. refl; film = λ row. refl }) new in
     rw c.change.ensures (record { tree = kept; counted = AreCounts-with_row c.self.inside.counts c.self.inside.store c.args.id.key _ (λ row. refl) c.self.invariant.counted })
 
 pub returns-clause-valid : goal.returns-clause-valid
@@ -22,7 +22,7 @@ returns-clause-valid c =
     let fits = fits_at c.self.inside.store c.args.id.key c.row.result.now c.self.invariant.tree.fitting c.row.ensures in
     let taken : judged (domain_of c.row.result.now.kind c.args.attr) c.args.value.now ≡ Ok tt = ap (λ (kind : Kind). judged (domain_of kind c.args.attr) c.args.value.now) (sym c.kind-kind.ensures) ∙ sym c.check.ensures ∙ c.in-Ok.is in
     let new = fits_table-with_attr c.row.result.now c.args.attr c.args.value.now taken fits in
-    let kept = IsTree-leaves c.self.inside.clients.items c.self.inside.names c.self.inside.store c.self.inside.cells c.args.id.key (with_attr c.args.attr c.args.value.now) c.row.result.now c.self.invariant.tree c.row.ensures (record { node = λ row. refl; link = λ row. refl; attached = λ row. refl }) new in
+    let kept = IsTree-leaves c.self.inside.clients.items c.self.inside.names c.self.inside.store c.self.inside.cells c.args.id.key (with_attr c.args.attr c.args.value.now) c.row.result.now c.self.invariant.tree c.row.ensures (record { node = λ row. refl; link = λ row. refl; attached = λ row. refl; film = λ row. refl }) new in
     rw c.change.ensures (IsWidgets-tree _ _ _ c.self.inside.cells kept)
 
 pub returns-clause-kept : goal.returns-clause-kept

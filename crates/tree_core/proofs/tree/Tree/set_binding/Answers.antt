@@ -10,14 +10,14 @@ pub invariant_of-self : goal.invariant_of-self
 invariant_of-self c =
     let found = live_row c.self.inside.clients.items c.self.inside.store c.args.self.now c.args.id.key c.self.view_is c.requires in
     let fits = fits_at c.self.inside.store c.args.id.key found.0 c.self.invariant.tree.fitting found.1 in
-    let kept = IsTree-leaves c.self.inside.clients.items c.self.inside.names c.self.inside.store c.self.inside.cells c.args.id.key (with_binding c.args.event c.args.tag) found.0 c.self.invariant.tree found.1 (record { node = λ row. refl; link = λ row. refl; attached = λ row. refl }) fits in
+    let kept = IsTree-leaves c.self.inside.clients.items c.self.inside.names c.self.inside.store c.self.inside.cells c.args.id.key (with_binding c.args.event c.args.tag) found.0 c.self.invariant.tree found.1 (record { node = λ row. refl; link = λ row. refl; attached = λ row. refl; film = λ row. refl }) fits in
     rw c.change.ensures (record { tree = kept; counted = AreCounts-with_row c.self.inside.counts c.self.inside.store c.args.id.key _ (λ row. refl) c.self.invariant.counted })
 
 pub returns-clause-valid : goal.returns-clause-valid
 returns-clause-valid c =
     let found = live_row c.self.inside.clients.items c.self.inside.store c.args.self.now c.args.id.key c.self.view_is c.requires in
     let fits = fits_at c.self.inside.store c.args.id.key found.0 c.self.invariant.tree.fitting found.1 in
-    let kept = IsTree-leaves c.self.inside.clients.items c.self.inside.names c.self.inside.store c.self.inside.cells c.args.id.key (with_binding c.args.event c.args.tag) found.0 c.self.invariant.tree found.1 (record { node = λ row. refl; link = λ row. refl; attached = λ row. refl }) fits in
+    let kept = IsTree-leaves c.self.inside.clients.items c.self.inside.names c.self.inside.store c.self.inside.cells c.args.id.key (with_binding c.args.event c.args.tag) found.0 c.self.invariant.tree found.1 (record { node = λ row. refl; link = λ row. refl; attached = λ row. refl; film = λ row. refl }) fits in
     rw c.change.ensures (IsWidgets-tree _ _ _ c.self.inside.cells kept)
 
 pub returns-clause-kept : goal.returns-clause-kept

@@ -1,0 +1,4 @@
+pub mod Lengths
+pub mod Needs
+pub mod Numbered
+pub mod ChildNumbers
