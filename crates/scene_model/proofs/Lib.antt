@@ -6,3 +6,4 @@ pub mod LevelLaws
 pub mod FitRows
 pub mod Leasts
 pub mod Ranges
+pub mod Apart

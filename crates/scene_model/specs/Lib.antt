@@ -11,6 +11,7 @@ pub mod LookOf
 pub mod Colours
 pub mod LevelLaws
 pub mod RangeLaws
+pub mod ShowingLaws
 pub mod Windows
 pub mod OpenWindows
 pub mod Picture
