@@ -4,3 +4,5 @@ pub mod RowLemmas
 pub mod PaintsLemmas
 pub mod CutLemmas
 pub mod StageLemmas
+pub mod KeyLemmas
+pub mod TopLemmas

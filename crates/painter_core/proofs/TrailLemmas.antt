@@ -1,5 +1,5 @@
 -- Trails: at a widget whose place holds the pixel, past one that doesn't, at the end, and what heads one.
-use Rattle.std.proofs.Common.{◌≡◌, ℕ, zero, suc, ◌+◌, ◌-◌, ◌<◌, ◌≤◌, ℤ, Bool, true, false, cond, List, [], ◌∷◌, length, drop, get_or, refl, sym, ap, ◌∙◌, arith}
+use Rattle.std.proofs.Common.{◌≡◌, ℕ, zero, suc, ◌+◌, ◌-◌, ◌<◌, ◌≤◌, ℤ, Bool, true, false, cond, List, [], ◌∷◌, length, drop, get_or, refl, sym, ap, ◌∙◌, ◌⊎◌, inl, inr, arith}
 use Rattle.std.specs.Prelude.{Option, Some, None}
 use Rattle.std.proofs.lemmas.List.{drop_more, drop_all}
 use Rattle.geom_core.specs.declared.rectangle.Rect.{Rect}
@@ -76,3 +76,39 @@ pub trail-head : (depth : ℕ) (layers : Layers) (slots : List (Option ℕ)) (x 
 unfolding trail
 trail-head zero layers slots x y id rest e = cc
 trail-head (suc depth) layers slots x y id rest e = head_in layers.rect (λ k. trail depth layers (layers.below (Some k)) x y) slots x y id rest e
+
+-- The trail enters the widget of this slot, the only one that decides; or no slot's widget holds the pixel.
+pub record Enters (layers : Layers) (depth : ℕ) (slots : List (Option ℕ)) (x y : ℤ) : Type 0 where
+  pub slot : ℕ
+  pub id : ℕ
+  pub within : slot < length slots
+  pub is : get_or slots slot None ≡ Some id
+  pub inside : in_rect (layers.rect id) x y ≡ true
+  pub way : trail (suc depth) layers slots x y ≡ id ∷ trail depth layers (layers.below (Some id)) x y
+
+pub record Misses (layers : Layers) (depth : ℕ) (slots : List (Option ℕ)) (x y : ℤ) : Type 0 where
+  pub each : (slot id : ℕ) → slot < length slots → get_or slots slot None ≡ Some id → in_rect (layers.rect id) x y ≡ false
+  pub way : trail (suc depth) layers slots x y ≡ []
+
+enters_later : (layers : Layers) (depth : ℕ) (first : Option ℕ) (slots : List (Option ℕ)) (x y : ℤ) → trail (suc depth) layers (first ∷ slots) x y ≡ trail (suc depth) layers slots x y → Enters layers depth slots x y → Enters layers depth (first ∷ slots) x y
+enters_later layers depth first slots x y same h = record { slot = suc h.slot; id = h.id; within = omega (arith, h.within); is = h.is; inside = h.inside; way = same ∙ h.way }
+
+misses_later : (layers : Layers) (depth : ℕ) (first : Option ℕ) (slots : List (Option ℕ)) (x y : ℤ) → trail (suc depth) layers (first ∷ slots) x y ≡ trail (suc depth) layers slots x y → ((id : ℕ) → first ≡ Some id → in_rect (layers.rect id) x y ≡ false) → Misses layers depth slots x y → Misses layers depth (first ∷ slots) x y
+misses_later layers depth first slots x y same out h = record { each = each; way = same ∙ h.way }
+  where
+    each : (slot id : ℕ) → slot < length (first ∷ slots) → get_or (first ∷ slots) slot None ≡ Some id → in_rect (layers.rect id) x y ≡ false
+    each zero id within is = out id is
+    each (suc slot) id within is = h.each slot id (omega (arith, within)) is
+
+later_cases : (layers : Layers) (depth : ℕ) (first : Option ℕ) (slots : List (Option ℕ)) (x y : ℤ) → trail (suc depth) layers (first ∷ slots) x y ≡ trail (suc depth) layers slots x y → ((id : ℕ) → first ≡ Some id → in_rect (layers.rect id) x y ≡ false) → Enters layers depth slots x y ⊎ Misses layers depth slots x y → Enters layers depth (first ∷ slots) x y ⊎ Misses layers depth (first ∷ slots) x y
+later_cases layers depth first slots x y same out (inl h) = inl (enters_later layers depth first slots x y same h)
+later_cases layers depth first slots x y same out (inr h) = inr (misses_later layers depth first slots x y same out h)
+
+some_cases : (layers : Layers) (depth id : ℕ) (slots : List (Option ℕ)) (x y : ℤ) (b : Bool) → in_rect (layers.rect id) x y ≡ b → Enters layers depth slots x y ⊎ Misses layers depth slots x y → Enters layers depth (Some id ∷ slots) x y ⊎ Misses layers depth (Some id ∷ slots) x y
+some_cases layers depth id slots x y true e rest = let less : suc depth - 1 ≡ depth = omega arith in inl (record { slot = 0; id = id; within = omega arith; is = refl; inside = e; way = here_first (suc depth) layers slots id x y (omega arith) e ∙ ap (λ n. id ∷ trail n layers (layers.below (Some id)) x y) less })
+some_cases layers depth id slots x y false e rest = later_cases layers depth (Some id) slots x y (past_first (suc depth) layers slots id x y e) (λ k is. let same : id ≡ k = cc in ap (λ n. in_rect (layers.rect n) x y) (sym same) ∙ e) rest
+
+pub trail-cases : (layers : Layers) (depth : ℕ) (slots : List (Option ℕ)) (x y : ℤ) → Enters layers depth slots x y ⊎ Misses layers depth slots x y
+trail-cases layers depth [] x y = inr (record { each = λ slot id within is. absurd (omega (arith, within)); way = no_slots (suc depth) layers x y })
+trail-cases layers depth (None ∷ slots) x y = later_cases layers depth None slots x y (past_empty (suc depth) layers slots x y) (λ id is. absurd (cc)) (trail-cases layers depth slots x y)
+trail-cases layers depth (Some id ∷ slots) x y = some_cases layers depth id slots x y (in_rect (layers.rect id) x y) refl (trail-cases layers depth slots x y)

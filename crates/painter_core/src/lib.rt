@@ -3,6 +3,7 @@
 #![tactic(auto)]
 
 mod filling;
+mod looks;
 mod meeting;
 mod painting;
-mod view;
+mod slots;

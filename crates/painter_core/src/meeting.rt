@@ -1,9 +1,11 @@
 ghost use Rattle.std.specs.Prelude.{◌≤◌, length, IfSome, MatchOption};
-ghost use Rattle.painter_core.specs.Stage.{layers_of, IsStage, IsThere};
+ghost use Rattle.painter_core.specs.Stage.{layers_of, IsThere};
+ghost use Rattle.scene_core.specs.View.{IsView};
 ghost use Rattle.painter_core.specs.Trail.{PassesAll, Finds};
 
-use crate::view::{View, in_slot, place, slot_count};
+use crate::slots::{in_slot, place, slot_count};
 use geom_core::{Rect, meet};
+use scene_core::View;
 
 /// A slot whose widget shares pixels with a piece.
 #[derive(Clone, Copy, Debug)]
@@ -17,7 +19,7 @@ pub struct Meeting {
 /// The first slot from `from` on, below the widget or among the open windows, whose widget shares pixels with the
 /// piece.
 pub fn first_meeting(view: &View<'_>, under: Option<u32>, from: u32, piece: Rect) -> Option<Meeting>
-    requires stage { IsStage view.now }
+    requires view { IsView view.now }
     requires there { IfSome under (IsThere view.now) }
     ensures found { MatchOption result (PassesAll (layers_of view.now) under from piece)
         (λ found. Finds (layers_of view.now) under from piece found.slot found.id found.shared) }

@@ -3,14 +3,16 @@ ghost use Rattle.canvas_core.specs.Screen.{IsScreen};
 ghost use Rattle.geom_core.specs.Rect.{area_of, IsEnclosed, IsInside};
 ghost use Rattle.geom_core.specs.Count.{screen_of};
 ghost use Rattle.painter_core.specs.Painted.{Paints};
-ghost use Rattle.painter_core.specs.Stage.{layers_of, IsStage, IsThere};
+ghost use Rattle.painter_core.specs.Stage.{layers_of, IsThere};
+ghost use Rattle.scene_core.specs.View.{IsView};
 ghost use Rattle.painter_core.specs.Trail.{trail, slots_from};
 
 use crate::filling::fill_wanted;
 use crate::meeting::first_meeting;
-use crate::view::View;
+
 use canvas_core::Canvas;
 use geom_core::{Rect, cut};
+use scene_core::View;
 
 /// Paints the wanted pixels of the piece, which the widget `under` shows where nothing from the slot `from` on below
 /// it does, and answers how many they are. It goes so many levels down at the most.
@@ -23,7 +25,7 @@ pub fn paint_from(
     piece: Rect,
     canvas: &mut Canvas,
 ) -> u32
-    requires stage { IsStage view.now }
+    requires view { IsView view.now }
     requires there { IfSome under (IsThere view.now) }
     requires inside { IfSome under (λ id. IsInside piece ((layers_of view.now).rect id)) }
     requires few_slots { length ((layers_of view.now).below under) ≤ 256 }

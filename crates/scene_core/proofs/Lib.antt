@@ -1,4 +1,0 @@
-pub mod Lengths
-pub mod Needs
-pub mod Numbered
-pub mod ChildNumbers

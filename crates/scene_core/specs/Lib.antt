@@ -1,4 +1,1 @@
 pub mod View
-pub mod Ready
-pub mod Children
-pub mod Measured

@@ -1,13 +1,7 @@
 //! The layout of the widgets and what is on top: least sizes, places, and the widget on top at a pixel.
 #![tactic(auto)]
 
-mod asked;
-mod child;
-mod children;
-mod reading;
 mod size;
-mod spans;
-mod tracks;
 mod view;
 
 pub use geom_core::Rect;
