@@ -5,3 +5,4 @@ pub mod Index
 pub mod Taken
 pub mod TakenInTurn
 pub mod CountsLemmas
+pub mod FilledUp

@@ -3,3 +3,4 @@ pub mod Shown
 pub mod Places
 pub mod Counts
 pub mod Index
+pub mod KeptSlots

@@ -13,3 +13,5 @@ pub mod TreeKept
 pub mod TakenLinks
 pub mod TreeTaken
 pub mod Departures
+pub mod PlacesKept
+pub mod Counted

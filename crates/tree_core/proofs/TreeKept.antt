@@ -3,6 +3,7 @@ use Rattle.std.proofs.Common.{◌≡◌, ◌≤◌, ◌<◌, ◌+◌, ◌-◌, �
 use Rattle.std.proofs.lemmas.Bool.{true≢false, eqb-true, and_parts, leb-true, ltb-true}
 use Rattle.std.specs.List.{list_all}
 use Rattle.std.specs.Option.{option_map}
+use Rattle.geom_core.specs.declared.rectangle.Rect.{Rect}
 use Rattle.kind_core.specs.declared.kinds.Kind.{Kind}
 use Rattle.kind_core.specs.declared.kinds.Kind.TheVariants.{Grid}
 use Rattle.kind_core.specs.declared.shapes.Cell.{Cell}
@@ -12,7 +13,7 @@ use Rattle.widget_model.specs.Planted.{IsPlanted}
 use Rattle.widget_model.specs.Fitting.{fits_table, IsFitFilm, HaveFitFilms}
 use Rattle.widget_model.specs.Links.{ties, leads, all_lead}
 use Rattle.widget_model.specs.Widgets.{Widgets, row_at, nodes, with_row, is_joined, IsLive, IsGrid}
-use Rattle.widget_model.specs.Forest.{IsForest, IsWidgets}
+use Rattle.widget_model.specs.Forest.{IsForest, IsWidgets, ArePlaces}
 use Rattle.widget_model.specs.Rows.{IsIndex}
 use Rattle.row_store.specs.Places.{cell_place}
 use Rattle.tree_core.specs.Children.{rows_in, HasChildren}
@@ -22,18 +23,18 @@ use Rattle.tree_core.specs.Refusals.{add_refusal}
 use Rattle.row_store.proofs.Options.{none_or_some}
 use Rattle.tree_core.proofs.Listed.{all_at, numbered_place}
 use Rattle.row_store.proofs.Nodes.{nodes-with_row, nodes-push, node_at-nodes}
-use Rattle.tree_core.proofs.ForestLemmas.{ties-with_row, linked-with_link, linked-push, IsForest-join, IsForest-push, no_refusal, joined_in_range}
+use Rattle.tree_core.proofs.ForestLemmas.{live-with_row, ties-with_row, linked-with_link, linked-push, IsForest-join, IsForest-push, no_refusal, joined_in_range}
 use Rattle.tree_core.proofs.Groves.{IsGrove-leaves}
 use Rattle.tree_core.proofs.Moves.{HasChildren-still}
 use Rattle.tree_core.proofs.Fits.{fitting-with_row, fitting-push, fits_table-new}
-use Rattle.widget_model.proofs.FitFilms.{IsFitFilm-still, HaveFitFilms-with_row, HaveFitFilms-push}
+use Rattle.widget_model.proofs.FitFilms.{HaveFitFilms-with_row, HaveFitFilms-push}
 use Rattle.tree_core.proofs.Newcomer.{planted-push, HasChildren-push}
 
 pub IsGrove-tree : (clients : List ℕ) (names : List ((ℕ × List ℕ) × ℕ)) (es : List (ℕ × Row)) (cells : List (Option ℕ)) → IsTree clients names es cells → IsGrove es
 IsGrove-tree clients names es cells tree = record { own_numbers = tree.forest.own_numbers; own_names = tree.forest.own_names; planted = tree.planted }
 
-pub IsWidgets-tree : (clients : List ℕ) (names : List ((ℕ × List ℕ) × ℕ)) (es : List (ℕ × Row)) (cells : List (Option ℕ)) → IsTree clients names es cells → IsWidgets (record { clients = clients; entries = es })
-IsWidgets-tree clients names es cells tree = record { forest = tree.forest; linked = tree.linked; planted = tree.planted; fitting = tree.fitting; films = tree.films }
+pub IsWidgets-tree : (clients : List ℕ) (names : List ((ℕ × List ℕ) × ℕ)) (es : List (ℕ × Row)) (cells : List (Option ℕ)) (places : List (Option Rect)) → IsTree clients names es cells → ArePlaces es places → IsWidgets (record { clients = clients; entries = es; places = places })
+IsWidgets-tree clients names es cells places tree placed = record { forest = tree.forest; linked = tree.linked; planted = tree.planted; fitting = tree.fitting; films = tree.films; placed = placed }
 
 -- a change of one row that leaves the nodes
 pub IsTree-with_row : (clients : List ℕ) (names : List ((ℕ × List ℕ) × ℕ)) (es : List (ℕ × Row)) (cells new_cells : List (Option ℕ)) (id : ℕ) (change : Row → Row) → ((row : Row) → node_of (change row) ≡ node_of row) → all_lead (nodes es) (ties (with_row id change es)) ≡ true → IsPlanted (rows_in (with_row id change es)) → list_all fits_table (rows_in (with_row id change es)) ≡ true → HaveFitFilms (rows_in (with_row id change es)) → HasChildren (with_row id change es) new_cells → length new_cells ≡ length cells → IsTree clients names es cells → IsTree clients names (with_row id change es) new_cells
@@ -53,8 +54,12 @@ IsTree-with_row clients names es cells new_cells id change same linked planted f
     }
 
 -- a live number has a row, whose values fit
-pub live_row : (clients : List ℕ) (es : List (ℕ × Row)) (widgets : Widgets) (id : ℕ) → record { clients = clients; entries = es } ≡ widgets → IsLive widgets id → (row : Row) × (row_at es id ≡ Some row)
-live_row clients es widgets id view live = none_or_some (row_at es id) (ap (λ (w : Widgets). is_some (row_at w.entries id)) view ∙ live)
+pub live_row : {clients : List ℕ} {es : List (ℕ × Row)} {places : List (Option Rect)} {widgets : Widgets} → record { clients = clients; entries = es; places = places } ≡ widgets → (id : ℕ) → IsLive widgets id → (row : Row) × (row_at es id ≡ Some row)
+live_row {clients} {es} view id live = none_or_some (row_at es id) (ap (λ (w : Widgets). is_some (row_at w.entries id)) view ∙ live)
+
+-- and stays live when a row changes
+pub live_edited : {clients : List ℕ} {es : List (ℕ × Row)} {places : List (Option Rect)} {widgets : Widgets} → record { clients = clients; entries = es; places = places } ≡ widgets → (id : ℕ) (change : Row → Row) (other : ℕ) → IsLive widgets other → is_some (row_at (with_row id change es) other) ≡ true
+live_edited {clients} {es} view id change other live = live-with_row es id change other (ap (λ (w : Widgets). is_some (row_at w.entries other)) view ∙ live)
 
 pub grid_live : (widgets : Widgets) (id : ℕ) → IsGrid widgets id → IsLive widgets id
 grid_live widgets id grid = by (row_at widgets.entries id) grid
@@ -73,7 +78,6 @@ pub record LeavesTies (change : Row → Row) : Type 0 where
   pub node : (row : Row) → node_of (change row) ≡ node_of row
   pub link : (row : Row) → (change row).link ≡ row.link
   pub attached : (row : Row) → (change row).attached ≡ row.attached
-  pub film : (row : Row) → (change row).film ≡ row.film
 
 module _ (clients : List ℕ) (names : List ((ℕ × List ℕ) × ℕ)) (es : List (ℕ × Row)) (cells : List (Option ℕ)) (id : ℕ) (change : Row → Row) (row : Row) (tree : IsTree clients names es cells) (there : row_at es id ≡ Some row) where
   -- a change that leaves where the row hangs
@@ -91,10 +95,9 @@ module _ (clients : List ℕ) (names : List ((ℕ × List ℕ) × ℕ)) (es : Li
       by r true = still r
       by r false = refl
 
-  pub IsTree-leaves : LeavesTies change → fits_table (change row) ≡ true → IsTree clients names (with_row id change es) cells
-  IsTree-leaves leaves fits =
-      IsTree-still leaves.node leaves.attached (ap (all_lead (nodes es)) (ties-with_row es id change (λ r. (leaves.node r, leaves.link r))) ∙ tree.linked) fits
-      (λ r at. IsFitFilm-still change r (leaves.node r) (leaves.film r))
+  pub IsTree-leaves : LeavesTies change → fits_table (change row) ≡ true → ((r : Row) → row_at es id ≡ Some r → IsFitFilm r → IsFitFilm (change r)) → IsTree clients names (with_row id change es) cells
+  IsTree-leaves leaves fits films =
+      IsTree-still leaves.node leaves.attached (ap (all_lead (nodes es)) (ties-with_row es id change (λ r. (leaves.node r, leaves.link r))) ∙ tree.linked) fits films
 
 -- a link to a Variable
 pub IsTree-with_link : (clients : List ℕ) (names : List ((ℕ × List ℕ) × ℕ)) (es : List (ℕ × Row)) (cells : List (Option ℕ)) (id : ℕ) (row : Row) (link : Option (List ℕ)) → row_at es id ≡ Some row → leads (nodes es) row.client link ≡ true → IsTree clients names es cells → IsTree clients names (with_row id (with_link link) es) cells
@@ -102,9 +105,9 @@ IsTree-with_link clients names es cells id row link there new tree =
     IsTree-still clients names es cells id (with_link link) row tree there (λ r. refl) (λ r. refl)
     (linked-with_link (nodes es) es id row link tree.forest.own_numbers there new tree.linked)
     (fits_at es id row tree.fitting there)
-    (λ r at. IsFitFilm-still (with_link link) r refl refl)
+    (λ r at fit. fit)
 
-was_joined : (clients : List ℕ) (client other : ℕ) → is_joined (clients ++ client ∷ []) other ≡ true → nat_eq other client ≡ false → is_joined clients other ≡ true
+pub was_joined : (clients : List ℕ) (client other : ℕ) → is_joined (clients ++ client ∷ []) other ≡ true → nat_eq other client ≡ false → is_joined clients other ≡ true
 was_joined [] client other h apart = absurd (true≢false (sym h ∙ ap (λ (b : Bool). b || false) apart))
 was_joined (c ∷ cs) client other h apart = by (nat_eq other c) (λ k. was_joined cs client other k apart) h
   where
@@ -183,7 +186,7 @@ IsTree-attached clients names es cells new_cells id attached row there grove chi
     (ap (all_lead (nodes es)) (ties-with_row es id (with_attached attached) (λ r. (refl, refl))) ∙ tree.linked)
     grove.planted
     (fitting-with_row es id (with_attached attached) row tree.forest.own_numbers there (fits_at es id row tree.fitting there) tree.fitting)
-    (HaveFitFilms-with_row es id (with_attached attached) tree.forest.own_numbers (λ r at. IsFitFilm-still (with_attached attached) r refl refl) tree.films)
+    (HaveFitFilms-with_row es id (with_attached attached) tree.forest.own_numbers (λ r at fit. fit) tree.films)
     children len tree
 
 -- what holds of all nodes holds of a numbered row's

@@ -18,9 +18,9 @@ cells_of _ = 0
 abbrev pub rows_in : List (ℕ × Row) → List Row
 rows_in entries = map (λ entry. entry.1) entries
 
--- the numbered rows with no word on clients
+-- the numbered rows with no word on clients and kept places
 abbrev pub widgets_in : List (ℕ × Row) → Widgets
-widgets_in entries = record { clients = []; entries = entries }
+widgets_in entries = record { clients = []; entries = entries; places = [] }
 
 -- The table has the number of the child in each cell of each widget.
 pub record HasChildren (entries : List (ℕ × Row)) (cells : List (Option ℕ)) : Type 0 where

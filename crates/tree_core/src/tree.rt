@@ -4,7 +4,7 @@ ghost use Rattle.std.specs.Result.{result_err};
 ghost use Rattle.kind_core.specs.Attributes.{domain_of, judged};
 ghost use Rattle.widget_model.specs.Rows.{new_row, attr_of, with_attr, column_rule_of, with_column_rule, row_rule_of, with_row_rule, binding_of, with_binding, with_link, with_attached};
 ghost use Rattle.widget_model.specs.Nodes.{id_named, count_of, any_kind};
-ghost use Rattle.widget_model.specs.Widgets.{no_widgets, is_joined, row_at, nodes, rows_of, IsLive, IsGrid, KeepsLive, edited, with_new, removed, joined, departed, row_kind, row_client};
+ghost use Rattle.widget_model.specs.Widgets.{no_widgets, is_joined, row_at, nodes, rows_of, IsLive, IsGrid, KeepsLive, edited, with_new, removed, joined, departed, place_at, with_place, row_kind, row_client};
 ghost use Rattle.widget_model.specs.Links.{linked_id, name_at};
 ghost use Rattle.widget_model.specs.Forest.{IsWidgets};
 ghost use Rattle.widget_model.specs.Trees.{is_used};
@@ -20,8 +20,11 @@ use crate::id::Id;
 use crate::links::{link_of, name_of};
 use crate::refusal::{AddRefusal, AttachRefusal, InUse, NoMemory};
 use crate::removing::{drop_number, is_used};
+use geom_core::Rect;
 use kind_core::{Attr, AttrRefusal, Cell, EventKind, Kind, Name, Value, check};
-use row_store::{Cells, Change, Counts, Names, Store, drop_names, drop_rows, number_of, take_out};
+use row_store::{
+    Cells, Change, Counts, KeptPlaces, Names, Store, drop_names, drop_rows, number_of, take_out,
+};
 use std::alloc::Global;
 use std::marker::Model;
 
@@ -34,6 +37,7 @@ pub struct Tree {
     store: Store,
     cells: Cells,
     counts: Counts,
+    places: KeptPlaces,
 }
 
 impl Model for Tree {
@@ -42,9 +46,9 @@ impl Model for Tree {
 
     ghost Value = { Widgets };
 
-    ghost view = { λ t. record { clients = t.clients.items; entries = t.store } };
+    ghost view = { λ t. record { clients = t.clients.items; entries = t.store; places = t.places.slots } };
 
-    ghost invariant = { λ t. IsCounted t.clients.items t.names t.store t.cells t.counts };
+    ghost invariant = { λ t. IsCounted t.clients.items t.names t.store t.cells t.counts t.places };
 }
 
 impl Drop for Tree {
@@ -55,6 +59,7 @@ impl Drop for Tree {
             store: _,
             cells: _,
             counts: _,
+            places: _,
         } = self;
     }
 }
@@ -71,12 +76,13 @@ impl Tree {
             store: Store::new(alloc),
             cells: Cells::new(alloc),
             counts: Counts::new(),
+            places: KeptPlaces::new(alloc),
         }
     }
 
     /// Joins a client, 1 to 16, that isn't joined, as the last one. NoMemory leaves the tree as it was. It
-    /// makes 32,768 places for the children of the client's widgets, and as many for each lower number that
-    /// has none.
+    /// makes 32,768 places for the children of the client's widgets and 128 slots for their kept places, and
+    /// as many for each lower number that has none.
     pub fn join_client(&mut self, client: u32) -> Result<(), NoMemory>
         requires low { 1 ≤ client }
         requires high { client ≤ 16 }
@@ -87,6 +93,10 @@ impl Tree {
         ensures valid { IsWidgets self.new }
     {
         match self.cells.grow(client) {
+            Ok(()) => {}
+            Err(_) => return Err(NoMemory),
+        }
+        match self.places.grow(client) {
             Ok(()) => {}
             Err(_) => return Err(NoMemory),
         }
@@ -108,6 +118,7 @@ impl Tree {
         ensures live { IfOk result (λ id. IsLive self.new id.key) }
         ensures fresh { IfOk result (λ id. row_at self.old.entries id.key ≡ None) }
         ensures number { IfOk result (λ id. id.key < 2048) }
+        ensures unplaced { IfOk result (λ id. place_at self.new id.key ≡ None) }
         ensures allowed { OnOk result (add_refusal (nodes self.old.entries) client name kind ≡ None) }
         ensures refused { IfErr result (AnswersRefusal (add_refusal (nodes self.old.entries) client name kind)) }
         ensures err { OnErr result (self.new ≡ self.old) }
@@ -386,11 +397,12 @@ impl Tree {
         let kind = row.kind();
         take_out(&mut self.names, &mut self.store, id.key);
         self.counts.lose(client, kind);
+        self.places.put(id.key, None);
         Ok(())
     }
 
     /// Removes all widgets of a joined client, which then isn't joined. It walks the rows once for each of
-    /// them, and empties the client's 32,768 places for children.
+    /// them, and empties the client's 32,768 places for children and 128 slots for kept places.
     pub fn drop_client(&mut self, client: u32)
         requires { is_joined self.old.clients client ≡ true }
         ensures left { self.new ≡ departed client self.old }
@@ -402,6 +414,7 @@ impl Tree {
         drop_rows(&mut self.store, client);
         self.cells.clear(client);
         self.counts.forget(client);
+        self.places.clear(client);
     }
 
     /// The widget in which this one hangs, None exactly where it hangs in none. It costs at most two look-ups
@@ -455,5 +468,27 @@ impl Tree {
             Some((_, cell)) => Some(cell),
             None => None,
         }
+    }
+
+    /// The place that is kept of the widget, in pixels of the screen; None exactly where none is kept. It is the last
+    /// that `set_place` gave it, None at first. It reads one slot.
+    pub fn place_of(&self, id: Id) -> Option<Rect>
+        requires { IsLive self.now id.key }
+        ensures place { result ≡ place_at self.now id.key }
+        ensures valid { IsWidgets self.now }
+    {
+        self.places.at(id.key)
+    }
+
+    /// Keeps that place of the widget, or keeps none. No row and no other place changes. It writes one slot.
+    pub fn set_place(&mut self, id: Id, place: Option<Rect>)
+        requires { IsLive self.old id.key }
+        ensures place { self.new ≡ with_place id.key place self.old }
+        ensures now { place_at self.new id.key ≡ place }
+        ensures others { (other : ℕ) → nat_eq other id.key ≡ false → place_at self.new other ≡ place_at self.old other }
+        ensures kept { KeepsLive self.old self.new }
+        ensures valid { IsWidgets self.new }
+    {
+        self.places.put(id.key, place);
     }
 }

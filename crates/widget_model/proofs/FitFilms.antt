@@ -1,5 +1,5 @@
 -- What the changes of the rows leave of the films: each is a whole one, and its row is a VScreen.
-use Rattle.std.proofs.Common.{◌≡◌, ℕ, Bool, true, false, cond, nat_eq, List, [], ◌∷◌, ◌++◌, Option, Some, None, IfSome, refl, ap, sym, subst}
+use Rattle.std.proofs.Common.{◌≡◌, ℕ, Bool, true, false, cond, nat_eq, List, [], ◌∷◌, ◌++◌, Option, Some, None, IfSome, refl, sym, subst}
 use Rattle.std.proofs.lemmas.Bool.{eqb-true}
 use Rattle.std.proofs.lemmas.List.Elements.{All-nil, All-cons, All-head, All-tail, All-push}
 use Rattle.std.specs.List.{All, filter}
@@ -7,7 +7,7 @@ use Rattle.kind_core.specs.declared.kinds.Kind.{Kind}
 use Rattle.kind_core.specs.declared.kinds.Kind.TheVariants.{VScreen}
 use Rattle.vscreen_core.specs.FilmState.{FilmState, IsFilm}
 use Rattle.widget_model.specs.Rows.{Row}
-use Rattle.widget_model.specs.Nodes.{Node, node_of, node_at}
+use Rattle.widget_model.specs.Nodes.{node_at}
 use Rattle.widget_model.specs.Widgets.{row_at, nodes, with_row}
 use Rattle.widget_model.specs.Forest.{HaveOwnNumbers}
 use Rattle.widget_model.specs.Fitting.{IsFitFilm, HaveFitFilms}
@@ -16,15 +16,6 @@ use Rattle.widget_model.proofs.Naming.{rows, rows-push, with_row-absent}
 -- a film of that kind of row
 fits_kind : Kind → Option FilmState → Type 0
 fits_kind kind film = IfSome film (λ film. (kind ≡ VScreen) × IsFilm film)
-
--- a change that leaves the kind and the film leaves the film fit
-pub IsFitFilm-still : (change : Row → Row) (row : Row) → node_of (change row) ≡ node_of row → (change row).film ≡ row.film → IsFitFilm row → IsFitFilm (change row)
-unfolding fits_kind
-IsFitFilm-still change row node film fit =
-    let kind : row.kind ≡ (change row).kind = ap (λ (n : Node). n.kind) (sym node) in
-    let F : Kind → Type 0 = λ kind. fits_kind kind row.film in
-    let G : Option FilmState → Type 0 = λ film. fits_kind (change row).kind film in
-    subst G (sym film) (subst F kind fit)
 
 -- the numbered row changes so that its film is fit
 pub HaveFitFilms-with_row : (es : List (ℕ × Row)) (id : ℕ) (change : Row → Row) → HaveOwnNumbers (nodes es) → ((row : Row) → row_at es id ≡ Some row → IsFitFilm row → IsFitFilm (change row)) → HaveFitFilms (rows es) → HaveFitFilms (rows (with_row id change es))

@@ -6,3 +6,4 @@ pub mod Levels
 pub mod Planting
 pub mod OwnRows
 pub mod FitFilms
+pub mod Slots

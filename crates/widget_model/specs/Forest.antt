@@ -1,9 +1,12 @@
 -- What holds of the widgets at every moment.
-use Rattle.std.specs.Prelude.{ℕ, ◌≡◌, ◌≤◌, Bool, true, ◌&&◌, nat_le, List, [], ◌∷◌, None}
+use Rattle.std.specs.Prelude.{ℕ, ◌≡◌, ◌≤◌, Bool, true, ◌&&◌, nat_le, List, [], ◌∷◌, length, Option, None}
 use Rattle.std.specs.List.{list_all}
+use Rattle.geom_core.specs.declared.rectangle.Rect.{Rect}
 use Rattle.kind_core.specs.declared.kinds.Kind.{Kind}
 use Rattle.widget_model.specs.Nodes.{Node, id_named, node_at, count_of, any_kind, counts_with, is_number_of}
-use Rattle.widget_model.specs.Widgets.{Widgets, nodes, rows_of, is_joined}
+use Rattle.widget_model.specs.Rows.{Row}
+use Rattle.widget_model.specs.KeptPlaces.{most_numbers, place_in}
+use Rattle.widget_model.specs.Widgets.{Widgets, nodes, rows_of, row_at, is_joined}
 use Rattle.widget_model.specs.Links.{ties, all_lead}
 use Rattle.widget_model.specs.Planted.{IsPlanted}
 use Rattle.widget_model.specs.Fitting.{fits_table, HaveFitFilms}
@@ -32,11 +35,18 @@ pub record IsForest (clients : List ℕ) (entries : List (ℕ × Node)) : Type 0
   pub most : (client : ℕ) → count_of client any_kind entries ≤ 128
   pub most_alike : (client : ℕ) (kind : Kind) → count_of client (counts_with kind) entries ≤ 8
 
+-- There is a slot for the place of each number, and only a live number's has one.
+pub record ArePlaces (entries : List (ℕ × Row)) (places : List (Option Rect)) : Type 0 where
+  pub slots : length places ≡ most_numbers
+  pub live : (id : ℕ) → row_at entries id ≡ None → place_in places id ≡ None
+
 -- Of all widgets the same holds, each link leads to a Variable of the same client, they hang right in one
--- another, each one's values fit its kind's table, and only a VScreen has a film, a whole one.
+-- another, each one's values fit its kind's table, only a VScreen has a film, a whole one, and only live numbers
+-- have kept places.
 pub record IsWidgets (widgets : Widgets) : Type 0 where
   pub forest : IsForest widgets.clients (nodes widgets.entries)
   pub linked : all_lead (nodes widgets.entries) (ties widgets.entries) ≡ true
   pub planted : IsPlanted (rows_of widgets)
   pub fitting : list_all fits_table (rows_of widgets) ≡ true
   pub films : HaveFitFilms (rows_of widgets)
+  pub placed : ArePlaces widgets.entries widgets.places

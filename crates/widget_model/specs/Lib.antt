@@ -1,6 +1,7 @@
 pub mod Kinds
 pub mod Rows
 pub mod Nodes
+pub mod KeptPlaces
 pub mod Widgets
 pub mod Links
 pub mod Forest

@@ -1,21 +1,24 @@
--- The widgets of a desk: the joined clients in the order of joining, and the rows in the order of making,
--- each with its number. A row is named by its client and name; a number names its row until that row is
--- removed.
+-- The widgets of a desk: the joined clients in the order of joining, the rows in the order of making, each with
+-- its number, and the places that are kept of the widgets. A row is named by its client and name; a number names
+-- its row until that row is removed.
 use Rattle.std.specs.Prelude.{ℕ, ◌≡◌, Bool, not, nat_eq, List, [], ◌∷◌, ◌++◌, map, Option, Some, None, IsSome, if◌then◌else◌}
 use Rattle.std.specs.List.{list_any, filter}
 use Rattle.std.specs.Option.{option_map}
+use Rattle.geom_core.specs.declared.rectangle.Rect.{Rect}
 use Rattle.kind_core.specs.declared.kinds.Kind.{Kind}
 use Rattle.kind_core.specs.declared.kinds.Kind.TheVariants.{Grid}
 use Rattle.widget_model.specs.Rows.{Row}
 use Rattle.widget_model.specs.Nodes.{Node, node_of}
+use Rattle.widget_model.specs.KeptPlaces.{no_places, place_in, placed, unplaced}
 
 pub record Widgets : Type 0 where
   pub clients : List ℕ
   pub entries : List (ℕ × Row)
+  pub places : List (Option Rect)
 
 -- At first there are none.
 abbrev pub no_widgets : Widgets
-no_widgets = record { clients = []; entries = [] }
+no_widgets = record { clients = []; entries = []; places = no_places }
 
 abbrev pub is_joined : List ℕ → ℕ → Bool
 is_joined clients client = list_any (nat_eq client) clients
@@ -67,19 +70,29 @@ without_row id (entry ∷ entries) = if nat_eq id entry.0 then without_row id en
 abbrev pub edited : ℕ → (Row → Row) → Widgets → Widgets
 edited id change widgets = record widgets { entries = with_row id change widgets.entries }
 
+-- A new row has no kept place, since its number had none; a removed one leaves none.
 abbrev pub with_new : ℕ → Row → Widgets → Widgets
 with_new id row widgets = record widgets { entries = widgets.entries ++ (id, row) ∷ [] }
 
 abbrev pub removed : ℕ → Widgets → Widgets
-removed id widgets = record widgets { entries = without_row id widgets.entries }
+removed id widgets = record widgets { entries = without_row id widgets.entries; places = placed id None widgets.places }
 
 abbrev pub joined : ℕ → Widgets → Widgets
 joined client widgets = record widgets { clients = widgets.clients ++ client ∷ [] }
 
--- the widgets of all clients but one
+-- the place that is kept of the numbered widget, none where none is
+abbrev pub place_at : Widgets → ℕ → Option Rect
+place_at widgets id = place_in widgets.places id
+
+-- the widgets with that place kept of the numbered one
+abbrev pub with_place : ℕ → Option Rect → Widgets → Widgets
+with_place id place widgets = record widgets { places = placed id place widgets.places }
+
+-- the widgets of all clients but one, with what is kept of theirs
 abbrev pub departed : ℕ → Widgets → Widgets
 departed client widgets =
     record {
       clients = filter (λ other. not (nat_eq client other)) widgets.clients;
       entries = filter (λ entry. not (nat_eq client entry.1.client)) widgets.entries;
+      places = unplaced client widgets.places;
     }

@@ -2,9 +2,10 @@ use Rattle.std.proofs.Common.{◌≡◌, ◌∷◌, ◌++◌, [], ℕ, List, is_
 use Rattle.widget_model.specs.Rows.{Row, new_row}
 use Rattle.widget_model.specs.Widgets.{Widgets, nodes, is_joined, row_at}
 use Rattle.row_store.specs.Index.{IsIndexed}
-use Rattle.tree_core.specs.Kept.{IsTree}
-use Rattle.tree_core.proofs.ForestLemmas.{joined_in_range, no_refusal, maybe, live-maybe_push, live-last}
-use Rattle.tree_core.proofs.TreeKept.{IsTree-push, IsTree-renamed, IsWidgets-tree}
+use Rattle.row_store.specs.Counts.{AreCounts}
+use Rattle.tree_core.specs.Kept.{IsCounted}
+use Rattle.tree_core.proofs.ForestLemmas.{joined_in_range, no_refusal, live-maybe_push, live-last}
+use Rattle.tree_core.proofs.Counted.{IsWidgets-counted, IsCounted-added}
 use Rattle.tree_core.proofs.tree.Tree.add.Goals as goal
 use Rattle.tree_core.proofs.tree.Tree.add.Goals.{in-Ok, in-Err}
 
@@ -36,27 +37,19 @@ pub invariant_of-self : goal.invariant_of-self
 invariant_of-self c =
     let old = c.self.inside.store in
     let member : is_joined c.self.inside.clients.items c.args.client ≡ true = ap (λ (w : Widgets). is_joined w.clients c.args.client) c.self.view_is ∙ c.requires in
-    let row = new_row c.args.client c.args.name c.args.kind in
-    let id = c.free_number-id.result in
-    let P : List (ℕ × Row) → Type 0 = λ es. IsIndexed c.put_counted.new.names (nodes es) → IsTree c.self.inside.clients.items c.put_counted.new.names es c.self.inside.cells in
-    let more : P (old ++ (id, row) ∷ []) = λ indexed. IsTree-push c.self.inside.clients.items c.self.inside.names c.put_counted.new.names old c.self.inside.cells id c.args.client c.args.name c.args.kind c.free_number-id.ensures.free (sym c.in-None.ensures) c.free_number-id.ensures.own member indexed c.self.invariant.tree in
-    let same : P old = λ indexed. IsTree-renamed c.self.inside.clients.items c.self.inside.names c.put_counted.new.names old c.self.inside.cells indexed c.self.invariant.tree in
-    let either : P c.put_counted.new.store = subst P (sym c.put_counted.ensures.rows) (maybe P (is_ok c.put_counted.result) (old ++ (id, row) ∷ []) old more same) in
-    let tree = either c.put_counted.ensures.indexed in
-    record { tree = tree; counted = c.put_counted.ensures.counted }
+    let P : List (ℕ × Row) → Type 0 = λ es. IsIndexed c.put_counted.new.names (nodes es) → AreCounts c.put_counted.new.counts (nodes es) → IsCounted c.self.inside.clients.items c.put_counted.new.names es c.self.inside.cells c.put_counted.new.counts c.self.inside.places in
+    let either = IsCounted-added c.self.invariant (is_ok c.put_counted.result) c.put_counted.new.names c.put_counted.new.counts c.free_number-id.result c.args.client c.args.name c.args.kind c.free_number-id.ensures.free (sym c.in-None.ensures) c.free_number-id.ensures.own member in
+    let parts : P c.put_counted.new.store = subst P (sym c.put_counted.ensures.rows) either in
+    parts c.put_counted.ensures.indexed c.put_counted.ensures.counted
 
 pub returns-clause-valid : goal.returns-clause-valid
 returns-clause-valid c =
     let old = c.self.inside.store in
     let member : is_joined c.self.inside.clients.items c.args.client ≡ true = ap (λ (w : Widgets). is_joined w.clients c.args.client) c.self.view_is ∙ c.requires in
-    let row = new_row c.args.client c.args.name c.args.kind in
-    let id = c.free_number-id.result in
-    let P : List (ℕ × Row) → Type 0 = λ es. IsIndexed c.put_counted.new.names (nodes es) → IsTree c.self.inside.clients.items c.put_counted.new.names es c.self.inside.cells in
-    let more : P (old ++ (id, row) ∷ []) = λ indexed. IsTree-push c.self.inside.clients.items c.self.inside.names c.put_counted.new.names old c.self.inside.cells id c.args.client c.args.name c.args.kind c.free_number-id.ensures.free (sym c.in-None.ensures) c.free_number-id.ensures.own member indexed c.self.invariant.tree in
-    let same : P old = λ indexed. IsTree-renamed c.self.inside.clients.items c.self.inside.names c.put_counted.new.names old c.self.inside.cells indexed c.self.invariant.tree in
-    let either : P c.put_counted.new.store = subst P (sym c.put_counted.ensures.rows) (maybe P (is_ok c.put_counted.result) (old ++ (id, row) ∷ []) old more same) in
-    let tree = either c.put_counted.ensures.indexed in
-    IsWidgets-tree _ _ _ c.self.inside.cells tree
+    let P : List (ℕ × Row) → Type 0 = λ es. IsIndexed c.put_counted.new.names (nodes es) → AreCounts c.put_counted.new.counts (nodes es) → IsCounted c.self.inside.clients.items c.put_counted.new.names es c.self.inside.cells c.put_counted.new.counts c.self.inside.places in
+    let either = IsCounted-added c.self.invariant (is_ok c.put_counted.result) c.put_counted.new.names c.put_counted.new.counts c.free_number-id.result c.args.client c.args.name c.args.kind c.free_number-id.ensures.free (sym c.in-None.ensures) c.free_number-id.ensures.own member in
+    let parts : P c.put_counted.new.store = subst P (sym c.put_counted.ensures.rows) either in
+    IsWidgets-counted (parts c.put_counted.ensures.indexed c.put_counted.ensures.counted)
 
 pub returns-clause-kept : goal.returns-clause-kept
 returns-clause-kept c = λ other live.

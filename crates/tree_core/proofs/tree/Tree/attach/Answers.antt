@@ -7,15 +7,14 @@ use Rattle.widget_model.specs.Planted.{takes_cell}
 use Rattle.widget_model.specs.Widgets.{Widgets, row_at, row_kind}
 use Rattle.tree_core.specs.Children.{HasChildren}
 use Rattle.tree_core.specs.Kept.{IsGrove}
-use Rattle.row_store.proofs.CountsLemmas.{AreCounts-with_row}
-use Rattle.tree_core.proofs.ForestLemmas.{live-with_row}
 use Rattle.tree_core.proofs.Children.{takes_cell-index}
-use Rattle.tree_core.proofs.TreeKept.{IsTree-attached, IsWidgets-tree, live_row, place_within}
+use Rattle.tree_core.proofs.TreeKept.{live_row, live_edited, place_within}
+use Rattle.tree_core.proofs.Counted.{IsWidgets-counted, IsCounted-attached}
 use Rattle.tree_core.proofs.tree.Tree.attach.Goals as goal
 
 pub hang-requires-clause-within : goal.hang-requires-clause-within
 hang-requires-clause-within c =
-    let found = live_row c.self.inside.clients.items c.self.inside.store c.args.self.now c.args.parent.key c.self.view_is c.requires.parent in
+    let found = live_row c.self.view_is c.args.parent.key c.requires.parent in
     let K : Widgets → Type 0 = λ w. option_map_or (λ (kind : Kind). takes_cell kind c.args.cell) (row_kind w.entries c.args.parent.key) false ≡ true in
     let kind : option_map_or (λ (kind : Kind). takes_cell kind c.args.cell) (row_kind c.self.inside.store c.args.parent.key) false ≡ true = subst K (sym c.self.view_is) c.requires.cell in
     let takes = ap (λ (o : Option Row). option_map_or (λ (kind : Kind). takes_cell kind c.args.cell) (option_map (λ (row : Row). row.kind) o) false) (sym found.1) ∙ kind in
@@ -24,24 +23,19 @@ hang-requires-clause-within c =
 
 pub invariant_of-self : goal.invariant_of-self
 invariant_of-self c =
-    let found = live_row c.self.inside.clients.items c.self.inside.store c.args.self.now c.args.child.key c.self.view_is c.requires.child in
+    let found = live_row c.self.view_is c.args.child.key c.requires.child in
     let G : List (ℕ × Row) → Type 0 = λ es. IsGrove es in
     let H : List (ℕ × Row) → Type 0 = λ es. HasChildren es c.hang.new.cells in
     let attached = option_map (λ (name : List ℕ). (name, c.args.cell)) (name_at c.self.inside.store c.args.parent.key) in
-    let tree = IsTree-attached c.self.inside.clients.items c.self.inside.names c.self.inside.store c.self.inside.cells c.hang.new.cells c.args.child.key attached found.0 found.1 (subst G c.hang.ensures.rows c.hang.ensures.grove) (subst H c.hang.ensures.rows c.hang.ensures.children) c.hang.ensures.length c.self.invariant.tree in
-    rw c.hang.ensures.rows (record { tree = tree; counted = AreCounts-with_row c.self.inside.counts c.self.inside.store c.args.child.key (with_attached attached) (λ row. refl) c.self.invariant.counted })
+    rw c.hang.ensures.rows (IsCounted-attached c.self.invariant c.hang.new.cells c.args.child.key attached found.0 found.1 (subst G c.hang.ensures.rows c.hang.ensures.grove) (subst H c.hang.ensures.rows c.hang.ensures.children) c.hang.ensures.length)
 
 pub returns-clause-valid : goal.returns-clause-valid
 returns-clause-valid c =
-    let found = live_row c.self.inside.clients.items c.self.inside.store c.args.self.now c.args.child.key c.self.view_is c.requires.child in
+    let found = live_row c.self.view_is c.args.child.key c.requires.child in
     let G : List (ℕ × Row) → Type 0 = λ es. IsGrove es in
     let H : List (ℕ × Row) → Type 0 = λ es. HasChildren es c.hang.new.cells in
     let attached = option_map (λ (name : List ℕ). (name, c.args.cell)) (name_at c.self.inside.store c.args.parent.key) in
-    let tree = IsTree-attached c.self.inside.clients.items c.self.inside.names c.self.inside.store c.self.inside.cells c.hang.new.cells c.args.child.key attached found.0 found.1 (subst G c.hang.ensures.rows c.hang.ensures.grove) (subst H c.hang.ensures.rows c.hang.ensures.children) c.hang.ensures.length c.self.invariant.tree in
-    rw c.hang.ensures.rows (IsWidgets-tree _ _ _ c.hang.new.cells tree)
+    rw c.hang.ensures.rows (IsWidgets-counted (IsCounted-attached c.self.invariant c.hang.new.cells c.args.child.key attached found.0 found.1 (subst G c.hang.ensures.rows c.hang.ensures.grove) (subst H c.hang.ensures.rows c.hang.ensures.children) c.hang.ensures.length))
 
 pub returns-clause-kept : goal.returns-clause-kept
-returns-clause-kept c = λ other live.
-    let L : Widgets → Type 0 = λ w. is_some (row_at w.entries other) ≡ true in
-    let old : is_some (row_at c.self.inside.store other) ≡ true = subst L (sym c.self.view_is) live in
-    rw c.hang.ensures.rows (live-with_row c.self.inside.store c.args.child.key _ other old)
+returns-clause-kept c = λ other live. rw c.hang.ensures.rows (live_edited c.self.view_is c.args.child.key _ other live)

@@ -11,6 +11,7 @@ use Rattle.row_store.specs.Index.{IsIndexed}
 use Rattle.row_store.proofs.CountsLemmas.{AreCounts-lose, has_one}
 use Rattle.tree_core.proofs.Listed.{row_at-without_row}
 use Rattle.tree_core.proofs.TreeKept.{IsWidgets-tree, live_row, client-below}
+use Rattle.tree_core.proofs.PlacesKept.{slot_made, IsPlaced-without}
 use Rattle.tree_core.proofs.TreeTaken.{IsTree-without, IsFree-unused}
 use Rattle.tree_core.proofs.tree.Tree.remove.Goals as goal
 
@@ -35,10 +36,13 @@ lose-requires-clause-alike c = λ alike.
     let some = has_one c.self.inside.counts c.self.inside.store c.args.id.key row (Some c.kind-kind.result) below c.self.invariant.tree.forest.own_numbers c.row-row.ensures passes c.self.invariant.counted in
     rw c.client-client.ensures some
 
+pub put-requires : goal.put-requires
+put-requires c = slot_made c.self.invariant.placed c.self.invariant.tree.forest c.args.id.key c.row-row.result.now c.row-row.ensures
+
 pub invariant_of-self : goal.invariant_of-self
 invariant_of-self c =
     let I : List (ℕ × Row) → Type 0 = λ es. IsIndexed c.take_out.new.names (nodes es) in
-    let found = live_row c.self.inside.clients.items c.self.inside.store c.args.self.now c.args.id.key c.self.view_is c.requires in
+    let found = live_row c.self.view_is c.args.id.key c.requires in
     let answer : Some (is_used (rows_in c.self.inside.store) found.0) ≡ Some c.is_used.result = ap (option_map (is_used (rows_in c.self.inside.store))) (sym found.1) ∙ c.is_used.ensures in
     let unused : is_used (rows_in c.self.inside.store) found.0 ≡ false = let same : is_used (rows_in c.self.inside.store) found.0 ≡ c.is_used.result = cc in same ∙ c.if-is_used.false in
     let indexed : IsIndexed c.take_out.new.names (nodes (without_row c.args.id.key c.self.inside.store)) = subst I c.take_out.ensures.rows c.take_out.ensures.indexed in
@@ -47,17 +51,17 @@ invariant_of-self c =
     let below = client-below c.self.inside.clients.items c.self.inside.store c.args.id.key row c.self.invariant.tree.forest c.row-row.ensures in
     let fewer = AreCounts-lose c.self.inside.counts c.self.inside.store c.args.id.key row below c.self.invariant.tree.forest.own_numbers c.row-row.ensures c.self.invariant.counted in
     let counted : AreCounts (lost c.client-client.result c.kind-kind.result c.self.inside.counts) (nodes (without_row c.args.id.key c.self.inside.store)) = rw (c.client-client.ensures, c.kind-kind.ensures) fewer in
-    rw (c.take_out.ensures.rows, c.lose.ensures) (record { tree = tree; counted = counted })
+    rw (c.take_out.ensures.rows, c.lose.ensures) (record { tree = tree; counted = counted; placed = IsPlaced-without c.self.invariant.placed c.args.id.key c.put.new.self c.put.ensures.slots c.put.ensures.made })
 
 pub returns-clause-valid : goal.returns-clause-valid
 returns-clause-valid c =
     let I : List (ℕ × Row) → Type 0 = λ es. IsIndexed c.take_out.new.names (nodes es) in
-    let found = live_row c.self.inside.clients.items c.self.inside.store c.args.self.now c.args.id.key c.self.view_is c.requires in
+    let found = live_row c.self.view_is c.args.id.key c.requires in
     let answer : Some (is_used (rows_in c.self.inside.store) found.0) ≡ Some c.is_used.result = ap (option_map (is_used (rows_in c.self.inside.store))) (sym found.1) ∙ c.is_used.ensures in
     let unused : is_used (rows_in c.self.inside.store) found.0 ≡ false = let same : is_used (rows_in c.self.inside.store) found.0 ≡ c.is_used.result = cc in same ∙ c.if-is_used.false in
     let indexed : IsIndexed c.take_out.new.names (nodes (without_row c.args.id.key c.self.inside.store)) = subst I c.take_out.ensures.rows c.take_out.ensures.indexed in
     let tree = IsTree-without c.self.inside.clients.items c.self.inside.names c.take_out.new.names c.self.inside.store c.self.inside.cells c.args.id.key found.0 c.self.invariant.tree (IsFree-unused c.self.inside.store c.args.id.key found.0 found.1 unused) indexed in
-    rw c.take_out.ensures.rows (IsWidgets-tree _ _ _ c.self.inside.cells tree)
+    rw c.take_out.ensures.rows (IsWidgets-tree _ _ _ c.self.inside.cells _ tree (IsPlaced-without c.self.invariant.placed c.args.id.key c.put.new.self c.put.ensures.slots c.put.ensures.made).seen)
 
 pub returns-clause-others : goal.returns-clause-others
 returns-clause-others c = λ other apart live.

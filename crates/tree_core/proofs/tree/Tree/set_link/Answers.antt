@@ -6,11 +6,9 @@ use Rattle.widget_model.specs.Widgets.{Widgets, nodes, row_at, row_kind, row_cli
 use Rattle.widget_model.specs.Links.{leads, name_at}
 use Rattle.widget_model.specs.Forest.{HaveOwnNames}
 use Rattle.tree_core.specs.declared.id.Id.{Id}
-use Rattle.row_store.proofs.Options.{none_or_some}
-use Rattle.tree_core.specs.Kept.{IsTree}
-use Rattle.row_store.proofs.CountsLemmas.{AreCounts-with_row}
-use Rattle.tree_core.proofs.ForestLemmas.{live-with_row, variable-leads}
-use Rattle.tree_core.proofs.TreeKept.{IsTree-with_link, IsWidgets-tree}
+use Rattle.tree_core.proofs.ForestLemmas.{variable-leads}
+use Rattle.tree_core.proofs.TreeKept.{live_row, live_edited}
+use Rattle.tree_core.proofs.Counted.{IsWidgets-counted, IsCounted-link}
 use Rattle.tree_core.proofs.tree.Tree.set_link.Goals as goal
 
 leads_to : (es : List (ℕ × Row)) (id client : ℕ) → HaveOwnNames (nodes es) → row_client es id ≡ Some client → (o : Option Id) → IfSome o (λ (v : Id). row_kind es v.key ≡ Some Variable) → IfSome o (λ (v : Id). row_client es v.key ≡ row_client es id) → leads (nodes es) client (option_and_then (λ (v : Id). name_at es v.key) o) ≡ true
@@ -33,34 +31,26 @@ name_of-name-requires c =
 pub invariant_of-self : goal.invariant_of-self
 invariant_of-self c =
     let es = c.self.inside.store in
-    let P : Widgets → Type 0 = λ w. IsSome (row_at w.entries c.args.id.key) in
     let K : Widgets → Type 0 = λ w. IfSome c.args.variable (λ (v : Id). row_kind w.entries v.key ≡ Some Variable) in
     let O : Widgets → Type 0 = λ w. IfSome c.args.variable (λ (v : Id). row_client w.entries v.key ≡ row_client w.entries c.args.id.key) in
-    let live : IsSome (row_at es c.args.id.key) = subst P (sym c.self.view_is) c.requires.live in
     let kind : IfSome c.args.variable (λ (v : Id). row_kind es v.key ≡ Some Variable) = subst K (sym c.self.view_is) c.requires.variable in
     let owner : IfSome c.args.variable (λ (v : Id). row_client es v.key ≡ row_client es c.args.id.key) = subst O (sym c.self.view_is) c.requires.owner in
-    let found = none_or_some (row_at es c.args.id.key) live in
+    let found = live_row c.self.view_is c.args.id.key c.requires.live in
     let own : row_client es c.args.id.key ≡ Some (found.0).client = ap (option_map (λ (r : Row). r.client)) found.1 in
     let new : leads (nodes es) (found.0).client c.name_of-name.result ≡ true = rw c.name_of-name.ensures (leads_to es c.args.id.key (found.0).client c.self.invariant.tree.forest.own_names own c.args.variable kind owner) in
-    rw c.change.ensures (record { tree = IsTree-with_link _ _ es c.self.inside.cells c.args.id.key found.0 c.name_of-name.result found.1 new c.self.invariant.tree; counted = AreCounts-with_row c.self.inside.counts es c.args.id.key _ (λ row. refl) c.self.invariant.counted })
+    rw c.change.ensures (IsCounted-link c.self.invariant c.args.id.key c.name_of-name.result found.0 found.1 new)
 
 pub returns-clause-valid : goal.returns-clause-valid
 returns-clause-valid c =
     let es = c.self.inside.store in
-    let P : Widgets → Type 0 = λ w. IsSome (row_at w.entries c.args.id.key) in
     let K : Widgets → Type 0 = λ w. IfSome c.args.variable (λ (v : Id). row_kind w.entries v.key ≡ Some Variable) in
     let O : Widgets → Type 0 = λ w. IfSome c.args.variable (λ (v : Id). row_client w.entries v.key ≡ row_client w.entries c.args.id.key) in
-    let live : IsSome (row_at es c.args.id.key) = subst P (sym c.self.view_is) c.requires.live in
     let kind : IfSome c.args.variable (λ (v : Id). row_kind es v.key ≡ Some Variable) = subst K (sym c.self.view_is) c.requires.variable in
     let owner : IfSome c.args.variable (λ (v : Id). row_client es v.key ≡ row_client es c.args.id.key) = subst O (sym c.self.view_is) c.requires.owner in
-    let found = none_or_some (row_at es c.args.id.key) live in
+    let found = live_row c.self.view_is c.args.id.key c.requires.live in
     let own : row_client es c.args.id.key ≡ Some (found.0).client = ap (option_map (λ (r : Row). r.client)) found.1 in
     let new : leads (nodes es) (found.0).client c.name_of-name.result ≡ true = rw c.name_of-name.ensures (leads_to es c.args.id.key (found.0).client c.self.invariant.tree.forest.own_names own c.args.variable kind owner) in
-    let kept : IsTree c.self.inside.clients.items c.self.inside.names c.change.new.self c.self.inside.cells = rw c.change.ensures (IsTree-with_link _ _ es c.self.inside.cells c.args.id.key found.0 c.name_of-name.result found.1 new c.self.invariant.tree) in
-    IsWidgets-tree _ _ _ c.self.inside.cells kept
+    rw c.change.ensures (IsWidgets-counted (IsCounted-link c.self.invariant c.args.id.key c.name_of-name.result found.0 found.1 new))
 
 pub returns-clause-kept : goal.returns-clause-kept
-returns-clause-kept c = λ other live.
-    let L : Widgets → Type 0 = λ w. is_some (row_at w.entries other) ≡ true in
-    let old : is_some (row_at c.self.inside.store other) ≡ true = subst L (sym c.self.view_is) live in
-    rw c.change.ensures (live-with_row c.self.inside.store c.args.id.key _ other old)
+returns-clause-kept c = λ other live. rw c.change.ensures (live_edited c.self.view_is c.args.id.key _ other live)

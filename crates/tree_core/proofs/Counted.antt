@@ -1,0 +1,73 @@
+-- What the changes of one row leave of all parts of a tree, and what that says of the widgets.
+use Rattle.std.proofs.Common.{◌≡◌, ◌<◌, ◌≤◌, ◌*◌, ◌∷◌, ◌++◌, [], ℕ, Bool, true, false, cond, length, get_or, List, Option, Some, None, refl}
+use Rattle.kind_core.specs.declared.kinds.Kind.{Kind}
+use Rattle.kind_core.specs.declared.shapes.Cell.{Cell}
+use Rattle.widget_model.specs.Rows.{Row, new_row, with_link, with_attached}
+use Rattle.widget_model.specs.Nodes.{is_number_of}
+use Rattle.widget_model.specs.Links.{leads}
+use Rattle.widget_model.specs.Widgets.{row_at, nodes, with_row, is_joined}
+use Rattle.widget_model.specs.Fitting.{fits_table, IsFitFilm}
+use Rattle.widget_model.specs.Forest.{IsWidgets}
+use Rattle.row_store.specs.declared.count.Count.{Count}
+use Rattle.row_store.specs.Counts.{AreCounts}
+use Rattle.row_store.specs.Index.{IsIndexed}
+use Rattle.row_store.specs.KeptSlots.{Kept}
+use Rattle.row_store.proofs.CountsLemmas.{AreCounts-with_row}
+use Rattle.tree_core.specs.Children.{HasChildren}
+use Rattle.tree_core.specs.Kept.{IsGrove, IsCounted}
+use Rattle.tree_core.specs.Refusals.{add_refusal}
+use Rattle.tree_core.proofs.TreeKept.{IsTree-push, IsTree-renamed, IsTree-join, IsTree-grown, LeavesTies, IsWidgets-tree, IsTree-leaves, IsTree-with_link, IsTree-attached, fits_at}
+use Rattle.tree_core.proofs.PlacesKept.{IsPlaced-with_row, IsPlaced-push, IsPlaced-grown, IsPlaced-join}
+
+module _ {clients : List ℕ} {names : List ((ℕ × List ℕ) × ℕ)} {es : List (ℕ × Row)} {cells : List (Option ℕ)} {counts : List Count} {kept : Kept} (parts : IsCounted clients names es cells counts kept) where
+  pub IsWidgets-counted : IsWidgets (record { clients = clients; entries = es; places = kept.slots })
+  IsWidgets-counted = IsWidgets-tree clients names es cells kept.slots parts.tree parts.placed.seen
+
+  -- a change that leaves where the row hangs and to what it is linked
+  pub IsCounted-leaves : (id : ℕ) (change : Row → Row) (row : Row) → row_at es id ≡ Some row → LeavesTies change → (fits_table row ≡ true → fits_table (change row) ≡ true) → ((r : Row) → row_at es id ≡ Some r → IsFitFilm r → IsFitFilm (change r)) → IsCounted clients names (with_row id change es) cells counts kept
+  IsCounted-leaves id change row there leaves fits films =
+      record {
+        tree = IsTree-leaves clients names es cells id change row parts.tree there leaves (fits (fits_at es id row parts.tree.fitting there)) films;
+        counted = AreCounts-with_row counts es id change leaves.node parts.counted;
+        placed = IsPlaced-with_row parts.placed id change;
+      }
+
+  -- a link to a Variable
+  pub IsCounted-link : (id : ℕ) (link : Option (List ℕ)) (row : Row) → row_at es id ≡ Some row → leads (nodes es) row.client link ≡ true → IsCounted clients names (with_row id (with_link link) es) cells counts kept
+  IsCounted-link id link row there new =
+      record {
+        tree = IsTree-with_link clients names es cells id row link there new parts.tree;
+        counted = AreCounts-with_row counts es id (with_link link) (λ r. refl) parts.counted;
+        placed = IsPlaced-with_row parts.placed id (with_link link);
+      }
+
+  -- a widget that is hung in another, or taken out of one
+  pub IsCounted-attached : (new_cells : List (Option ℕ)) (id : ℕ) (attached : Option (List ℕ × Cell)) (row : Row) → row_at es id ≡ Some row → IsGrove (with_row id (with_attached attached) es) → HasChildren (with_row id (with_attached attached) es) new_cells → length new_cells ≡ length cells → IsCounted clients names (with_row id (with_attached attached) es) new_cells counts kept
+  IsCounted-attached new_cells id attached row there grove children len =
+      record {
+        tree = IsTree-attached clients names es cells new_cells id attached row there grove children len parts.tree;
+        counted = AreCounts-with_row counts es id (with_attached attached) (λ r. refl) parts.counted;
+        placed = IsPlaced-with_row parts.placed id (with_attached attached);
+      }
+
+  -- a new row of a joined client, where there was memory for it
+  pub IsCounted-added : (added : Bool) (new_names : List ((ℕ × List ℕ) × ℕ)) (new_counts : List Count) (id client : ℕ) (name : List ℕ) (kind : Kind) → row_at es id ≡ None → add_refusal (nodes es) client name kind ≡ None → is_number_of client id ≡ true → is_joined clients client ≡ true → IsIndexed new_names (nodes (cond added (es ++ (id, new_row client name kind) ∷ []) es)) → AreCounts new_counts (nodes (cond added (es ++ (id, new_row client name kind) ∷ []) es)) → IsCounted clients new_names (cond added (es ++ (id, new_row client name kind) ∷ []) es) cells new_counts kept
+  IsCounted-added true new_names new_counts id client name kind absent allowed own member indexed counted =
+      record {
+        tree = IsTree-push clients names new_names es cells id client name kind absent allowed own member indexed parts.tree;
+        counted = counted;
+        placed = IsPlaced-push parts.placed id (new_row client name kind);
+      }
+  IsCounted-added false new_names new_counts id client name kind absent allowed own member indexed counted =
+      record { tree = IsTree-renamed clients names new_names es cells indexed parts.tree; counted = counted; placed = parts.placed }
+
+  -- one more client, where there was memory for it
+  pub IsCounted-joined : (joins : Bool) (new_cells : List (Option ℕ)) (new : Kept) (client : ℕ) → 1 ≤ client → client ≤ 16 → ((place : ℕ) → get_or new_cells place None ≡ get_or cells place None) → length cells ≤ length new_cells → 32768 * client ≤ length new_cells → new.slots ≡ kept.slots → kept.made ≤ new.made → 128 * client ≤ new.made → IsCounted (cond joins (clients ++ client ∷ []) clients) names es new_cells counts new
+  IsCounted-joined true new_cells new client low high same longer reach slots made more =
+      record {
+        tree = IsTree-join clients names es cells new_cells client low high same longer reach parts.tree;
+        counted = parts.counted;
+        placed = IsPlaced-join (IsPlaced-grown parts.placed new slots made) client more;
+      }
+  IsCounted-joined false new_cells new client low high same longer reach slots made more =
+      record { tree = IsTree-grown clients names es cells new_cells same longer parts.tree; counted = parts.counted; placed = IsPlaced-grown parts.placed new slots made }

@@ -1,0 +1,16 @@
+use Rattle.std.proofs.Common.{ap, ◌∙◌}
+use Rattle.std.proofs.lemmas.Bool.{eqb-false}
+use Rattle.std.proofs.lemmas.List.{get_or-set_other}
+use Rattle.tree_core.proofs.TreeKept.{live_row}
+use Rattle.tree_core.proofs.PlacesKept.{slot_made, placed_there, IsPlaced-set}
+use Rattle.tree_core.proofs.tree.Tree.set_place.Goals as goal
+
+pub put-requires : goal.put-requires
+put-requires c =
+    let found = live_row c.self.view_is c.args.id.key c.requires in
+    slot_made c.self.invariant.placed c.self.invariant.tree.forest c.args.id.key found.0 found.1
+
+pub returns-clause-now : goal.returns-clause-now
+returns-clause-now c =
+    let found = live_row c.self.view_is c.args.id.key c.requires in
+    rw c.put.ensures.slots (placed_there c.self.invariant.placed c.self.invariant.tree.forest c.args.id.key found.0 found.1 c.args.place)
