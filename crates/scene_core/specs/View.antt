@@ -1,16 +1,17 @@
 -- A view is seen as a scene: each widget is named by its key, its client and name, in place of its number. In a view of
 -- a desk the open windows are live Windows, each once, and the screen's size is in range.
 use Rattle.std.specs.Prelude.{ℕ, ◌≡◌, ◌≤◌, List, [], ◌∷◌, Option, Some}
-use Rattle.std.specs.List.{All}
+use Rattle.std.specs.List.{All, Contains}
 use Rattle.std.specs.Option.{option_map, option_map_or}
 use Rattle.kind_core.specs.declared.kinds.Kind.TheVariants.{Window}
 use Rattle.widget_model.specs.Rows.{Row}
 use Rattle.widget_model.specs.Keys.{key_at}
-use Rattle.widget_model.specs.Widgets.{Widgets, rows_of, row_at, row_kind}
+use Rattle.widget_model.specs.Widgets.{Widgets, rows_of, row_at, row_kind, place_at}
 use Rattle.widget_model.specs.Relatives.{root_id}
 use Rattle.tree_core.specs.declared.pointer.Pointer.{Pointer}
 use Rattle.tree_core.specs.Holds.{pointer_seen}
 use Rattle.scene_model.specs.Scene.{Scene}
+use Rattle.scene_model.specs.Placing.{place_in}
 use Rattle.scene_core.specs.declared.view.View.{View}
 use Rattle.stack_core.specs.Stack.{IsStack, holds_key}
 
@@ -44,3 +45,7 @@ pub record IsView (view : View) : Type 0 where
   pub width_most : view.width ≤ 1024
   pub height_least : 16 ≤ view.height
   pub height_most : view.height ≤ 768
+
+-- The kept place of each open window and of each widget under one is its place.
+pub record KeepsPlaces (widgets : Widgets) (windows : List ℕ) : Type 0 where
+  pub each : (id window : ℕ) → Contains windows window → root_id widgets id ≡ Some window → place_at widgets id ≡ option_map (place_in (rows_of widgets)) (row_at widgets.entries id)

@@ -1,13 +1,12 @@
 -- Two children of one widget stand in different cells of a Grid, so their places share no pixel.
-use Rattle.std.proofs.Common.{◌≡◌, ◌≤◌, ◌<◌, ◌+◌, ◌*◌, ◌-◌, ℕ, zero, suc, ℤ, pos, ◌+ℤ◌, Bool, true, false, ◌&&◌, nat_eq, nat_lt, List, [], ◌∷◌, length, sum, take, Option, Some, None, refl, sym, ap, ◌∙◌, arith, slice_get, slice_index_or}
-use Rattle.std.proofs.lemmas.Bool.{true≢false, and_parts, and_from, eqb-true, eqb-false, ltb-true, false_from_ne_true}
+use Rattle.std.proofs.Common.{◌≡◌, ◌≤◌, ◌<◌, ◌+◌, ◌*◌, ◌-◌, ℕ, zero, suc, ℤ, pos, ◌+ℤ◌, Bool, true, false, ◌&&◌, nat_eq, nat_lt, List, [], ◌∷◌, sum, take, Option, Some, refl, sym, ap, ◌∙◌, arith, slice_get, slice_index_or}
+use Rattle.std.proofs.lemmas.Bool.{true≢false, and_parts, and_from, eqb-true, ltb-true}
 use Rattle.std.proofs.lemmas.Bool.Decides.{nat_tests}
 use Rattle.std.proofs.lemmas.Int.{ints}
 use Rattle.std.proofs.lemmas.List.Sums.{sum_by-cons}
 use Rattle.std.specs.Cmp.{nat_eq_equiv}
 use Rattle.std.specs.Cmp.Lexicographic.{nat_list_eq_equiv}
 use Rattle.std.specs.Option.{option_and_then, option_map_or}
-use Rattle.std.specs.Str.{bytes_eq}
 use Rattle.geom_core.specs.declared.rectangle.Rect.{Rect}
 use Rattle.geom_core.specs.Rect.{in_span, in_rect}
 use Rattle.kind_core.specs.declared.kinds.Kind.{Kind}
@@ -16,7 +15,7 @@ use Rattle.kind_core.specs.declared.shapes.Cell.{Cell}
 use Rattle.widget_model.specs.Rows.{Row}
 use Rattle.widget_model.specs.Named.{row_named}
 use Rattle.widget_model.specs.Keys.{key_of, same_key, row_of, parent_key}
-use Rattle.widget_model.specs.Trees.{most_levels, ends_within, has_children, child_in}
+use Rattle.widget_model.specs.Trees.{most_levels, has_children}
 use Rattle.widget_model.specs.Planted.{IsPlanted, is_cell, takes_cell, has_cell, hangs_right}
 use Rattle.widget_model.proofs.Hanging.{all_at, HangsIn-from, hangs_right-at}
 use Rattle.widget_model.proofs.Cells.{child_in-own}
@@ -24,16 +23,16 @@ use Rattle.scene_model.specs.declared.axis.Axis.{Axis}
 use Rattle.scene_model.specs.declared.axis.Axis.TheVariants.{Across, Down}
 use Rattle.scene_model.specs.declared.axis.Span.{Span}
 use Rattle.scene_model.specs.Spans.{inset, rect_of}
-use Rattle.scene_model.specs.Tracks.{cell_of, track_in, needs_of, rules_of, track_lengths, track_span}
+use Rattle.scene_model.specs.Tracks.{track_in, needs_of, rules_of, track_lengths, track_span}
 use Rattle.scene_model.specs.Least.{least_of}
 use Rattle.scene_model.specs.Placing.{grid_span, child_span, parent_row, span_along, place_in}
 use Rattle.scene_model.specs.Scene.{Scene}
 use Rattle.scene_model.specs.Showing.{place_of, parent_in, shows_in, shows_at}
 use Rattle.scene_model.specs.ShowingLaws.{PlacesOfChildrenAreApart, ChildrenShareNoPixel, ShownLiesInParents, ShownLiesInPlace}
-use Rattle.scene_model.proofs.Parents.{IsFound, HangsFrom, HangsFrom-parent_row, key_of-found, row_of-own}
+use Rattle.scene_model.proofs.Parents.{HangsFrom, HangsFrom-parent_row, key_of-found, row_of-own}
 use Rattle.scene_model.proofs.Levels.{span_along-child}
 use Rattle.scene_model.proofs.LevelLaws.{ends-found, IsParentKey-parent_key, children_show_within_parents}
-use Rattle.scene_model.proofs.Leasts.{IsFitCell, IsFitCell-attached, IsFitCell-takes, cell_of-attached, track_in-some}
+use Rattle.scene_model.proofs.Leasts.{IsFitCell-attached, cell_of-attached, track_in-some}
 
 -- a track ends where the next begins, or before
 track-ends : (lengths : List ℕ) (i j : ℕ) → i < j → sum (take i lengths) + slice_index_or lengths i 0 ≤ sum (take j lengths)

@@ -1,12 +1,12 @@
 -- What the limits of its values and texts say of a row, and of what it shows.
-use Rattle.std.proofs.Common.{◌≡◌, ◌≤◌, ◌<◌, ◌+◌, ◌%◌, ◌^◌, ℕ, zero, suc, ℤ, pos, negsuc, ◌≤ℤ◌, neg_ℤ, Bool, true, false, cond, ◌&&◌, nat_eq, List, [], ◌∷◌, ◌++◌, length, Option, Some, None, is_ok, Result, Ok, Err, unsigned_abs, refl, sym, ap, ◌∙◌, arith, slice_get, slice_index_or, length-append, add-suc}
+use Rattle.std.proofs.Common.{◌≡◌, ◌≤◌, ◌<◌, ◌+◌, ◌%◌, ◌^◌, ℕ, suc, ℤ, pos, negsuc, ◌≤ℤ◌, Bool, true, false, cond, nat_eq, List, [], ◌∷◌, ◌++◌, length, Option, Some, None, is_ok, Result, Ok, Err, unsigned_abs, refl, sym, ◌∙◌, arith, slice_get, length-append}
 use Rattle.std.proofs.lemmas.Bool.{true≢false, and_parts, and_from, leb-true}
 use Rattle.std.proofs.lemmas.Bool.Decides.{nat_tests}
 use Rattle.std.proofs.lemmas.Fmt.{length_signed_le, decimal_by_steps}
 use Rattle.std.proofs.lemmas.Int.{ints}
 use Rattle.std.specs.Fmt.{decimal, signed_decimal}
 use Rattle.std.specs.Int.Signed.{mag}
-use Rattle.std.specs.List.{find, list_all}
+use Rattle.std.specs.List.{list_all}
 use Rattle.std.specs.Option.{option_map, option_and_then}
 use Rattle.kind_core.specs.declared.kinds.Kind.{Kind}
 use Rattle.kind_core.specs.declared.kinds.Kind.TheVariants.{Window, Grid, Frame, Button, Label, Entry, Scale, Scrollbar, Variable, VScreen}
@@ -22,10 +22,10 @@ use Rattle.kind_core.specs.Effective.{label_text}
 use Rattle.widget_model.specs.Rows.{Row, all_attrs, attr_slot, attr_of}
 use Rattle.widget_model.specs.Named.{has_name, row_named}
 use Rattle.widget_model.specs.Fitting.{fits_attr, fits_table}
-use Rattle.widget_model.proofs.Hanging.{all_at, find-passes, find-element}
-use Rattle.scene_model.specs.Fit.{fits_text, fits_texts}
+use Rattle.widget_model.proofs.Hanging.{all_at, find-element}
+use Rattle.scene_model.specs.Fit.{fits_text, fits_texts, IsTextOf}
 use Rattle.scene_model.proofs.Lists.{all_or}
-use Rattle.scene_model.specs.Values.{number_in, text_in, number_of, count_of, text_of, linked_value, label_of}
+use Rattle.scene_model.specs.Values.{number_in, text_in, number_of, text_of, linked_value, label_of}
 
 pub record IsBetween (least greatest n : ℤ) : Type 0 where
   pub low : least ≤ℤ n
@@ -140,12 +140,8 @@ text_of-is_text row attr fits = by (attr_of row attr) (all_or fits_text row.valu
     by (Some (Number n)) h = refl
     by (Some (Words text)) h = h
 
-pub record IsText (most : ℕ) (text : List ℕ) : Type 0 where
-  pub length : length text ≤ most
-  pub printable : list_all is_printable text ≡ true
-
-pub IsText-is_text : (text : List ℕ) → is_text text ≡ true → IsText 64 text
-IsText-is_text text is = let parts = and_parts _ _ is in record { length = leb-true (length text) 64 parts.0; printable = parts.1 }
+pub IsTextOf-is_text : (text : List ℕ) → is_text text ≡ true → IsTextOf 64 text
+IsTextOf-is_text text is = let parts = and_parts _ _ is in record { length = leb-true (length text) 64 parts.0; printable = parts.1 }
 
 -- decimals print
 list_all-append : {X : Type 0} (p : X → Bool) (xs ys : List X) → list_all p xs ≡ true → list_all p ys ≡ true → list_all p (xs ++ ys) ≡ true
@@ -163,7 +159,7 @@ mag-between : (v : ℤ) → IsBetween (minus 1000000) (pos 1000000) v → mag v 
 mag-between (pos n) is = omega (arith, ints, is.high)
 mag-between (negsuc n) is = omega (arith, ints, is.low)
 
-signed_decimal-text : (v : ℤ) → IsBetween (minus 1000000) (pos 1000000) v → IsText 8 (signed_decimal v)
+signed_decimal-text : (v : ℤ) → IsBetween (minus 1000000) (pos 1000000) v → IsTextOf 8 (signed_decimal v)
 signed_decimal-text v is = record { length = length_signed_le 7 v (let m = mag-between v is in omega arith) (let m = mag-between v is in omega arith); printable = by v is }
   where
     by : (v : ℤ) → IsBetween (minus 1000000) (pos 1000000) v → list_all is_printable (signed_decimal v) ≡ true
@@ -171,13 +167,13 @@ signed_decimal-text v is = record { length = length_signed_le 7 v (let m = mag-b
     by (negsuc n) is = decimal-printable (suc n) (omega (arith, ints, is.low))
 
 -- a Label shows at most 72 bytes, and each prints
-pub label_of-text : (rows : List Row) (row : Row) → list_all fits_table rows ≡ true → fits_texts row ≡ true → IsText 72 (label_of rows row)
+pub label_of-text : (rows : List Row) (row : Row) → list_all fits_table rows ≡ true → fits_texts row ≡ true → IsTextOf 72 (label_of rows row)
 label_of-text rows row fits texts = by (linked_value rows row) refl
   where
-    own : IsText 64 (text_of Text row)
-    own = IsText-is_text (text_of Text row) (text_of-is_text row Text texts)
+    own : IsTextOf 64 (text_of Text row)
+    own = IsTextOf-is_text (text_of Text row) (text_of-is_text row Text texts)
 
-    by : (o : Option ℤ) → linked_value rows row ≡ o → IsText 72 (label_text (text_of Text row) o)
+    by : (o : Option ℤ) → linked_value rows row ≡ o → IsTextOf 72 (label_text (text_of Text row) o)
     by None is = record { length = omega (arith, own.length); printable = own.printable }
     by (Some v) is =
         let shown = signed_decimal-text v (linked_value-between rows row v fits is) in

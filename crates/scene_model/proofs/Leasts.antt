@@ -1,9 +1,8 @@
 -- No widget needs more than 4,096 pixels on an axis, and no track more than 4,128.
-use Rattle.std.proofs.Common.{◌≡◌, ◌≤◌, ◌<◌, ◌+◌, ◌*◌, ◌-◌, max, min, ℕ, zero, suc, ℤ, pos, Bool, true, false, cond, ◌&&◌, nat_eq, nat_le, List, [], ◌∷◌, map, length, Option, Some, None, refl, sym, ap, ◌∙◌, arith, slice_get, slice_index_or, sum, take, get_or, length-take}
-use Rattle.std.proofs.lemmas.Bool.{true≢false, and_parts, leb-true, eqb-true}
-use Rattle.std.proofs.lemmas.List.Elements.{All-map, All-filter, All-weaker, All-from_get_or, All-take}
+use Rattle.std.proofs.Common.{◌≡◌, ◌≤◌, ◌<◌, ◌+◌, ◌*◌, ◌-◌, min, ℕ, zero, suc, Bool, true, false, cond, ◌&&◌, nat_eq, nat_le, List, [], ◌∷◌, map, length, Option, Some, None, refl, sym, ap, ◌∙◌, arith, slice_get, slice_index_or, sum, get_or}
+use Rattle.std.proofs.lemmas.Bool.{and_parts, leb-true}
+use Rattle.std.proofs.lemmas.List.Elements.{All-map, All-filter, All-from_get_or}
 use Rattle.std.proofs.lemmas.List.FromFn.{length-map-range_with_len, get_or-map-range_with_len}
-use Rattle.std.proofs.lemmas.List.Sums.{sum_by-le}
 use Rattle.std.specs.List.{list_all, All, range_with_len, filter}
 use Rattle.std.specs.Option.{option_map_or, IfSome}
 use Rattle.kind_core.specs.declared.kinds.Kind.{Kind}
@@ -15,7 +14,7 @@ use Rattle.grid_layout.proofs.Shares.{width_of-le}
 use Rattle.vscreen_core.specs.FilmState.{FilmState, IsFilm}
 use Rattle.widget_model.specs.Rows.{Row}
 use Rattle.widget_model.specs.Trees.{is_child, has_children}
-use Rattle.widget_model.specs.Planted.{is_cell, takes_cell, has_cell, hangs_right, IsPlanted}
+use Rattle.widget_model.specs.Planted.{is_cell, takes_cell, hangs_right, IsPlanted}
 use Rattle.widget_model.specs.Fitting.{fits_table, fits_rule, fits_rules, IsFitFilm}
 use Rattle.widget_model.proofs.Hanging.{all_at, hangs_right-at}
 use Rattle.scene_model.specs.declared.axis.Axis.{Axis}
@@ -23,11 +22,11 @@ use Rattle.scene_model.specs.declared.axis.Axis.TheVariants.{Across, Down}
 use Rattle.scene_model.specs.Spans.{along}
 use Rattle.scene_model.specs.Values.{count_of, text_of, label_of, is_vertical}
 use Rattle.scene_model.specs.Fit.{fits_texts, AreFit}
-use Rattle.scene_model.specs.Tracks.{Need, cell_of, track_in, need_of, needs_of, greatest, rules_of, rule_of, asked_in, last_asked, track_least, tracks_used, track_leasts, track_weights, track_lengths, grid_least}
+use Rattle.scene_model.specs.Tracks.{Need, cell_of, track_in, need_of, needs_of, rules_of, rule_of, asked_in, last_asked, track_least, tracks_used, track_leasts, track_weights, track_lengths, grid_least}
 use Rattle.scene_model.specs.Least.{bar_size, own_size, is_grid, least_by, least_in, least_of}
 use Rattle.scene_model.proofs.Lists.{all_or, greatest-most, All-map-filter}
 use Rattle.scene_model.proofs.Parents.{IsChildOf-is_child}
-use Rattle.scene_model.proofs.FitRows.{IsText-is_text, text_of-is_text, label_of-text, count_of-takes, Takes}
+use Rattle.scene_model.proofs.FitRows.{IsTextOf-is_text, text_of-is_text, label_of-text, count_of-takes}
 
 -- all that is asked of a row's own parts
 pub record IsFitRow (row : Row) : Type 0 where
@@ -73,7 +72,7 @@ own_size-most rows axis row all fit = by row.kind refl
 
     by : (kind : Kind) → row.kind ≡ kind → along axis (own_size kind rows row).0 (own_size kind rows row).1 ≤ 4096
     by Label is = along-most axis 4096 (6 * length (label_of rows row) + 4) 12 (let text = label_of-text rows row all fit.texts in omega (arith, text.length)) (omega arith)
-    by Button is = along-most axis 4096 (6 * length (text_of Text row) + 8) 16 (let text = IsText-is_text (text_of Text row) (text_of-is_text row Text fit.texts) in omega (arith, text.length)) (omega arith)
+    by Button is = along-most axis 4096 (6 * length (text_of Text row) + 8) 16 (let text = IsTextOf-is_text (text_of Text row) (text_of-is_text row Text fit.texts) in omega (arith, text.length)) (omega arith)
     by Entry is =
         let cols = count_of-takes row Cols 1 64 (rw is (record { none = refl; words = λ text. refl; numbers = λ n. refl })) fit.values in
         along-most axis 4096 (6 * count_of Cols row + 4) 12 (omega (arith, cols.most)) (omega arith)

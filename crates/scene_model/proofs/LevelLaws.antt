@@ -1,20 +1,19 @@
 -- The laws of levels.
-use Rattle.std.proofs.Common.{◌≡◌, ◌≤◌, ℕ, suc, ℤ, ◌&&◌, List, Option, Some, None, true, refl, sym, ap, ◌∙◌, arith}
-use Rattle.std.specs.Option.{option_map, option_and_then}
+use Rattle.std.proofs.Common.{◌≡◌, ℕ, ◌&&◌, List, Option, Some, None, true, refl, sym, ap, ◌∙◌, arith}
+use Rattle.std.specs.Option.{option_map}
 use Rattle.geom_core.specs.Rect.{in_rect}
-use Rattle.kind_core.specs.declared.shapes.Cell.{Cell}
 use Rattle.widget_model.specs.Rows.{Row}
-use Rattle.widget_model.specs.Named.{AreNamedApart, has_name, row_named}
+use Rattle.widget_model.specs.Named.{has_name}
 use Rattle.widget_model.specs.Keys.{key_of, row_of, parent_key, root_key}
 use Rattle.widget_model.specs.Trees.{ends_within, most_levels, parent_of}
 use Rattle.widget_model.specs.Planted.{IsPlanted}
 use Rattle.widget_model.proofs.Hanging.{find-element, HangsIn-from}
-use Rattle.scene_model.specs.LevelLaws.{SpansComeFromParents, LeastsComeFromChildren, ChildrenShowWithinParents, ChildrenHaveTheirParentsRoot, LowestComesFromChild, MoreLevelsChangeNothing, MoreLevels}
+use Rattle.scene_model.specs.LevelLaws.{SpansComeFromParents, LeastsComeFromChildren, ChildrenShowWithinParents, ChildrenHaveTheirParentsRoot, LowestComesFromChild, MoreLevels}
 use Rattle.scene_model.specs.Least.{least_of}
 use Rattle.scene_model.specs.Placing.{span_along}
 use Rattle.scene_model.specs.Scene.{Scene}
 use Rattle.scene_model.specs.Showing.{place_of, parent_in, shows_at}
-use Rattle.scene_model.proofs.Parents.{IsFound, HangsFrom-parent_row}
+use Rattle.scene_model.proofs.Parents.{HangsFrom-parent_row}
 use Rattle.scene_model.proofs.Levels.{span_in-loose, span_along-child, shows_in-loose, shows_at-child, root_in-loose, root_key-child}
 use Rattle.scene_model.proofs.LevelsDown.{AllEnd-planted, least_in-loose, least_of-children, lowest_in-loose, lowest_in-child}
 

@@ -1,6 +1,6 @@
 -- More levels change nothing for what goes down, where the widgets below are no deeper than a tree can be. So a least
 -- length comes from those of the children.
-use Rattle.std.proofs.Common.{◌≡◌, ◌≤◌, ◌+◌, ℕ, zero, suc, ℤ, Bool, true, false, cond, ◌&&◌, List, Option, Some, None, refl, sym, ap, ◌∙◌, arith, slice_get}
+use Rattle.std.proofs.Common.{◌≡◌, ◌≤◌, ◌+◌, ℕ, zero, suc, ℤ, true, false, cond, ◌&&◌, List, Option, Some, None, refl, sym, ap, ◌∙◌, arith, slice_get}
 use Rattle.std.proofs.lemmas.Bool.{true≢false, and_parts}
 use Rattle.std.specs.List.{find}
 use Rattle.std.specs.Option.{option_map, option_map_or}
@@ -12,12 +12,12 @@ use Rattle.widget_model.specs.Planted.{IsPlanted}
 use Rattle.widget_model.proofs.Hanging.{all_at, find-passes, find-element, row_named-own}
 use Rattle.scene_model.specs.declared.axis.Axis.{Axis}
 use Rattle.scene_model.specs.Spans.{along}
-use Rattle.scene_model.specs.Tracks.{Need, need_of, needs_of, rules_of, grid_least}
+use Rattle.scene_model.specs.Tracks.{Need, need_of, rules_of, grid_least}
 use Rattle.scene_model.specs.Least.{own_size, is_grid, least_by, least_in, least_of}
 use Rattle.scene_model.specs.Scene.{Scene}
 use Rattle.scene_model.specs.Showing.{shows_at, child_at, lowest_in}
 use Rattle.scene_model.proofs.Lists.{map-filter-same}
-use Rattle.scene_model.proofs.Parents.{IsFound, IsChildOf, IsChildOf-is_child, ends_within-child}
+use Rattle.scene_model.proofs.Parents.{IsChildOf-is_child, ends_within-child}
 
 -- going up from each row ends within so many levels
 pub record AllEnd (most : ℕ) (rows : List Row) : Type 0 where
@@ -34,7 +34,7 @@ least_by-same f g axis rows row same =
     (map-filter-same (need_of f axis) (need_of g axis) (is_child row.client row.name) rows (λ i child there is. ap (λ (least : ℕ). need_of (λ other. least) axis child) (same i child there is)))
 
 -- a child is one level deeper
-deeper : (few : ℕ) (rows : List Row) (client : ℕ) (name : List ℕ) (i : ℕ) (child : Row) → AreNamedApart rows → slice_get rows i ≡ Some child → is_child client name child ≡ true → ends_within few rows client name ≡ false → ends_within (suc few) rows child.client child.name ≡ false
+pub deeper : (few : ℕ) (rows : List Row) (client : ℕ) (name : List ℕ) (i : ℕ) (child : Row) → AreNamedApart rows → slice_get rows i ≡ Some child → is_child client name child ≡ true → ends_within few rows client name ≡ false → ends_within (suc few) rows child.client child.name ≡ false
 deeper few rows client name i child apart there is deep =
     ends_within-child few rows client name child (record { named = row_named-own rows i child apart there }) (IsChildOf-is_child client name child is) ∙ deep
 
@@ -56,27 +56,23 @@ unfolding least_of
 least_of-children rows axis i row planted apart there = least_in-children most_levels rows axis i row apart (AllEnd-planted rows planted) there
 
 -- the child that shows a pixel is a row
-record IsChildAt (scene : Scene) (key child : ℕ × List ℕ) : Type 0 where
-  i : ℕ
-  row : Row
-  there : slice_get scene.rows i ≡ Some row
-  is : is_child key.0 key.1 row ≡ true
-  keyed : key_of row ≡ child
+pub record IsChildAt (scene : Scene) (key child : ℕ × List ℕ) (x y : ℤ) : Type 0 where
+  pub i : ℕ
+  pub row : Row
+  pub there : slice_get scene.rows i ≡ Some row
+  pub is : is_child key.0 key.1 row ≡ true
+  pub shown : shows_at scene (key_of row) x y ≡ true
+  pub keyed : key_of row ≡ child
 
-IsChildAt-child_at : (scene : Scene) (key : ℕ × List ℕ) (x y : ℤ) (child : ℕ × List ℕ) → child_at scene key x y ≡ Some child → IsChildAt scene key child
+pub IsChildAt-child_at : (scene : Scene) (key : ℕ × List ℕ) (x y : ℤ) (child : ℕ × List ℕ) → child_at scene key x y ≡ Some child → IsChildAt scene key child x y
 IsChildAt-child_at scene key x y child at = by (find (λ (row : Row). is_child key.0 key.1 row && shows_at scene (key_of row) x y) scene.rows) refl at
   where
-    by : (o : Option Row) → find (λ (row : Row). is_child key.0 key.1 row && shows_at scene (key_of row) x y) scene.rows ≡ o → option_map key_of o ≡ Some child → IsChildAt scene key child
+    by : (o : Option Row) → find (λ (row : Row). is_child key.0 key.1 row && shows_at scene (key_of row) x y) scene.rows ≡ o → option_map key_of o ≡ Some child → IsChildAt scene key child x y
     by None found h = absurd (cc)
     by (Some row) found h =
         let place = find-element (λ (row : Row). is_child key.0 key.1 row && shows_at scene (key_of row) x y) scene.rows row found in
-        record {
-          i = place.0;
-          row = row;
-          there = place.1;
-          is = (and_parts (is_child key.0 key.1 row) (shows_at scene (key_of row) x y) (find-passes (λ (row : Row). is_child key.0 key.1 row && shows_at scene (key_of row) x y) scene.rows row found)).0;
-          keyed = cc;
-        }
+        let passes = and_parts (is_child key.0 key.1 row) (shows_at scene (key_of row) x y) (find-passes (λ (row : Row). is_child key.0 key.1 row && shows_at scene (key_of row) x y) scene.rows row found) in
+        record { i = place.0; row = row; there = place.1; is = passes.0; shown = passes.1; keyed = cc }
 
 pub lowest_in-loose : (above few most total : ℕ) (scene : Scene) (x y : ℤ) (key : ℕ × List ℕ) → above + few ≡ total → few ≤ most → AreNamedApart scene.rows → AllEnd total scene.rows → ends_within total scene.rows key.0 key.1 ≡ true → ends_within above scene.rows key.0 key.1 ≡ false
     → lowest_in most scene x y key ≡ lowest_in few scene x y key

@@ -7,3 +7,8 @@ pub mod FitRows
 pub mod Leasts
 pub mod Ranges
 pub mod Apart
+pub mod FromParents
+pub mod OwnRows
+pub mod Filling
+pub mod Looks
+pub mod TopWidget

@@ -1,40 +1,37 @@
 -- Places stay in range: a level moves a place by at most 66,016 pixels (15 tracks of 4,128, and a Frame's offset of
 -- 4,096), a place is at most 4,128 wide, and there are 12 levels.
-use Rattle.std.proofs.Common.{◌≡◌, ◌≤◌, ◌<◌, ◌+◌, ◌*◌, ◌-◌, max, ℕ, zero, suc, ℤ, pos, neg_ℤ, ◌+ℤ◌, ◌-ℤ◌, ◌≤ℤ◌, Bool, true, List, length, sum, take, Option, Some, None, refl, sym, ap, ◌∙◌, arith, slice_get, slice_index_or, length-take}
+use Rattle.std.proofs.Common.{◌≡◌, ◌≤◌, ◌+◌, ◌*◌, ◌-◌, ℕ, zero, suc, ℤ, pos, neg_ℤ, ◌≤ℤ◌, List, sum, take, Option, Some, None, refl, arith, slice_get, length-take}
 use Rattle.std.proofs.lemmas.Int.{ints}
 use Rattle.std.proofs.lemmas.List.Elements.{All-take}
 use Rattle.std.proofs.lemmas.List.Sums.{sum_by-le}
-use Rattle.std.specs.List.{list_all, All}
+use Rattle.std.specs.List.{All}
 use Rattle.std.specs.Option.{option_map_or}
-use Rattle.geom_core.specs.declared.rectangle.Rect.{Rect}
 use Rattle.geom_core.specs.Rect.{IsNear, IsInRange}
 use Rattle.kind_core.specs.declared.kinds.Kind.{Kind}
 use Rattle.kind_core.specs.declared.kinds.Kind.TheVariants.{Window, Grid, Frame, Button, Label, Entry, Scale, Scrollbar, Variable, VScreen}
 use Rattle.kind_core.specs.declared.kinds.Attr.TheVariants.{X, Y, W, H}
-use Rattle.kind_core.specs.declared.shapes.Cell.{Cell}
 use Rattle.kind_core.specs.Attributes.{minus}
 use Rattle.kind_core.specs.Effective.{frame_offset}
 use Rattle.widget_model.specs.Rows.{Row}
-use Rattle.widget_model.specs.Named.{has_name, row_named}
-use Rattle.widget_model.specs.Keys.{key_of, row_of}
+use Rattle.widget_model.specs.Named.{has_name}
+use Rattle.widget_model.specs.Keys.{row_of}
 use Rattle.widget_model.specs.Trees.{most_levels}
 use Rattle.widget_model.proofs.Hanging.{find-element}
 use Rattle.scene_model.specs.declared.axis.Axis.{Axis}
 use Rattle.scene_model.specs.declared.axis.Axis.TheVariants.{Across, Down}
 use Rattle.scene_model.specs.declared.axis.Span.{Span}
 use Rattle.scene_model.specs.Spans.{no_span, inset, content, framed}
-use Rattle.scene_model.specs.Values.{number_of, count_of, linked_value, offset_of}
+use Rattle.scene_model.specs.Values.{number_of, linked_value, offset_of}
 use Rattle.scene_model.specs.Fit.{AreFit}
 use Rattle.scene_model.specs.Tracks.{cell_of, track_in, needs_of, rules_of, track_lengths, track_span}
 use Rattle.scene_model.specs.Least.{least_of}
 use Rattle.scene_model.specs.Placing.{window_span, root_span, grid_span, child_span, parent_row, span_in, span_along, place_in}
-use Rattle.scene_model.specs.Scene.{Scene}
 use Rattle.scene_model.specs.Showing.{place_of}
-use Rattle.scene_model.specs.RangeLaws.{LeastsAreSmall, AreSmallTracks, TracksAreSmall, IsSmallSpan, SpansAreSmall, IsSmallPlace, PlacesAreInRange, PlacesOfKeysAreInRange}
+use Rattle.scene_model.specs.RangeLaws.{LeastsAreSmall, TracksAreSmall, SpansAreSmall, PlacesAreInRange, PlacesOfKeysAreInRange}
 use Rattle.scene_model.proofs.Lists.{index-most}
 use Rattle.scene_model.proofs.Parents.{HangsFrom, HangsFrom-parent_row, row_of-own}
-use Rattle.scene_model.proofs.FitRows.{IsBetween, IsCount, number_of-takes, count_of-takes, Takes}
-use Rattle.scene_model.proofs.Leasts.{IsFitRow, IsFitRow-at, IsFitCell, IsFitCell-attached, cell_of-attached, track_in-most, track_in-some, least_of-most, needs_of-fit, rules_of-fit, track_leasts-most, track_weights-most, track_lengths-most}
+use Rattle.scene_model.proofs.FitRows.{IsBetween, number_of-takes, count_of-takes}
+use Rattle.scene_model.proofs.Leasts.{IsFitRow, IsFitRow-at, IsFitCell, IsFitCell-attached, cell_of-attached, track_in-most, least_of-most, needs_of-fit, rules_of-fit, track_leasts-most, track_weights-most, track_lengths-most}
 
 -- a span of at most 4,128 pixels that begins at most so far from 0
 pub record IsAt (bound : ℕ) (span : Span) : Type 0 where

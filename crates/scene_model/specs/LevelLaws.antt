@@ -1,6 +1,6 @@
 -- What is proved of levels: no tree is deeper than they count, so that what is asked of a widget comes from its parent,
 -- or from its children, and more levels change nothing.
-use Rattle.std.specs.Prelude.{◌≡◌, ◌≤◌, ℕ, ℤ, ◌&&◌, List, Option, Some}
+use Rattle.std.specs.Prelude.{◌≡◌, ◌≤◌, ℕ, ℤ, ◌&&◌, List, Some}
 use Rattle.std.specs.Option.{option_map_or}
 use Rattle.geom_core.specs.Rect.{in_rect}
 use Rattle.widget_model.specs.Rows.{Row}

@@ -12,6 +12,10 @@ pub mod Colours
 pub mod LevelLaws
 pub mod RangeLaws
 pub mod ShowingLaws
+pub mod TopLaws
+pub mod DependLaws
+pub mod FillLaws
+pub mod LookLaws
 pub mod Windows
 pub mod OpenWindows
 pub mod Picture

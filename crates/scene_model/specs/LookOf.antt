@@ -1,5 +1,5 @@
 -- What each widget of a scene looks like: all that its pixels are made from, but for its size.
-use Rattle.std.specs.Prelude.{ℕ, Bool, false, ◌&&◌, List, Option, Some, None, nat_eq, unsigned_abs}
+use Rattle.std.specs.Prelude.{ℕ, Bool, false, List, unsigned_abs}
 use Rattle.std.specs.Option.{option_map_or}
 use Rattle.kind_core.specs.declared.kinds.Kind.{Kind}
 use Rattle.kind_core.specs.declared.kinds.Kind.TheVariants.{Window, Grid, Frame, Button, Label, Entry, Scale, Scrollbar, Variable, VScreen}

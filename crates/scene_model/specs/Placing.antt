@@ -1,5 +1,5 @@
 -- The place of a widget: the pixels that it takes, from its window down. A widget that hangs under no Window has none.
-use Rattle.std.specs.Prelude.{ℕ, zero, suc, pos, List, Option}
+use Rattle.std.specs.Prelude.{ℕ, zero, suc, List, Option}
 use Rattle.std.specs.Option.{option_map_or, option_and_then}
 use Rattle.kind_core.specs.declared.kinds.Kind.{Kind}
 use Rattle.kind_core.specs.declared.kinds.Kind.TheVariants.{Window, Grid, Frame}

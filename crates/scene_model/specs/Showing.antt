@@ -1,12 +1,11 @@
 -- What of a widget the screen shows, and the widget on top at each pixel. A pixel is (x, y), counted from 0 at the
 -- screen's upper left corner.
-use Rattle.std.specs.Prelude.{ℕ, zero, suc, ℤ, pos, Bool, false, ◌&&◌, List, Option, Some, None}
+use Rattle.std.specs.Prelude.{ℕ, zero, suc, ℤ, pos, Bool, false, ◌&&◌, List, Option}
 use Rattle.std.specs.List.{find, list_any}
 use Rattle.std.specs.Option.{option_map, option_map_or}
 use Rattle.geom_core.specs.declared.rectangle.Rect.{Rect}
 use Rattle.geom_core.specs.Rect.{in_rect}
 use Rattle.geom_core.specs.Count.{screen_of}
-use Rattle.widget_model.specs.Rows.{Row}
 use Rattle.widget_model.specs.Trees.{is_child, most_levels}
 use Rattle.widget_model.specs.Keys.{key_of, same_key, row_of, parent_key, root_key}
 use Rattle.scene_model.specs.Scene.{Scene}

@@ -1,5 +1,5 @@
 -- What is proved of what widgets show: a child shows pixels of its parent alone, and two children share none.
-use Rattle.std.specs.Prelude.{◌≡◌, ℕ, ℤ, Bool, true, false, ◌&&◌, List, Some}
+use Rattle.std.specs.Prelude.{◌≡◌, ℕ, ℤ, true, false, ◌&&◌, List, Some}
 use Rattle.geom_core.specs.Rect.{in_rect}
 use Rattle.widget_model.specs.Keys.{same_key}
 use Rattle.widget_model.specs.Planted.{IsPlanted}

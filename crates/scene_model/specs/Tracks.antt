@@ -1,6 +1,6 @@
 -- The tracks of a Grid: a track is a column, across, or a row, down; both are numbered from 1. A track needs the room
 -- that its children and its rule ask for. Those in use are 1 to the last one that has a child or a rule.
-use Rattle.std.specs.Prelude.{ℕ, ◌+◌, ◌-◌, ◌*◌, max, min, pos, ◌+ℤ◌, Bool, ◌||◌, ◌==◌, nat_lt, List, [], ◌∷◌, map, sum, take, slice_index_or, if◌then◌else◌}
+use Rattle.std.specs.Prelude.{ℕ, ◌+◌, ◌-◌, ◌*◌, max, min, pos, ◌+ℤ◌, ◌||◌, ◌==◌, nat_lt, List, [], ◌∷◌, map, sum, take, slice_index_or, if◌then◌else◌}
 use Rattle.std.specs.List.{filter, range_with_len}
 use Rattle.std.specs.Option.{option_map_or}
 use Rattle.kind_core.specs.declared.shapes.Cell.{Cell}
