@@ -6,3 +6,6 @@ pub mod CutLemmas
 pub mod StageLemmas
 pub mod KeyLemmas
 pub mod TopLemmas
+pub mod RootLemmas
+pub mod ChainLemmas
+pub mod SceneLemmas

@@ -54,7 +54,7 @@ pub child-slot : (view : View) (id slot : ℕ) → slot < slots_of view.tree.now
 unfolding layers_of slots_below
 child-slot view id slot within = get_or-map-range_with_len (child_in_slot view.tree.now id) 0 (slots_of view.tree.now id) slot slot None within (omega arith)
 
-live_kind : (row : Option Row) → option_map (λ (row : Row). row.kind) row ≡ Some Window → IsSome row
+pub live_kind : (row : Option Row) → option_map (λ (row : Row). row.kind) row ≡ Some Window → IsSome row
 live_kind None e = absurd (cc)
 live_kind (Some row) e = refl
 

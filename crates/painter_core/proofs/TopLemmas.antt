@@ -49,7 +49,7 @@ IsWindowRow-kind widgets id e = by (row_at widgets.entries id) refl e
     by (Some row) q k = record { row = row; there = q; kind = cc }
 
 -- it hangs in nothing
-alone : (widgets : Widgets) (id : ℕ) → IsWidgets widgets → (h : IsWindowRow widgets id) → h.row.attached ≡ None
+pub alone : (widgets : Widgets) (id : ℕ) → IsWidgets widgets → (h : IsWindowRow widgets id) → h.row.attached ≡ None
 alone widgets id valid h = by h.row.attached refl right
   where
     right : hangs_right (rows_of widgets) h.row ≡ true

@@ -2,3 +2,4 @@ pub mod Layers
 pub mod Trail
 pub mod Painted
 pub mod Stage
+pub mod Painting

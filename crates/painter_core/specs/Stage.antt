@@ -1,17 +1,19 @@
 -- An inner word of the proofs: what a view lays over what, widgets going by their numbers.
-use Rattle.std.specs.Prelude.{ℕ, ◌+◌, ◌/◌, ◌%◌, ℤ, pos, List, map, Option, Some, None}
-use Rattle.std.specs.List.{range_with_len}
+use Rattle.std.specs.Prelude.{◌≡◌, ℕ, ◌+◌, ◌/◌, ◌%◌, ℤ, pos, List, map, Option, Some, None}
+use Rattle.std.specs.List.{range_with_len, Contains}
 use Rattle.std.specs.Option.{option_map_or}
 use Rattle.geom_core.specs.declared.rectangle.Rect.{Rect}
 use Rattle.widget_model.specs.Widgets.{Widgets, rows_of, row_at, row_kind, IsLive}
-use Rattle.widget_model.specs.Relatives.{child_id}
+use Rattle.widget_model.specs.Relatives.{child_id, root_id}
+use Rattle.widget_model.specs.Forest.{IsWidgets}
+use Rattle.scene_model.specs.Fit.{AreFit}
 use Rattle.tree_core.specs.Children.{cells_of}
 use Rattle.scene_model.specs.Scene.{Scene}
 use Rattle.scene_model.specs.Placing.{place_in}
 use Rattle.scene_model.specs.LookOf.{look_of}
 use Rattle.scene_model.specs.Colours.{colour_in}
 use Rattle.scene_core.specs.declared.view.View.{View}
-use Rattle.scene_core.specs.View.{scene_of}
+use Rattle.scene_core.specs.View.{scene_of, IsView, KeepsPlaces}
 use Rattle.painter_core.specs.Layers.{Layers}
 
 -- the place of the numbered widget, which has no pixel where there is none
@@ -43,6 +45,16 @@ layers_of view =
       colour = colour_below view.tree.now (scene_of view);
     }
 
--- the number names a widget of the view
-abbrev pub IsThere : View → ℕ → Type 0
-IsThere view id = IsLive view.tree.now id
+-- the number names an open window of the view, or a widget under one
+pub record IsThere (view : View) (id : ℕ) : Type 0 where
+  pub live : IsLive view.tree.now id
+  pub window : ℕ
+  pub is_open : Contains view.stack.now window
+  pub root : root_id view.tree.now id ≡ Some window
+
+-- what painting asks of a view
+pub record IsPaintable (view : View) : Type 0 where
+  pub is_view : IsView view
+  pub widgets : IsWidgets view.tree.now
+  pub fit : AreFit (rows_of view.tree.now)
+  pub places : KeepsPlaces view.tree.now view.stack.now

@@ -4,8 +4,7 @@ ghost use Rattle.geom_core.specs.Rect.{area_of, in_rect, IsEnclosed, IsInRange, 
 ghost use Rattle.geom_core.specs.Splits.{row_at};
 ghost use Rattle.geom_core.specs.Count.{screen_of};
 ghost use Rattle.painter_core.specs.Painted.{Painted, Filled, Paints};
-ghost use Rattle.painter_core.specs.Stage.{layers_of, IsThere};
-ghost use Rattle.scene_core.specs.View.{IsView};
+ghost use Rattle.painter_core.specs.Stage.{layers_of, IsPaintable, IsThere};
 ghost use Rattle.painter_core.specs.Trail.{is_wanted};
 
 use crate::looks::draw_row;
@@ -38,7 +37,7 @@ fn row_of(piece: Rect, row: u32) -> Rect
 
 /// Paints a part of one row, all of whose pixels the widget shows, or none does.
 fn fill_row(view: &View<'_>, under: Option<u32>, line: Rect, canvas: &mut Canvas)
-    requires view { IsView view.now }
+    requires stage { IsPaintable view.now }
     requires there { IfSome under (IsThere view.now) }
     requires inside { IfSome under (λ id. IsInside line ((layers_of view.now).rect id)) }
     requires one_row { line.h ≡ 1 }
@@ -54,7 +53,7 @@ fn fill_row(view: &View<'_>, under: Option<u32>, line: Rect, canvas: &mut Canvas
 
 /// Paints the piece, all of whose pixels the widget shows, or none does.
 fn fill(view: &View<'_>, under: Option<u32>, piece: Rect, canvas: &mut Canvas)
-    requires view { IsView view.now }
+    requires stage { IsPaintable view.now }
     requires there { IfSome under (IsThere view.now) }
     requires inside { IfSome under (λ id. IsInside piece ((layers_of view.now).rect id)) }
     requires filled { 0 < area_of piece }
@@ -88,7 +87,7 @@ pub fn fill_wanted(
     piece: Rect,
     canvas: &mut Canvas,
 ) -> u32
-    requires view { IsView view.now }
+    requires stage { IsPaintable view.now }
     requires there { IfSome under (IsThere view.now) }
     requires inside { IfSome under (λ id. IsInside piece ((layers_of view.now).rect id)) }
     requires filled { 0 < area_of piece }

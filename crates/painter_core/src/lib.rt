@@ -5,5 +5,8 @@
 mod filling;
 mod looks;
 mod meeting;
+mod pieces;
 mod painting;
 mod slots;
+
+pub use pieces::paint;

@@ -1,6 +1,5 @@
 ghost use Rattle.std.specs.Prelude.{◌≤◌, length, IfSome, MatchOption};
-ghost use Rattle.painter_core.specs.Stage.{layers_of, IsThere};
-ghost use Rattle.scene_core.specs.View.{IsView};
+ghost use Rattle.painter_core.specs.Stage.{layers_of, IsPaintable, IsThere};
 ghost use Rattle.painter_core.specs.Trail.{PassesAll, Finds};
 
 use crate::slots::{in_slot, place, slot_count};
@@ -19,7 +18,7 @@ pub struct Meeting {
 /// The first slot from `from` on, below the widget or among the open windows, whose widget shares pixels with the
 /// piece.
 pub fn first_meeting(view: &View<'_>, under: Option<u32>, from: u32, piece: Rect) -> Option<Meeting>
-    requires view { IsView view.now }
+    requires stage { IsPaintable view.now }
     requires there { IfSome under (IsThere view.now) }
     ensures found { MatchOption result (PassesAll (layers_of view.now) under from piece)
         (λ found. Finds (layers_of view.now) under from piece found.slot found.id found.shared) }

@@ -3,8 +3,7 @@ ghost use Rattle.canvas_core.specs.Screen.{IsScreen};
 ghost use Rattle.geom_core.specs.Rect.{area_of, IsEnclosed, IsInside};
 ghost use Rattle.geom_core.specs.Count.{screen_of};
 ghost use Rattle.painter_core.specs.Painted.{Paints};
-ghost use Rattle.painter_core.specs.Stage.{layers_of, IsThere};
-ghost use Rattle.scene_core.specs.View.{IsView};
+ghost use Rattle.painter_core.specs.Stage.{layers_of, IsPaintable, IsThere};
 ghost use Rattle.painter_core.specs.Trail.{trail, slots_from};
 
 use crate::filling::fill_wanted;
@@ -25,7 +24,7 @@ pub fn paint_from(
     piece: Rect,
     canvas: &mut Canvas,
 ) -> u32
-    requires view { IsView view.now }
+    requires stage { IsPaintable view.now }
     requires there { IfSome under (IsThere view.now) }
     requires inside { IfSome under (λ id. IsInside piece ((layers_of view.now).rect id)) }
     requires few_slots { length ((layers_of view.now).below under) ≤ 256 }

@@ -1,8 +1,7 @@
 //! What lies in what: the windows from top to bottom, and the children of a widget, in slots.
 ghost use Rattle.std.specs.Prelude.{◌≡◌, ◌<◌, ◌≤◌, length, slice_index_or, None, IfSome};
 ghost use Rattle.tree_core.specs.Children.{cells_of};
-ghost use Rattle.painter_core.specs.Stage.{layers_of, child_in_slot, IsThere};
-ghost use Rattle.scene_core.specs.View.{IsView};
+ghost use Rattle.painter_core.specs.Stage.{layers_of, child_in_slot, IsPaintable, IsThere};
 
 use geom_core::Rect;
 use kind_core::Kind;
@@ -23,7 +22,7 @@ fn cells_of(kind: Kind) -> u32
 
 /// How many slots there are below the widget, or, below none, how many open windows.
 pub fn slot_count(view: &View<'_>, under: Option<u32>) -> u32
-    requires view { IsView view.now }
+    requires stage { IsPaintable view.now }
     requires there { IfSome under (IsThere view.now) }
     ensures count { result ≡ length ((layers_of view.now).below under) }
     ensures few { result ≤ 256 }
@@ -37,7 +36,7 @@ pub fn slot_count(view: &View<'_>, under: Option<u32>) -> u32
 /// The widget in that slot below the widget, or, below none, the open window of that slot. Slots count from 0, from the
 /// top window on, and down column by column.
 pub fn in_slot(view: &View<'_>, under: Option<u32>, slot: u32) -> Option<u32>
-    requires view { IsView view.now }
+    requires stage { IsPaintable view.now }
     requires there { IfSome under (IsThere view.now) }
     requires within { slot < length ((layers_of view.now).below under) }
     ensures found { result ≡ slice_index_or ((layers_of view.now).below under) slot None }
@@ -63,8 +62,17 @@ fn child_in(view: &View<'_>, key: u32, slot: u32) -> Option<u32>
 
 /// The kept place of the widget.
 pub fn place(view: &View<'_>, id: u32) -> Rect
+    requires stage { IsPaintable view.now }
     requires there { IsThere view.now id }
     ensures { result ≡ (layers_of view.now).rect id }
 {
-    Rect { x: 0, y: 0, w: 0, h: 0 }
+    match view.tree.place_of(Id { key: id }) {
+        Some(place) => place,
+        None => Rect {
+            x: 0,
+            y: 0,
+            w: 0,
+            h: 0,
+        },
+    }
 }

@@ -37,7 +37,7 @@ fill_row-requires c =
     let some = sides_some piece.w piece.h c.requires.filled in
     let width : c.row_of.result.w ≡ piece.w = ap (λ (r : Rect). r.w) is in
     record {
-      view = c.requires.view;
+      stage = c.requires.stage;
       there = c.requires.there;
       inside = subst (λ (r : Rect). IfSome c.args.under (λ id. IsInside r (layers.rect id))) (sym is) inside;
       one_row = ap (λ (r : Rect). r.h) is;

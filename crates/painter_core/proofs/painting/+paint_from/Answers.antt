@@ -42,7 +42,7 @@ paint_from-count-requires t c =
     let on = on_screen_inside at.shared piece old found.filled inside c.requires.on_screen in
     let few = few_below c.args.view.now at.id in
     let room = area_of-inside at.shared piece (IsEnclosed-from_inside at.shared piece found.filled inside) in
-    (omega (arith, c.decreases, few, c.if-depth-eq0.false), (c.requires.view, (c.in-Some.ensures.there, (shared_in_place layers c.args.under c.args.from piece at.slot at.id at.shared found, (few, (found.filled, (on, (c.requires.valid, omega (arith, c.requires.count_fits, room)))))))))
+    (omega (arith, c.decreases, few, c.if-depth-eq0.false), (c.requires.stage, (c.in-Some.ensures.there, (shared_in_place layers c.args.under c.args.from piece at.slot at.id at.shared found, (few, (found.filled, (on, (c.requires.valid, omega (arith, c.requires.count_fits, room)))))))))
 
 pub cut-parts-requires : goal.cut-parts-requires
 cut-parts-requires t c = IsInRange-on_screen c.args.piece c.args.canvas.now c.requires.valid c.requires.on_screen
@@ -80,7 +80,7 @@ paint_from-count-requires-in-loop-part t c =
     let path = trail c.args.depth layers (slots_from layers c.args.under c.args.from) in
     let on = on_screen_kept (wanted_of c.args.only c.args.under path (covers (at.shared ∷ take i parts))) (colour_by layers c.args.under path) c.loop-part.count old now part all.painted (on_screen_inside part piece old filled inside c.requires.on_screen) in
     let room = room_for_part parts i zeros within in
-    (omega (arith, c.decreases, found.least, found.within), (c.requires.view, (c.requires.there, (inside_of layers c.args.under part piece inside c.requires.inside, (c.requires.few_slots, (filled, (on, (all.painted.valid, omega (arith, c.requires.count_fits, room, left.areas, all.few, all.painted.writes)))))))))
+    (omega (arith, c.decreases, found.least, found.within), (c.requires.stage, (c.requires.there, (inside_of layers c.args.under part piece inside c.requires.inside, (c.requires.few_slots, (filled, (on, (all.painted.valid, omega (arith, c.requires.count_fits, room, left.areas, all.few, all.painted.writes)))))))))
 
 pub loop-part-preserved : goal.loop-part-preserved
 loop-part-preserved t c =
