@@ -3,6 +3,8 @@ use Rattle.std.proofs.Common.{◌≡◌, ◌≢◌, ℕ, zero, suc, true, false,
 use Rattle.std.proofs.lemmas.Bool.{true≢false, eqb-true, eq-eqb, ne_eqb, eqb-false, cases_Bool}
 use Rattle.std.specs.Option.{option_and_then}
 use Rattle.std.specs.Map.{lookup, remove_entry}
+use Rattle.slab.specs.Slab.{Slab, get as slab_get, with_value}
+use Rattle.slab.proofs.SlabLemmas.{Updates-with_value}
 use Rattle.widget_model.specs.Rows.{Row}
 use Rattle.widget_model.specs.Widgets.{row_at, with_row, without_row}
 use Rattle.row_store.specs.Shown.{shown, IsApart, IsShown}
@@ -190,3 +192,9 @@ module _ (at at' : ℕ → Option Row) (key : ℕ) (others : (other : ℕ) → o
             let same : at' e.1 ≡ at e.1 = others e.1 (eqb-false e.1 key (apart_key es e id h.1 later)) in
             (rw (miss, same, p.1, miss, rest.0) refl, rw miss (rw same h.0, apart_part es e id h.1, rest.1))
       ]
+
+-- the rows that are seen once the one under a number has changed in the slab
+pub shown-changed : (rows : Slab Row) (keys : List (ℕ × ℕ)) (id key : ℕ) (old new : Row) (change : Row → Row) → IsShown (slab_get rows) keys → lookup (nat_eq id) keys ≡ Some key → slab_get rows key ≡ Some old → new ≡ change old → (shown (slab_get (with_value rows key new)) keys ≡ with_row id change (shown (slab_get rows) keys)) × IsShown (slab_get (with_value rows key new)) keys
+shown-changed rows keys id key old new change kept found there same =
+    let u = Updates-with_value rows key new (lookup-live (slab_get rows) keys id key kept found) in
+    shown-change (slab_get rows) (slab_get (with_value rows key new)) key u.others keys id old change kept found there (u.changed ∙ ap Some same)

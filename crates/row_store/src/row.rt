@@ -1,12 +1,13 @@
 ghost use Rattle.std.specs.Prelude.{◌≡◌};
 ghost use Rattle.std.specs.Option.{option_copied};
-ghost use Rattle.widget_model.specs.Rows.{new_row, first_values, default_at, attr_of, IsIndex, column_rule_of, row_rule_of, binding_of};
+ghost use Rattle.widget_model.specs.Rows.{new_row, first_values, default_at, attr_of, IsIndex, column_rule_of, row_rule_of, binding_of, with_film};
 ghost use Rattle.row_store.specs.Changes.{changed_by, CanBeMade};
 
 use crate::change::Change;
 use crate::places::{attr_slot, event_slot};
 use kind_core::{Attr, Cell, EventKind, Kind, Name, Value, default_of};
 use std::marker::Model;
+use std::mem;
 use vscreen_core::Film;
 
 /// One widget of a client, which contracts see as the record `Row` of desk_model. See docs/MACHINE.md,
@@ -154,6 +155,15 @@ impl Row {
         ensures { option_copied result ≡ self.now.film }
     {
         self.film.as_ref()
+    }
+
+    /// Puts that film in, or none, and hands out the one that it had. Nothing else of the row changes, and no byte is
+    /// copied.
+    pub fn swap_film(&mut self, film: Option<Film>) -> Option<Film>
+        ensures was { result ≡ self.old.film }
+        ensures film { self.new ≡ with_film film self.old }
+    {
+        mem::replace(&mut self.film, film)
     }
 
     /// Makes the change, and changes nothing else of the row. A rule's column or row is 1 to 16.

@@ -1,7 +1,8 @@
 ghost use Rattle.std.specs.Prelude.{◌≡◌, ◌<◌, ◌≤◌, not, ◌++◌, ◌∷◌, [], Some, None, IsSome, OnOk, OnErr, length, slice_get, is_some};
-ghost use Rattle.std.specs.Option.{option_copied};
+ghost use Rattle.std.specs.Option.{option_copied, option_map};
 ghost use Rattle.std.specs.List.{filter};
 ghost use Rattle.slab.specs.Slab.{get as slab_get};
+ghost use Rattle.widget_model.specs.Rows.{with_film};
 ghost use Rattle.widget_model.specs.Nodes.{is_number_of};
 ghost use Rattle.widget_model.specs.Widgets.{row_at, with_row, without_row};
 ghost use Rattle.row_store.specs.Changes.{changed_by, CanBeMade};
@@ -13,6 +14,7 @@ use indexmap::IndexMap;
 use slab::Slab;
 use std::alloc::{AllocError, Global};
 use std::marker::Model;
+use vscreen_core::Film;
 
 /// The numbered rows in the order of making, which contracts see as a list of numbers with rows. The rows lie
 /// in a slab, whose keys a table keeps beside the numbers. See docs/MACHINE.md, "Widgets".
@@ -100,6 +102,15 @@ impl Store {
         change_under(&self.keys, &mut self.rows, id, change);
     }
 
+    /// Puts that film into the row with a live number, or none, and hands out the one that it had.
+    pub fn swap_film(&mut self, id: u32, film: Option<Film>) -> Option<Film>
+        requires { IsSome (row_at self.old id) }
+        ensures was { option_map (λ row. row.film) (row_at self.old id) ≡ Some result }
+        ensures film { self.new ≡ with_row id (with_film film) self.old }
+    {
+        swap_film_under(&self.keys, &mut self.rows, id, film)
+    }
+
     /// Takes out the row with a live number. The later numbers move up, so the cost grows with theirs.
     pub fn remove(&mut self, id: u32)
         requires { IsSome (row_at self.old id) }
@@ -176,6 +187,24 @@ fn change_under(keys: &IndexMap<u32, usize>, rows: &mut Slab<Row>, id: u32, chan
     let key = *keys.get(&id).unwrap();
     let row = &mut rows[key];
     row.change(change);
+}
+
+/// Puts that film into the row with the number, and hands out the one that it had.
+fn swap_film_under(
+    keys: &IndexMap<u32, usize>,
+    rows: &mut Slab<Row>,
+    id: u32,
+    film: Option<Film>,
+) -> Option<Film>
+    requires kept { IsShown (slab_get rows.old) keys.now.entries }
+    requires live { IsSome (row_at (shown (slab_get rows.old) keys.now.entries) id) }
+    ensures kept { IsShown (slab_get rows.new) keys.now.entries }
+    ensures was { option_map (λ row. row.film) (row_at (shown (slab_get rows.old) keys.now.entries) id) ≡ Some result }
+    ensures film { shown (slab_get rows.new) keys.now.entries ≡ with_row id (with_film film) (shown (slab_get rows.old) keys.now.entries) }
+{
+    let key = *keys.get(&id).unwrap();
+    let row = &mut rows[key];
+    row.swap_film(film)
 }
 
 /// Takes out the row with the number.

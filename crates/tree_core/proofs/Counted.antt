@@ -1,8 +1,11 @@
 -- What the changes of one row leave of all parts of a tree, and what that says of the widgets.
-use Rattle.std.proofs.Common.{◌≡◌, ◌<◌, ◌≤◌, ◌*◌, ◌∷◌, ◌++◌, [], ℕ, Bool, true, false, cond, length, get_or, List, Option, Some, None, refl}
+use Rattle.std.proofs.Common.{◌≡◌, ◌<◌, ◌≤◌, ◌*◌, ◌∷◌, ◌++◌, [], ℕ, Bool, true, false, cond, length, get_or, List, Option, Some, None, IfSome, refl, sym, ◌∙◌, subst}
 use Rattle.kind_core.specs.declared.kinds.Kind.{Kind}
+use Rattle.kind_core.specs.declared.kinds.Kind.TheVariants.{VScreen}
 use Rattle.kind_core.specs.declared.shapes.Cell.{Cell}
-use Rattle.widget_model.specs.Rows.{Row, new_row, with_link, with_attached}
+use Rattle.std.specs.Option.{option_map}
+use Rattle.vscreen_core.specs.FilmState.{FilmState, IsFilm}
+use Rattle.widget_model.specs.Rows.{Row, new_row, with_link, with_attached, with_film}
 use Rattle.widget_model.specs.Nodes.{is_number_of}
 use Rattle.widget_model.specs.Links.{leads}
 use Rattle.widget_model.specs.Widgets.{row_at, nodes, with_row, is_joined}
@@ -13,10 +16,11 @@ use Rattle.row_store.specs.Counts.{AreCounts}
 use Rattle.row_store.specs.Index.{IsIndexed}
 use Rattle.row_store.specs.KeptSlots.{Kept}
 use Rattle.row_store.proofs.CountsLemmas.{AreCounts-with_row}
-use Rattle.tree_core.specs.Children.{HasChildren}
+use Rattle.tree_core.specs.Children.{rows_in, HasChildren}
 use Rattle.tree_core.specs.Kept.{IsGrove, IsCounted}
 use Rattle.tree_core.specs.Refusals.{add_refusal}
 use Rattle.tree_core.proofs.TreeKept.{IsTree-push, IsTree-renamed, IsTree-join, IsTree-grown, LeavesTies, IsWidgets-tree, IsTree-leaves, IsTree-with_link, IsTree-attached, fits_at}
+use Rattle.tree_core.proofs.Listed.{numbered_place, All-at}
 use Rattle.tree_core.proofs.PlacesKept.{IsPlaced-with_row, IsPlaced-push, IsPlaced-grown, IsPlaced-join}
 
 module _ {clients : List ℕ} {names : List ((ℕ × List ℕ) × ℕ)} {es : List (ℕ × Row)} {cells : List (Option ℕ)} {counts : List Count} {kept : Kept} (parts : IsCounted clients names es cells counts kept) where
@@ -71,3 +75,25 @@ module _ {clients : List ℕ} {names : List ((ℕ × List ℕ) × ℕ)} {es : Li
       }
   IsCounted-joined false new_cells new client low high same longer reach slots made more =
       record { tree = IsTree-grown clients names es cells new_cells same longer parts.tree; counted = parts.counted; placed = IsPlaced-grown parts.placed new slots made }
+
+  -- another film of a VScreen, or none
+  pub IsCounted-film : (id : ℕ) (film : Option FilmState) (row : Row) → row_at es id ≡ Some row → IfSome film (λ film. (row.kind ≡ VScreen) × IsFilm film) → IsCounted clients names (with_row id (with_film film) es) cells counts kept
+  IsCounted-film id film row there whole =
+      IsCounted-leaves id (with_film film) row there (record { node = λ r. refl; link = λ r. refl; attached = λ r. refl }) (λ fits. fits)
+      (λ r at fit. let same : row ≡ r = (let one : Some row ≡ Some r = sym there ∙ at in cc) in let F : Row → Type 0 = λ x. IsFitFilm (with_film film x) in subst F same whole)
+
+  -- the film that a row has is a whole one
+  pub film_whole : (id : ℕ) (film : Option FilmState) → option_map (λ (row : Row). row.film) (row_at es id) ≡ Some film → IfSome film (λ film. IsFilm film)
+  film_whole id film there = by (row_at es id) refl there
+    where
+      whole : (o : Option FilmState) (kind : Kind) → IfSome o (λ film. (kind ≡ VScreen) × IsFilm film) → IfSome o (λ film. IsFilm film)
+      whole None kind fit = tt
+      whole (Some film) kind fit = fit.1
+
+      by : (o : Option Row) → row_at es id ≡ o → option_map (λ (row : Row). row.film) o ≡ Some film → IfSome film (λ film. IsFilm film)
+      by None p h = absurd (cc)
+      by (Some row) p h =
+          let place = numbered_place es id row p in
+          let same : row.film ≡ film = cc in
+          let W : Option FilmState → Type 0 = λ o. IfSome o (λ film. IsFilm film) in
+          subst W same (whole row.film row.kind (All-at IsFitFilm (rows_in es) place.0 row parts.tree.films place.1))

@@ -1,10 +1,11 @@
 -- Rows by number, by place and by name.
-use Rattle.std.proofs.Common.{◌≡◌, ◌<◌, ◌+◌, ℕ, zero, suc, length, take, get_or, Bool, true, false, cond, ◌||◌, nat_eq, List, [], ◌∷◌, ◌++◌, Option, Some, None, is_some, refl, sym, ap, ◌∙◌, slice_get}
+use Rattle.std.proofs.Common.{◌≡◌, ◌<◌, ◌+◌, ℕ, zero, suc, length, take, get_or, Bool, true, false, cond, ◌||◌, nat_eq, List, [], ◌∷◌, ◌++◌, Option, Some, None, is_some, refl, sym, ap, ◌∙◌, subst, slice_get}
 use Rattle.std.proofs.lemmas.Bool.{true≢false, eqb-true, eq-eqb, ne_eqb, and_parts}
 use Rattle.std.proofs.lemmas.List.{take_more}
 use Rattle.std.proofs.lemmas.Option.{get_or_from_slice_get}
 use Rattle.std.specs.Cmp.{nat_eq_equiv}
-use Rattle.std.specs.List.{find, list_any, list_all}
+use Rattle.std.proofs.lemmas.List.Elements.{All-head, All-tail}
+use Rattle.std.specs.List.{All, find, list_any, list_all}
 use Rattle.std.specs.Option.{option_map}
 use Rattle.widget_model.specs.Rows.{Row}
 use Rattle.widget_model.specs.Nodes.{node_of, id_named, node_at}
@@ -29,6 +30,11 @@ pub all_at : {X : Type 0} (p : X → Bool) (xs : List X) (i : ℕ) (x : X) → l
 all_at p [] i x h there = absurd (cc)
 all_at p (y ∷ ys) zero x h there = let same : y ≡ x = cc in ap p (sym same) ∙ (and_parts (p y) (list_all p ys) h).0
 all_at p (y ∷ ys) (suc i) x h there = all_at p ys i x (and_parts (p y) (list_all p ys) h).1 there
+
+pub All-at : {X : Type 0} (P : X → Type 0) (xs : List X) (i : ℕ) (x : X) → All P xs → slice_get xs i ≡ Some x → P x
+All-at P [] i x h there = absurd (cc)
+All-at P (y ∷ ys) zero x h there = let same : y ≡ x = cc in subst P same (All-head P y ys h)
+All-at P (y ∷ ys) (suc i) x h there = All-at P ys i x (All-tail P y ys h) there
 
 -- one that passes the test is found among the rest
 pub any_at : {X : Type 0} (p : X → Bool) (xs : List X) (i : ℕ) (x : X) → slice_get xs i ≡ Some x → p x ≡ true → list_any p xs ≡ true

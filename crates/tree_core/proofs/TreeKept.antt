@@ -5,14 +5,13 @@ use Rattle.std.specs.List.{list_all}
 use Rattle.std.specs.Option.{option_map}
 use Rattle.geom_core.specs.declared.rectangle.Rect.{Rect}
 use Rattle.kind_core.specs.declared.kinds.Kind.{Kind}
-use Rattle.kind_core.specs.declared.kinds.Kind.TheVariants.{Grid}
 use Rattle.kind_core.specs.declared.shapes.Cell.{Cell}
 use Rattle.widget_model.specs.Rows.{Row, with_link, with_attached, new_row}
 use Rattle.widget_model.specs.Nodes.{Node, node_of, node_at, is_number_of, first_number}
 use Rattle.widget_model.specs.Planted.{IsPlanted}
 use Rattle.widget_model.specs.Fitting.{fits_table, IsFitFilm, HaveFitFilms}
 use Rattle.widget_model.specs.Links.{ties, leads, all_lead}
-use Rattle.widget_model.specs.Widgets.{Widgets, row_at, nodes, with_row, is_joined, IsLive, IsGrid}
+use Rattle.widget_model.specs.Widgets.{Widgets, row_at, nodes, with_row, is_joined, row_kind, IsLive}
 use Rattle.widget_model.specs.Forest.{IsForest, IsWidgets, ArePlaces}
 use Rattle.widget_model.specs.Rows.{IsIndex}
 use Rattle.row_store.specs.Places.{cell_place}
@@ -61,10 +60,10 @@ live_row {clients} {es} view id live = none_or_some (row_at es id) (ap (λ (w : 
 pub live_edited : {clients : List ℕ} {es : List (ℕ × Row)} {places : List (Option Rect)} {widgets : Widgets} → record { clients = clients; entries = es; places = places } ≡ widgets → (id : ℕ) (change : Row → Row) (other : ℕ) → IsLive widgets other → is_some (row_at (with_row id change es) other) ≡ true
 live_edited {clients} {es} view id change other live = live-with_row es id change other (ap (λ (w : Widgets). is_some (row_at w.entries other)) view ∙ live)
 
-pub grid_live : (widgets : Widgets) (id : ℕ) → IsGrid widgets id → IsLive widgets id
-grid_live widgets id grid = by (row_at widgets.entries id) grid
+pub kind_live : (widgets : Widgets) (id : ℕ) (kind : Kind) → row_kind widgets.entries id ≡ Some kind → IsLive widgets id
+kind_live widgets id kind is = by (row_at widgets.entries id) is
   where
-    by : (o : Option Row) → option_map (λ (row : Row). row.kind) o ≡ Some Grid → is_some o ≡ true
+    by : (o : Option Row) → option_map (λ (row : Row). row.kind) o ≡ Some kind → is_some o ≡ true
     by None h = absurd (cc)
     by (Some row) h = refl
 

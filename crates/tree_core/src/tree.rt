@@ -1,8 +1,10 @@
 ghost use Rattle.std.specs.Prelude.{ℕ, ◌≡◌, ◌<◌, ◌≤◌, nat_eq, Some, None, true, false, is_err, IfSome, OnOk, OnErr, IfOk, IfErr};
-ghost use Rattle.std.specs.Option.{option_map, option_map_or, option_and_then};
+ghost use Rattle.std.specs.Option.{option_copied, option_map, option_map_or, option_and_then};
 ghost use Rattle.std.specs.Result.{result_err};
+ghost use Rattle.kind_core.specs.declared.kinds.Kind.TheVariants.{VScreen};
 ghost use Rattle.kind_core.specs.Attributes.{domain_of, judged};
-ghost use Rattle.widget_model.specs.Rows.{new_row, attr_of, with_attr, column_rule_of, with_column_rule, row_rule_of, with_row_rule, binding_of, with_binding, with_link, with_attached};
+ghost use Rattle.vscreen_core.specs.FilmState.{IsFilm};
+ghost use Rattle.widget_model.specs.Rows.{new_row, attr_of, with_attr, column_rule_of, with_column_rule, row_rule_of, with_row_rule, binding_of, with_binding, with_link, with_attached, with_film};
 ghost use Rattle.widget_model.specs.Nodes.{id_named, count_of, any_kind};
 ghost use Rattle.widget_model.specs.Widgets.{no_widgets, is_joined, row_at, nodes, rows_of, IsLive, IsGrid, KeepsLive, edited, with_new, removed, joined, departed, place_at, with_place, row_kind, row_client};
 ghost use Rattle.widget_model.specs.Links.{linked_id, name_at};
@@ -27,6 +29,7 @@ use row_store::{
 };
 use std::alloc::Global;
 use std::marker::Model;
+use vscreen_core::Film;
 
 /// The widgets of all clients: rows in the order of making, under the names that the clients gave them.
 /// Contracts see the record `Widgets` of desk_model. See docs/MACHINE.md, "Widgets"; docs/ARCHITECTURE.md,
@@ -468,6 +471,42 @@ impl Tree {
             Some((_, cell)) => Some(cell),
             None => None,
         }
+    }
+
+    /// The widget's film, lent; None exactly where it has none. Only a VScreen has one. It costs one look-up in a hash
+    /// map.
+    pub fn film(&self, id: Id) -> Option<&Film>
+        requires { IsLive self.now id.key }
+        ensures film { option_map (λ row. row.film) (row_at self.now.entries id.key) ≡ Some (option_copied result) }
+        ensures valid { IsWidgets self.now }
+    {
+        self.store.row(id.key).film()
+    }
+
+    /// Takes the film out of the widget, which then has none; None exactly where it had none. The caller changes the
+    /// film and puts it back by `set_film`. No byte of it is copied: it costs one look-up in a hash map.
+    pub fn take_film(&mut self, id: Id) -> Option<Film>
+        requires { IsLive self.old id.key }
+        ensures film { option_map (λ row. row.film) (row_at self.old.entries id.key) ≡ Some result }
+        ensures whole { IfSome result (λ film. IsFilm film) }
+        ensures taken { self.new ≡ edited id.key (with_film None) self.old }
+        ensures kept { KeepsLive self.old self.new }
+        ensures valid { IsWidgets self.new }
+    {
+        self.store.swap_film(id.key, None)
+    }
+
+    /// Puts the film into the widget, a VScreen, in place of the one that it had. No byte of it is copied: it costs
+    /// one look-up in a hash map.
+    pub fn set_film(&mut self, id: Id, film: Film)
+        requires { row_kind self.old.entries id.key ≡ Some VScreen }
+        ensures film { self.new ≡ edited id.key (with_film (Some film)) self.old }
+        ensures kept { KeepsLive self.old self.new }
+        ensures valid { IsWidgets self.new }
+    {
+        // A film's own call says that it is a whole one, as each film in the tree is.
+        let _ = film.width();
+        let _ = self.store.swap_film(id.key, Some(film));
     }
 
     /// The place that is kept of the widget, in pixels of the screen; None exactly where none is kept. It is the last

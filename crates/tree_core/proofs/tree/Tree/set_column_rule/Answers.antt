@@ -1,17 +1,18 @@
 use Rattle.std.proofs.Common.{refl}
+use Rattle.kind_core.specs.declared.kinds.Kind.TheVariants.{Grid}
 use Rattle.widget_model.specs.Rows.{with_column_rule}
-use Rattle.tree_core.proofs.TreeKept.{live_row, live_edited, grid_live}
+use Rattle.tree_core.proofs.TreeKept.{live_row, live_edited, kind_live}
 use Rattle.tree_core.proofs.Counted.{IsWidgets-counted, IsCounted-leaves}
 use Rattle.tree_core.proofs.tree.Tree.set_column_rule.Goals as goal
 
 pub invariant_of-self : goal.invariant_of-self
 invariant_of-self c =
-    let found = live_row c.self.view_is c.args.id.key (grid_live c.args.self.now c.args.id.key c.requires.grid) in
+    let found = live_row c.self.view_is c.args.id.key (kind_live c.args.self.now c.args.id.key Grid c.requires.grid) in
     rw c.change.ensures (IsCounted-leaves c.self.invariant c.args.id.key (with_column_rule c.args.index (c.args.size, c.args.weight)) found.0 found.1 (record { node = λ r. refl; link = λ r. refl; attached = λ r. refl }) (λ fits. fits) (λ r at fit. fit))
 
 pub returns-clause-valid : goal.returns-clause-valid
 returns-clause-valid c =
-    let found = live_row c.self.view_is c.args.id.key (grid_live c.args.self.now c.args.id.key c.requires.grid) in
+    let found = live_row c.self.view_is c.args.id.key (kind_live c.args.self.now c.args.id.key Grid c.requires.grid) in
     rw c.change.ensures (IsWidgets-counted (IsCounted-leaves c.self.invariant c.args.id.key (with_column_rule c.args.index (c.args.size, c.args.weight)) found.0 found.1 (record { node = λ r. refl; link = λ r. refl; attached = λ r. refl }) (λ fits. fits) (λ r at fit. fit)))
 
 pub returns-clause-kept : goal.returns-clause-kept
