@@ -38,7 +38,7 @@ pub grove_of : (widgets : Widgets) → IsWidgets widgets → IsGrove widgets.ent
 grove_of widgets valid = record { own_numbers = valid.forest.own_numbers; own_names = valid.forest.own_names; planted = valid.planted }
 
 -- equal keys
-same_key-true : (a b : ℕ × List ℕ) → same_key a b ≡ true → a ≡ b
+pub same_key-true : (a b : ℕ × List ℕ) → same_key a b ≡ true → a ≡ b
 same_key-true a b e =
     let parts = and_parts (nat_eq a.0 b.0) (bytes_eq a.1 b.1) e in
     ap (λ (n : ℕ). (n, a.1)) (eqb-true a.0 b.0 parts.0) ∙ ap (λ (name : List ℕ). (b.0, name)) ((bytes_eq-Decides a.1 b.1).0 parts.1)

@@ -9,3 +9,4 @@ pub mod TopLemmas
 pub mod RootLemmas
 pub mod ChainLemmas
 pub mod SceneLemmas
+pub mod LookLemmas

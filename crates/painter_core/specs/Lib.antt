@@ -3,3 +3,4 @@ pub mod Trail
 pub mod Painted
 pub mod Stage
 pub mod Painting
+pub mod Lines

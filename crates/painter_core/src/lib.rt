@@ -3,10 +3,12 @@
 #![tactic(auto)]
 
 mod filling;
+mod line;
 mod looks;
 mod meeting;
 mod pieces;
 mod painting;
+mod reading;
 mod slots;
 
 pub use pieces::paint;
