@@ -7,7 +7,8 @@ use Rattle.std.specs.Cmp.Lexicographic.{nat_list_eq_equiv}
 use Rattle.std.proofs.lemmas.Bool.{true≢false, eqb-true, eq-eqb, and_from}
 use Rattle.kind_core.specs.declared.kinds.Kind.{Kind}
 use Rattle.kind_core.specs.declared.kinds.Kind.TheVariants.{Window, Grid, Frame, Button, Label, Entry, Scale, Scrollbar, Variable, VScreen}
-use Rattle.kind_core.specs.declared.kinds.Attr.TheVariants.{Title, Text, Max, Real, View}
+use Rattle.kind_core.specs.declared.kinds.Attr.TheVariants.{Title, Text, Value, Max, Real, View}
+use Rattle.kind_core.specs.Effective.{raw_value, scale_value, scrollbar_value}
 use Rattle.look_core.specs.Seen as seen
 use Rattle.look_core.specs.Seen.{Seen, in_row}
 use Rattle.look_core.specs.Colour.{colour_of}
@@ -22,7 +23,7 @@ use Rattle.scene_model.specs.Scene.{Scene}
 use Rattle.scene_model.specs.Fit.{AreFit}
 use Rattle.scene_model.specs.LookLaws.{HasFitNumbers, IsFitLook}
 use Rattle.scene_model.specs.LookOf.{look_by, look_of, grabs, is_held, has_focus}
-use Rattle.scene_model.specs.Values.{text_of, label_of, count_of, scale_of, scrollbar_of, caret_of, is_vertical}
+use Rattle.scene_model.specs.Values.{number_of, linked_value, text_of, label_of, count_of, scale_of, scrollbar_of, caret_of, is_vertical}
 use Rattle.scene_model.proofs.Looks.{looks_are_fit}
 use Rattle.painter_core.specs.declared.line.Line.{Line}
 use Rattle.painter_core.specs.Lines.{IsLine, ShowsLook}
@@ -138,7 +139,7 @@ pub grabs-widget : (o : Option (ℕ × List ℕ)) (key : ℕ × List ℕ) → gr
 grabs-widget None key = refl
 grabs-widget (Some other) key = refl
 
-take_none : (n : ℕ) → take n [] ≡ []
+take_none : (n : ℕ) → take {A = ℕ} n [] ≡ []
 take_none zero = refl
 take_none (suc n) = refl
 
@@ -186,3 +187,12 @@ small_place view id row fit found there =
 pub colour-desk : (view : screen_view.View) (x y : ℤ) → (layers_of view).colour None x y ≡ 2
 unfolding layers_of colour_below
 colour-desk view x y = refl
+
+-- the value that a Scale or Scrollbar shows, from what its row says
+pub scaled : (rows : List Row) (row : Row) (value : ℕ) (a b s raw max shown : ℤ) → a ≡ raw → b ≡ max → s ≡ shown → shown ≡ scale_value a b → value ≡ unsigned_abs s → raw ≡ raw_value (linked_value rows row) (number_of Value row) → max ≡ number_of Max row → value ≡ unsigned_abs (scale_of rows row)
+scaled rows row value a b s raw max shown ea eb es is v r m =
+    v ∙ ap unsigned_abs (es ∙ is ∙ ap (λ (p : ℤ). scale_value p b) (ea ∙ r) ∙ ap (λ (p : ℤ). scale_value (raw_value (linked_value rows row) (number_of Value row)) p) (eb ∙ m))
+
+pub scrolled : (rows : List Row) (row : Row) (value : ℕ) (a b d s raw real view shown : ℤ) → a ≡ raw → b ≡ real → d ≡ view → s ≡ shown → shown ≡ scrollbar_value a b d → value ≡ unsigned_abs s → raw ≡ raw_value (linked_value rows row) (number_of Value row) → real ≡ number_of Real row → view ≡ number_of View row → value ≡ unsigned_abs (scrollbar_of rows row)
+scrolled rows row value a b d s raw real view shown ea eb ed es is v r m w =
+    v ∙ ap unsigned_abs (es ∙ is ∙ ap (λ (p : ℤ). scrollbar_value p b d) (ea ∙ r) ∙ ap (λ (p : ℤ). scrollbar_value (raw_value (linked_value rows row) (number_of Value row)) p d) (eb ∙ m) ∙ ap (λ (p : ℤ). scrollbar_value (raw_value (linked_value rows row) (number_of Value row)) (number_of Real row) p) (ed ∙ w))

@@ -14,6 +14,7 @@ use crate::reading::{
     count_of, is_vertical, label_of, number_of, raw_value, scale_value, scrollbar_value, text_of,
 };
 use crate::slots::place;
+use canvas_core::DESK_COLOUR;
 use geom_core::Rect;
 use kind_core::{Attr, Kind};
 use look_core::{Look, row_span};
@@ -236,6 +237,13 @@ fn line_in(place: Rect, line: Rect) -> Line
     }
 }
 
+/// Gives all bytes the desk's own colour.
+fn lay_desk(out: &mut [u8])
+    ensures { (i : ℕ) → i < length out.new → slice_index out.new i ≡ 2 }
+{
+    out.fill(DESK_COLOUR);
+}
+
 /// Writes the colours of the pixels of a part of one row, which the widget shows, or none does.
 pub fn draw_row(view: &View<'_>, under: Option<u32>, line: Rect, out: &mut [u8])
     requires stage { IsPaintable view.now }
@@ -247,7 +255,7 @@ pub fn draw_row(view: &View<'_>, under: Option<u32>, line: Rect, out: &mut [u8])
     ensures { (i : ℕ) → i < length out.new → slice_index out.new i ≡ (layers_of view.now).colour under (line.x +ℤ pos i) line.y }
 {
     match under {
-        None => out.fill(2),
+        None => lay_desk(out),
         Some(id) => {
             let at = line_in(place(view, id), line);
             draw_look(view, id, at, out);
