@@ -1,1 +1,11 @@
+pub mod Lengths
+pub mod Needs
 pub mod Numbered
+pub mod ChildNumbers
+pub mod ChildNeeds
+pub mod OwnSizes
+pub mod TrackSteps
+pub mod LeastSteps
+pub mod Measures
+pub mod Finds
+pub mod Tops

@@ -1,2 +1,4 @@
 pub mod View
+pub mod Ready
 pub mod Children
+pub mod Measured

@@ -7,6 +7,7 @@ use Rattle.kind_core.specs.declared.kinds.Kind.TheVariants.{Window}
 use Rattle.widget_model.specs.Rows.{Row}
 use Rattle.widget_model.specs.Keys.{key_at}
 use Rattle.widget_model.specs.Widgets.{Widgets, rows_of, row_at, row_kind, place_at}
+use Rattle.widget_model.specs.Forest.{IsWidgets}
 use Rattle.widget_model.specs.Relatives.{root_id}
 use Rattle.tree_core.specs.declared.pointer.Pointer.{Pointer}
 use Rattle.tree_core.specs.Holds.{pointer_seen}
@@ -40,6 +41,7 @@ pub record AreWindows (widgets : Widgets) (windows : List ℕ) : Type 0 where
   pub once : IsStack windows
 
 pub record IsView (view : View) : Type 0 where
+  pub valid : IsWidgets view.tree.now
   pub windows : AreWindows view.tree.now view.stack.now
   pub width_least : 16 ≤ view.width
   pub width_most : view.width ≤ 1024
@@ -49,3 +51,9 @@ pub record IsView (view : View) : Type 0 where
 -- The kept place of each open window and of each widget under one is its place.
 pub record KeepsPlaces (widgets : Widgets) (windows : List ℕ) : Type 0 where
   pub each : (id window : ℕ) → Contains windows window → root_id widgets id ≡ Some window → place_at widgets id ≡ option_map (place_in (rows_of widgets)) (row_at widgets.entries id)
+
+-- the numbered widget is an open window, or hangs under one
+pub record IsUnderOpen (widgets : Widgets) (windows : List ℕ) (id : ℕ) : Type 0 where
+  pub window : ℕ
+  pub among : Contains windows window
+  pub root : root_id widgets id ≡ Some window

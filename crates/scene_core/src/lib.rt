@@ -1,10 +1,24 @@
 //! The layout of the widgets and what is on top: least sizes, places, and the widget on top at a pixel.
 #![tactic(auto)]
 
+mod asked;
+mod child;
+mod children;
+mod known;
+pub mod laws;
+mod least;
+mod own;
+mod reading;
+mod shown;
 mod size;
+mod spans;
+mod top;
+mod tracks;
 mod view;
 
 pub use geom_core::Rect;
+pub use least::least_size;
 pub use size::Size;
+pub use top::top_at;
 pub use tree_core::{Grab, Pointer};
 pub use view::View;

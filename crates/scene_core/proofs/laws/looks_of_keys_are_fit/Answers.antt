@@ -1,0 +1,5 @@
+use Rattle.scene_model.proofs.Looks.{looks_of_keys_are_fit}
+use Rattle.scene_core.proofs.laws.looks_of_keys_are_fit.Goals as goal
+
+pub returns : goal.returns
+returns c = looks_of_keys_are_fit

@@ -1,0 +1,5 @@
+use Rattle.scene_model.proofs.Ranges.{places_of_keys_are_in_range}
+use Rattle.scene_core.proofs.laws.places_of_keys_are_in_range.Goals as goal
+
+pub returns : goal.returns
+returns c = places_of_keys_are_in_range

@@ -1,0 +1,12 @@
+use Rattle.std.proofs.Common.{◌≡◌, ◌∙◌, sym, ap, refl, length, Some, None, rules, w32}
+use Rattle.std.specs.Option.{option_map, option_map_or}
+use Rattle.std.proofs.lemmas.Int.{to_z-of_z}
+use Rattle.scene_core.proofs.Numbered.{read, linked_read, parent_read, cell_read}
+use Rattle.widget_model.specs.Rows.{column_rule_of, row_rule_of}
+use Rattle.scene_core.proofs.reading.rule_of.Goals as goal
+
+pub returns-in-Across : goal.returns-in-Across
+returns-in-Across c = rw c.in-Across.is (read (λ row. column_rule_of row c.args.track) c.args.tree.now c.args.id.key _ c.column_rule.ensures.rule)
+
+pub returns-in-Down : goal.returns-in-Down
+returns-in-Down c = rw c.in-Down.is (read (λ row. row_rule_of row c.args.track) c.args.tree.now c.args.id.key _ c.row_rule.ensures.rule)
