@@ -37,8 +37,8 @@ root-window : (widgets : Widgets) (id : ℕ) → IsWidgets widgets → IsWindowR
 root-window widgets id valid h =
     let rows = rows_of widgets in
     let none : parent_of rows h.row.client h.row.name ≡ None =
-        ap (option_and_then (λ (r : Row). option_map (λ (above : List ℕ × Cell). above.0) r.attached)) (row_of-number widgets id h.row valid h.there)
-        ∙ ap (option_map (λ (above : List ℕ × Cell). above.0)) (alone widgets id valid h) in
+    ap (option_and_then (λ (r : Row). option_map (λ (above : List ℕ × Cell). above.0) r.attached)) (row_of-number widgets id h.row valid h.there)
+    ∙ ap (option_map (λ (above : List ℕ × Cell). above.0)) (alone widgets id valid h) in
     ap (option_and_then (λ (r : Row). id_named (nodes widgets.entries) r.client (root_of rows r.client r.name))) h.there
     ∙ ap (λ (name : List ℕ). id_named (nodes widgets.entries) h.row.client name) (root_in-alone most_levels rows h.row.client h.row.name none)
     ∙ id_named-row widgets.entries id h.row valid.forest.own_names h.there

@@ -67,7 +67,7 @@ pub one_trail : (view : View) (piece : Rect) → IsWidgets view.tree.now → IsV
 one_trail view piece valid is inside one x y u v e f =
     first_way-whole view x y
     ∙ chains_same (parent_id view.tree.now) (trail_of view x y) (trail_of view u v) (chain view x y valid is) (chain view u v valid is)
-        (same_end view x y u v valid (tops view x y valid is (inside x y e)) (tops view u v valid is (inside u v f)) (one x y u v e f))
+    (same_end view x y u v valid (tops view x y valid is (inside x y e)) (tops view u v valid is (inside u v f)) (one x y u v e f))
     ∙ sym (first_way-whole view u v)
 
 pub pixel_on_screen : (w h x y : ℕ) → x < w → y < h → in_rect (screen_of w h) (pos x) (pos y) ≡ true

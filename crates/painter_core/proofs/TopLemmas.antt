@@ -172,8 +172,8 @@ lowest (suc depth) view id row x y valid there shown = by (λ kid lower at seen.
         enters e h seen (deeper e.id h.lower h.there seen)
     by deeper (inr m) =
         let none = child_at-none view id row x y valid there shown (λ slot kid within found.
-            ap (λ (r : Rect). in_rect r x y) (sym (rect_is view kid))
-            ∙ m.each slot kid (omega (arith, within, length-children view id)) (child-slot view id slot within ∙ found)) in
+        ap (λ (r : Rect). in_rect r x y) (sym (rect_is view kid))
+        ∙ m.each slot kid (omega (arith, within, length-children view id)) (child-slot view id slot within ∙ found)) in
         record {
           top = id;
           row = row;

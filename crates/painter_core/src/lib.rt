@@ -6,8 +6,8 @@ mod filling;
 mod line;
 mod looks;
 mod meeting;
-mod pieces;
 mod painting;
+mod pieces;
 mod reading;
 mod slots;
 

@@ -8,7 +8,6 @@ ghost use Rattle.painter_core.specs.Trail.{trail, slots_from};
 
 use crate::filling::fill_wanted;
 use crate::meeting::first_meeting;
-
 use canvas_core::Canvas;
 use geom_core::{Rect, cut};
 use scene_core::View;

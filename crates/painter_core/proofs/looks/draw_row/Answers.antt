@@ -63,10 +63,10 @@ returns-in-Some c i less =
     let at = c.line_in-at.result in
     let line = c.args.line in
     let local = colour-local view id i row at line at_row
-        (c.line_in-at.ensures.w ∙ ap (λ (r : Rect). r.w) c.place.ensures)
-        (c.line_in-at.ensures.h ∙ ap (λ (r : Rect). r.h) c.place.ensures)
-        (ap (λ (r : Rect). r.x +ℤ pos at.from) (sym c.place.ensures) ∙ c.line_in-at.ensures.from)
-        (ap (λ (r : Rect). r.y +ℤ pos at.y) (sym c.place.ensures) ∙ c.line_in-at.ensures.y) in
+    (c.line_in-at.ensures.w ∙ ap (λ (r : Rect). r.w) c.place.ensures)
+    (c.line_in-at.ensures.h ∙ ap (λ (r : Rect). r.h) c.place.ensures)
+    (ap (λ (r : Rect). r.x +ℤ pos at.from) (sym c.place.ensures) ∙ c.line_in-at.ensures.from)
+    (ap (λ (r : Rect). r.y +ℤ pos at.y) (sym c.place.ensures) ∙ c.line_in-at.ensures.y) in
     c.draw_look.ensures i less
     ∙ sym local
     ∙ sym (ap (λ (u : Option ℕ). (layers_of view).colour u (line.x +ℤ pos i) line.y) c.in-Some.is)

@@ -21,8 +21,8 @@ row_span-requires-clause-drawable c =
     let row = row_for widgets c.args.id in
     let found = row_of-number widgets c.args.id row c.requires.stage.widgets (live-there widgets c.args.id c.requires.there.live) in
     let value = scaled (rows_of widgets) row c.unsigned_abs.result _ _ _ c.raw_value.result c.number_of-max.result c.scale_value-value.result
-        (to_z-of_z w32 c.raw_value.result (search rules)) (to_z-of_z w32 c.number_of-max.result (search rules)) (to_z-of_z w64 c.scale_value-value.result (search rules))
-        c.scale_value-value.ensures c.unsigned_abs.ensures.value c.raw_value.ensures c.number_of-max.ensures in
+    (to_z-of_z w32 c.raw_value.result (search rules)) (to_z-of_z w32 c.number_of-max.result (search rules)) (to_z-of_z w64 c.scale_value-value.result (search rules))
+    c.scale_value-value.ensures c.unsigned_abs.ensures.value c.raw_value.ensures c.number_of-max.ensures in
     let is = look-scale scene row c.args.at.y c.unsigned_abs.result c.count_of.result c.is_vertical.result c.is_held.result c.requires.kind value c.count_of.ensures c.is_vertical.ensures c.is_held.ensures in
     drawable scene row c.args.at.y (seen.scale c.unsigned_abs.result c.count_of.result c.is_vertical.result c.is_held.result) c.requires.stage.fit found is
 
@@ -34,7 +34,7 @@ returns c =
     let row = row_for widgets c.args.id in
     let found = row_of-number widgets c.args.id row c.requires.stage.widgets (live-there widgets c.args.id c.requires.there.live) in
     let value = scaled (rows_of widgets) row c.unsigned_abs.result _ _ _ c.raw_value.result c.number_of-max.result c.scale_value-value.result
-        (to_z-of_z w32 c.raw_value.result (search rules)) (to_z-of_z w32 c.number_of-max.result (search rules)) (to_z-of_z w64 c.scale_value-value.result (search rules))
-        c.scale_value-value.ensures c.unsigned_abs.ensures.value c.raw_value.ensures c.number_of-max.ensures in
+    (to_z-of_z w32 c.raw_value.result (search rules)) (to_z-of_z w32 c.number_of-max.result (search rules)) (to_z-of_z w64 c.scale_value-value.result (search rules))
+    c.scale_value-value.ensures c.unsigned_abs.ensures.value c.raw_value.ensures c.number_of-max.ensures in
     let is = look-scale scene row c.args.at.y c.unsigned_abs.result c.count_of.result c.is_vertical.result c.is_held.result c.requires.kind value c.count_of.ensures c.is_vertical.ensures c.is_held.ensures in
     ShowsLook-drawn (look_of scene row) (seen.scale c.unsigned_abs.result c.count_of.result c.is_vertical.result c.is_held.result) c.args.at c.args.out.now c.row_span.new.out c.requires.line c.row_span.auto.out is c.row_span.ensures.whole

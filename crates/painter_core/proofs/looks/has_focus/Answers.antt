@@ -19,6 +19,6 @@ returns-in-Some c =
     let widgets = c.args.view.now.tree.now in
     let row = row_for widgets c.args.id in
     sym (
-      ap (λ (focus : Option Id). option_map_or (same_key (key_of row)) (option_and_then (λ (id : Id). key_at widgets.entries id.key) focus) false) c.in-Some.is
-      ∙ same_number widgets c.args.id c.in-Some.focus.key row c.requires.stage.widgets (live-there widgets c.args.id c.requires.there.live)
+    ap (λ (focus : Option Id). option_map_or (same_key (key_of row)) (option_and_then (λ (id : Id). key_at widgets.entries id.key) focus) false) c.in-Some.is
+    ∙ same_number widgets c.args.id c.in-Some.focus.key row c.requires.stage.widgets (live-there widgets c.args.id c.requires.there.live)
     )

@@ -21,7 +21,7 @@ returns-in-Widget c =
     let widgets = c.args.view.now.tree.now in
     let row = row_for widgets c.args.id in
     sym (
-      ap (λ (grab : Grab). grabs (grab_seen widgets.entries grab) (key_of row)) c.in-Widget.is
-      ∙ grabs-widget (key_at widgets.entries c.in-Widget.held.key) (key_of row)
-      ∙ same_number widgets c.args.id c.in-Widget.held.key row c.requires.stage.widgets (live-there widgets c.args.id c.requires.there.live)
+    ap (λ (grab : Grab). grabs (grab_seen widgets.entries grab) (key_of row)) c.in-Widget.is
+    ∙ grabs-widget (key_at widgets.entries c.in-Widget.held.key) (key_of row)
+    ∙ same_number widgets c.args.id c.in-Widget.held.key row c.requires.stage.widgets (live-there widgets c.args.id c.requires.there.live)
     )

@@ -132,9 +132,9 @@ returns-after-loop-part t c =
     let areas = ap (λ (rs : List Rect). total_area (at.shared ∷ rs)) all in
     Paints-whole layers only under path (at.shared ∷ take i parts) piece c.loop-part.count old new c.loop-part.invariant.all whole (omega (arith, areas, left.areas))
     (λ e one.
-      let none = nothing_left layers under c.args.depth c.args.from piece at.slot at.id at.shared parts some found left one in
-      let is = shared_is_piece layers under c.args.from piece at.slot at.id at.shared parts found left none in
-      let kept = ap (λ (s : Screen). s.spans) (c.loop-part.invariant.start (omega arith)) in
-      let spans = c.paint_from-count.ensures.at_once e (HasOneTrail-below way path at.shared at.id through (one_inside path at.shared piece (shared_in_piece layers under c.args.from piece at.slot at.id at.shared found) one)) in
-      let high = ap (λ (r : Rect). r.h) is in
-      omega (arith, kept, spans, high))
+    let none = nothing_left layers under c.args.depth c.args.from piece at.slot at.id at.shared parts some found left one in
+    let is = shared_is_piece layers under c.args.from piece at.slot at.id at.shared parts found left none in
+    let kept = ap (λ (s : Screen). s.spans) (c.loop-part.invariant.start (omega arith)) in
+    let spans = c.paint_from-count.ensures.at_once e (HasOneTrail-below way path at.shared at.id through (one_inside path at.shared piece (shared_in_piece layers under c.args.from piece at.slot at.id at.shared found) one)) in
+    let high = ap (λ (r : Rect). r.h) is in
+    omega (arith, kept, spans, high))
