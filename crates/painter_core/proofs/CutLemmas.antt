@@ -1,6 +1,6 @@
 -- A piece from which what a widget shows of it is cut.
-use Rattle.std.proofs.Common.{◌≡◌, ℕ, zero, suc, ◌+◌, ◌-◌, ◌<◌, ◌≤◌, ℤ, Bool, pos, true, false, not, ◌&&◌, ◌||◌, ◌⊎◌, inl, inr, List, [], ◌∷◌, length, take, drop, get_or, refl, sym, ap, subst, ◌∙◌, arith}
-use Rattle.std.specs.Prelude.{Option, Some, None, slice_index_or}
+use Rattle.std.proofs.Common.{◌≡◌, ℕ, zero, suc, ◌+◌, ◌-◌, ◌<◌, ◌≤◌, ℤ, Bool, pos, true, false, not, ◌&&◌, ◌||◌, inl, inr, List, [], ◌∷◌, length, take, get_or, refl, sym, subst, ◌∙◌, arith}
+use Rattle.std.specs.Prelude.{Option, Some}
 use Rattle.std.proofs.lemmas.Int.{ints}
 use Rattle.std.proofs.Math.Nat.{mul-le-mul_left, mul-le-mul_right}
 use Rattle.canvas_core.specs.Screen.{Screen}
@@ -12,7 +12,7 @@ use Rattle.geom_core.specs.Pieces.{covers, total_area, AreDisjoint, HavePixels}
 use Rattle.geom_core.proofs.RectLemmas.{in_rect-corner, rect_from_pixels, rect_of, IsEnclosed-from_inside, IsInside-from_enclosed}
 use Rattle.geom_core.proofs.PieceLemmas.{covers-take_more, total_area-take_more, covers-at, AreDisjoint-at, HavePixels-at}
 use Rattle.painter_core.specs.Layers.{Layers}
-use Rattle.painter_core.specs.Trail.{trail, slots_from, last_of, Finds}
+use Rattle.painter_core.specs.Trail.{trail, slots_from, Finds}
 use Rattle.painter_core.specs.Painted.{Painted, HasOneTrail}
 use Rattle.painter_core.proofs.TrailLemmas.{trail-here, trail-past, trail-head}
 

@@ -1,5 +1,5 @@
 -- From numbers to keys: the place of a numbered widget, its children in their slots, and the child that shows a pixel.
-use Rattle.std.proofs.Common.{◌≡◌, ℕ, ◌+◌, ◌-◌, ◌*◌, ◌/◌, ◌%◌, ◌<◌, ◌≤◌, ℤ, pos, Bool, true, false, ◌&&◌, List, [], ◌∷◌, refl, sym, ap, subst, ◌∙◌, slice_get, arith, ◌⊎◌, inl, inr}
+use Rattle.std.proofs.Common.{◌≡◌, ℕ, ◌+◌, ◌-◌, ◌*◌, ◌/◌, ◌%◌, ◌<◌, ℤ, pos, Bool, true, false, ◌&&◌, List, refl, sym, ap, ◌∙◌, slice_get, arith}
 use Rattle.std.specs.Prelude.{Option, Some, None, nat_eq}
 use Rattle.std.specs.List.{find}
 use Rattle.std.specs.Option.{option_map, option_map_or, option_and_then}
@@ -7,24 +7,20 @@ use Rattle.std.specs.Str.{bytes_eq}
 use Rattle.std.specs.Cmp.Lexicographic.{nat_list_eq_equiv}
 use Rattle.std.proofs.lemmas.Bool.{true≢false, eqb-true, eq-eqb, and_parts, and_from}
 use Rattle.std.proofs.lemmas.Slice.Eq.{bytes_eq-Decides}
-use Rattle.kind_core.specs.declared.kinds.Kind.{Kind}
-use Rattle.kind_core.specs.declared.kinds.Kind.TheVariants.{Window}
 use Rattle.kind_core.specs.declared.shapes.Cell.{Cell}
 use Rattle.geom_core.specs.declared.rectangle.Rect.{Rect}
 use Rattle.geom_core.specs.Rect.{in_rect}
 use Rattle.widget_model.specs.Rows.{Row, IsIndex}
 use Rattle.widget_model.specs.Keys.{key_of, same_key, row_of}
-use Rattle.widget_model.specs.Trees.{is_child, can_be_child, has_children}
-use Rattle.widget_model.specs.Widgets.{Widgets, rows_of, row_at, row_kind}
+use Rattle.widget_model.specs.Trees.{is_child}
+use Rattle.widget_model.specs.Widgets.{Widgets, rows_of, row_at}
 use Rattle.widget_model.specs.Forest.{IsWidgets}
-use Rattle.widget_model.specs.Planted.{hangs_right}
 use Rattle.widget_model.specs.Relatives.{child_id}
-use Rattle.widget_model.proofs.Hanging.{find-passes, find-element, find_none_at, find_none_from, all_at}
+use Rattle.widget_model.proofs.Hanging.{find-passes, find-element, find_none_at, find_none_from}
 use Rattle.tree_core.specs.Children.{cells_of}
 use Rattle.tree_core.specs.Kept.{IsGrove}
 use Rattle.tree_core.proofs.Listed.{row_named-row, listed_number, numbered_place}
 use Rattle.tree_core.proofs.Children.{child_id-hangs, hangs-child_id, attached-hangs, HangsUnder-HangsAt, own_number}
-use Rattle.scene_model.specs.Scene.{Scene}
 use Rattle.scene_model.specs.Placing.{place_in}
 use Rattle.scene_model.specs.Showing.{place_of, parent_in, shows_at, child_at}
 use Rattle.scene_model.proofs.Parents.{IsChildOf-is_child}

@@ -1,8 +1,7 @@
 -- The look of a row of each kind, as a row of it is drawn.
-use Rattle.std.proofs.Common.{◌≡◌, ℕ, zero, suc, ◌+◌, ◌-◌, ◌*◌, ◌<◌, ◌≤◌, ℤ, pos, ◌+ℤ◌, ◌-ℤ◌, Bool, true, false, ◌&&◌, List, [], length, take, drop, get_or, refl, sym, ap, subst, ◌∙◌, arith}
-use Rattle.std.specs.Prelude.{Option, Some, None, nat_eq, unsigned_abs, slice_index, slice_range, min}
-use Rattle.std.specs.Option.{option_map, option_map_or, option_and_then}
-use Rattle.std.specs.Str.{bytes_eq}
+use Rattle.std.proofs.Common.{◌≡◌, ℕ, zero, suc, ◌+◌, ◌-◌, ◌*◌, ◌<◌, ◌≤◌, ℤ, pos, ◌+ℤ◌, ◌-ℤ◌, Bool, true, false, List, [], length, take, refl, sym, ap, subst, ◌∙◌, arith}
+use Rattle.std.specs.Prelude.{Option, Some, None, nat_eq, unsigned_abs, slice_index, slice_range}
+use Rattle.std.specs.Option.{option_map, option_map_or}
 use Rattle.std.specs.Cmp.Lexicographic.{nat_list_eq_equiv}
 use Rattle.std.proofs.lemmas.Bool.{true≢false, eqb-true, eq-eqb, and_from}
 use Rattle.kind_core.specs.declared.kinds.Kind.{Kind}
@@ -13,7 +12,6 @@ use Rattle.look_core.specs.Seen as seen
 use Rattle.look_core.specs.Seen.{Seen, in_row}
 use Rattle.look_core.specs.Colour.{colour_of}
 use Rattle.look_core.specs.Drawable.{IsDrawable}
-use Rattle.vscreen_core.specs.FilmState.{FilmState}
 use Rattle.widget_model.specs.Rows.{Row}
 use Rattle.widget_model.specs.Keys.{key_of, same_key, row_of, key_at}
 use Rattle.widget_model.specs.Pointer.{no_grab, on_widget}
@@ -21,7 +19,6 @@ use Rattle.widget_model.specs.Widgets.{Widgets, rows_of, row_at}
 use Rattle.widget_model.specs.Forest.{IsWidgets}
 use Rattle.scene_model.specs.Scene.{Scene}
 use Rattle.scene_model.specs.Fit.{AreFit}
-use Rattle.scene_model.specs.LookLaws.{HasFitNumbers, IsFitLook}
 use Rattle.scene_model.specs.LookOf.{look_by, look_of, grabs, is_held, has_focus}
 use Rattle.scene_model.specs.Values.{number_of, linked_value, text_of, label_of, count_of, scale_of, scrollbar_of, caret_of, is_vertical}
 use Rattle.scene_model.proofs.Looks.{looks_are_fit}
@@ -36,7 +33,6 @@ use Rattle.scene_model.specs.Colours.{colour_in}
 use Rattle.scene_model.proofs.Ranges.{places_are_in_range}
 use Rattle.scene_core.specs.declared.view.View as screen_view
 use Rattle.scene_core.specs.View.{scene_of}
-use Rattle.painter_core.specs.Layers.{Layers}
 use Rattle.painter_core.specs.Stage.{layers_of, colour_below, rect_at}
 use Rattle.painter_core.proofs.KeyLemmas.{number_of-key, same_key-true}
 

@@ -1,5 +1,5 @@
 -- Pieces painted: under other trails, one after another, and the whole that they make.
-use Rattle.std.proofs.Common.{◌≡◌, ℕ, ◌+◌, ◌<◌, ◌≤◌, ℤ, Bool, true, false, cond, ◌&&◌, ◌||◌, List, [], ◌∷◌, refl, sym, ap, ◌∙◌, arith}
+use Rattle.std.proofs.Common.{◌≡◌, ℕ, ◌+◌, ℤ, Bool, true, false, ◌&&◌, ◌||◌, List, [], ◌∷◌, refl, sym, ap, ◌∙◌, arith}
 use Rattle.std.specs.Prelude.{Option, Some, None}
 use Rattle.canvas_core.specs.Screen.{Screen, IsScreen}
 use Rattle.geom_core.specs.declared.rectangle.Rect.{Rect}
@@ -9,7 +9,7 @@ use Rattle.geom_core.specs.Count.{count_in}
 use Rattle.geom_core.proofs.CountLemmas.{count_in-same, count_in-parts, count_in-rect, count_rows-none}
 use Rattle.painter_core.specs.Layers.{Layers}
 use Rattle.painter_core.specs.Trail.{last_of, is_wanted}
-use Rattle.painter_core.specs.Painted.{Painted, Filled, Paints, PaintsAll, HasOneTrail, wanted_of, colour_by}
+use Rattle.painter_core.specs.Painted.{Filled, Paints, PaintsAll, HasOneTrail, wanted_of, colour_by}
 use Rattle.painter_core.proofs.PaintedLemmas.{Painted-none, Painted-same, Painted-then}
 
 and_same : (a b c : Bool) → (a ≡ true → b ≡ c) → (a && b) ≡ (a && c)

@@ -1,15 +1,15 @@
 -- The root of what is in a slot: an open window is its own, and a child has its parent's.
-use Rattle.std.proofs.Common.{◌≡◌, ℕ, zero, suc, ◌+◌, ◌/◌, ◌%◌, ◌<◌, List, [], ◌∷◌, length, get_or, refl, sym, ap, subst, ◌∙◌, slice_get, arith}
+use Rattle.std.proofs.Common.{◌≡◌, ℕ, zero, suc, ◌+◌, ◌/◌, ◌%◌, List, [], ◌∷◌, refl, sym, ap, subst, ◌∙◌, slice_get}
 use Rattle.std.specs.Prelude.{Option, Some, None, IfSome, IsSome, pos}
 use Rattle.std.proofs.lemmas.List.Elements.{All-head, All-tail}
-use Rattle.std.specs.List.{All, Contains}
+use Rattle.std.specs.List.{All}
 use Rattle.std.specs.Option.{option_map, option_map_or, option_and_then}
 use Rattle.std.proofs.lemmas.Option.{slice_get_within, get_or_from_slice_get}
 use Rattle.kind_core.specs.declared.kinds.Kind.TheVariants.{Window}
 use Rattle.kind_core.specs.declared.shapes.Cell.{Cell}
 use Rattle.geom_core.specs.declared.rectangle.Rect.{Rect}
 use Rattle.widget_model.specs.Rows.{Row}
-use Rattle.widget_model.specs.Keys.{key_of, row_of, parent_key, root_key}
+use Rattle.widget_model.specs.Keys.{key_of}
 use Rattle.widget_model.specs.Nodes.{id_named}
 use Rattle.widget_model.specs.Trees.{parent_of, root_in, root_of, most_levels}
 use Rattle.widget_model.specs.Widgets.{Widgets, rows_of, row_at, row_kind, nodes, place_at, IsLive}
@@ -21,8 +21,7 @@ use Rattle.scene_model.specs.Placing.{place_in}
 use Rattle.scene_model.specs.Showing.{parent_in}
 use Rattle.scene_model.proofs.LevelLaws.{children_have_their_parents_root}
 use Rattle.scene_core.specs.declared.view.View.{View}
-use Rattle.scene_core.specs.View.{scene_of, KeepsPlaces}
-use Rattle.painter_core.specs.Layers.{Layers}
+use Rattle.scene_core.specs.View.{KeepsPlaces}
 use Rattle.painter_core.specs.Stage.{rect_at, child_in_slot, layers_of, IsThere}
 use Rattle.painter_core.proofs.KeyLemmas.{grove_of, row_of-number, IsChildIn, IsChildIn-slot}
 use Rattle.painter_core.proofs.TopLemmas.{IsWindowRow, IsWindowRow-kind, alone}

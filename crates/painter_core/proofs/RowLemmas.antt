@@ -1,14 +1,14 @@
 -- Rows: what a row does that is lent and written, and one row more of a piece.
-use Rattle.std.proofs.Common.{◌≡◌, ℕ, ◌+◌, ◌-◌, ◌*◌, ◌^◌, ◌<◌, ◌≤◌, ℤ, pos, ◌+ℤ◌, Bool, true, false, cond, ◌&&◌, ◌||◌, List, length, get_or, refl, sym, ap, subst, ◌∙◌, arith}
+use Rattle.std.proofs.Common.{◌≡◌, ℕ, ◌+◌, ◌-◌, ◌*◌, ◌^◌, ◌<◌, ◌≤◌, ℤ, pos, ◌+ℤ◌, Bool, true, false, cond, ◌&&◌, List, length, get_or, refl, sym, ap, subst, ◌∙◌, arith}
 use Rattle.std.specs.Prelude.{nat_le, nat_lt, nat_eq, Option, Some, None, IfSome}
 use Rattle.std.proofs.Math.Nat.{mul-le-mul_left}
 use Rattle.std.proofs.lemmas.Bool.Decides.{nat_tests}
 use Rattle.std.proofs.lemmas.Int.{ints}
-use Rattle.canvas_core.specs.Screen.{Screen, IsScreen, place, pixel_of, with_span, in_span}
-use Rattle.canvas_core.specs.Lending.{written, with_row}
+use Rattle.canvas_core.specs.Screen.{Screen, IsScreen, place, pixel_of, in_span}
+use Rattle.canvas_core.specs.Lending.{with_row}
 use Rattle.canvas_core.proofs.Span.{get_or-with_span, written-with_span, place-fits, IsScreen-with_row}
 use Rattle.geom_core.specs.declared.rectangle.Rect.{Rect}
-use Rattle.geom_core.specs.Rect.{in_rect, area_of, IsEnclosed, IsInRange, IsInside}
+use Rattle.geom_core.specs.Rect.{in_rect, IsEnclosed, IsInRange, IsInside}
 use Rattle.geom_core.specs.Count.{screen_of}
 use Rattle.geom_core.specs.Splits.{upper_rows, row_at}
 use Rattle.geom_core.proofs.RectLemmas.{IsInRange-from_enclosed, IsInRange-screen, in_rect-empty}

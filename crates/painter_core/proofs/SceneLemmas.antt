@@ -1,32 +1,26 @@
 -- From trails to the scene: the pixels painted by trails have the scene's colours, and one top is one trail.
-use Rattle.std.proofs.Common.{◌≡◌, ℕ, suc, ◌+◌, ◌*◌, ◌<◌, ◌≤◌, ℤ, pos, Bool, true, false, cond, ◌&&◌, List, [], ◌∷◌, length, get_or, refl, sym, ap, ◌∙◌, slice_get, ◌⊎◌, inl, inr, arith}
-use Rattle.std.specs.Prelude.{Option, Some, None, nat_le, nat_lt}
-use Rattle.std.specs.List.{All}
+use Rattle.std.proofs.Common.{◌≡◌, ℕ, suc, ◌<◌, ◌≤◌, ℤ, pos, Bool, true, false, cond, ◌&&◌, List, length, get_or, refl, sym, ap, ◌∙◌, ◌⊎◌, inl, inr, arith}
+use Rattle.std.specs.Prelude.{Option, Some, None}
 use Rattle.std.proofs.lemmas.Bool.Decides.{nat_tests}
-use Rattle.std.proofs.lemmas.Option.{slice_get-get_or}
 use Rattle.kind_core.specs.declared.kinds.Kind.TheVariants.{Window}
-use Rattle.canvas_core.specs.Screen.{Screen, IsScreen, pixel_of}
+use Rattle.canvas_core.specs.Screen.{Screen, pixel_of}
 use Rattle.geom_core.specs.declared.rectangle.Rect.{Rect}
 use Rattle.geom_core.specs.Rect.{in_rect, area_of, IsInside}
-use Rattle.geom_core.specs.Count.{screen_of, count_in}
+use Rattle.geom_core.specs.Count.{screen_of}
 use Rattle.geom_core.proofs.CountLemmas.{count_in-same, count_in-rect}
-use Rattle.geom_core.proofs.RectLemmas.{in_rect-empty}
 use Rattle.widget_model.specs.Keys.{key_of}
-use Rattle.widget_model.specs.Widgets.{Widgets, row_kind}
+use Rattle.widget_model.specs.Widgets.{row_kind}
 use Rattle.widget_model.specs.Trees.{most_levels}
 use Rattle.widget_model.specs.Relatives.{parent_id}
 use Rattle.widget_model.specs.Forest.{IsWidgets}
-use Rattle.stack_core.specs.Stack.{IsStack, most_keys}
 use Rattle.scene_model.specs.Showing.{on_screen, top_of}
 use Rattle.scene_model.specs.Colours.{colour_at}
 use Rattle.scene_core.specs.declared.view.View.{View}
 use Rattle.scene_core.specs.View.{scene_of, IsView}
-use Rattle.painter_core.specs.Layers.{Layers}
 use Rattle.painter_core.specs.Trail.{trail, slots_from, last_of, is_wanted}
 use Rattle.painter_core.specs.Painted.{Painted, Paints, HasOneTrail, wanted_of, colour_by}
 use Rattle.painter_core.specs.Painting.{ShowsScene, HasOneTop}
-use Rattle.painter_core.specs.Stage.{layers_of, child_in_slot, IsPaintable}
-use Rattle.painter_core.proofs.PaintedLemmas.{Painted-none, Painted-same}
+use Rattle.painter_core.specs.Stage.{layers_of}
 use Rattle.painter_core.proofs.StageLemmas.{length-windows, length-children, window-slot, child-slot}
 use Rattle.painter_core.proofs.KeyLemmas.{number_of-key}
 use Rattle.painter_core.proofs.RootLemmas.{parent-window, parent-child, all_at_slot}

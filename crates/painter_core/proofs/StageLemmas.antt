@@ -1,7 +1,6 @@
 -- What a view lays over what: the slots of windows and of children.
-use Rattle.std.proofs.Common.{◌≡◌, ℕ, ◌+◌, ◌<◌, ◌≤◌, List, [], ◌∷◌, length, get_or, map, refl, sym, ap, ◌∙◌, arith}
+use Rattle.std.proofs.Common.{◌≡◌, ℕ, ◌<◌, ◌≤◌, List, [], ◌∷◌, length, get_or, map, refl, arith}
 use Rattle.std.specs.Prelude.{Option, Some, None}
-use Rattle.std.specs.List.{range_with_len}
 use Rattle.std.specs.Option.{option_map_or}
 use Rattle.std.proofs.lemmas.List.{length-map}
 use Rattle.std.proofs.lemmas.List.FromFn.{length-map-range_with_len, get_or-map-range_with_len}
@@ -15,7 +14,6 @@ use Rattle.kind_core.specs.declared.kinds.Kind.TheVariants.{Window, Grid, Frame}
 use Rattle.widget_model.specs.Widgets.{Widgets, row_kind, row_at, IsLive}
 use Rattle.tree_core.specs.Children.{cells_of}
 use Rattle.scene_core.specs.declared.view.View.{View}
-use Rattle.painter_core.specs.Layers.{Layers}
 use Rattle.painter_core.specs.Stage.{layers_of, slots_below, slots_of, child_in_slot}
 
 few_cells : (kind : Kind) → cells_of kind ≤ 256

@@ -1,19 +1,18 @@
 -- A trail ends at the widget on top: the window that shows the pixel first, and from there down the children that show
 -- it.
-use Rattle.std.proofs.Common.{◌≡◌, ℕ, zero, suc, ◌+◌, ◌<◌, ◌≤◌, ℤ, pos, Bool, true, false, cond, ◌&&◌, List, [], ◌∷◌, length, get_or, map, refl, sym, ap, subst, ◌∙◌, slice_get, arith, ◌⊎◌, inl, inr}
+use Rattle.std.proofs.Common.{◌≡◌, ℕ, zero, suc, ◌<◌, ℤ, pos, Bool, true, false, cond, ◌&&◌, List, [], ◌∷◌, length, get_or, map, refl, sym, ap, ◌∙◌, arith, ◌⊎◌, inl, inr}
 use Rattle.std.specs.Prelude.{Option, Some, None}
 use Rattle.std.specs.List.{find, All}
 use Rattle.std.specs.Option.{option_map, option_map_or, option_and_then}
-use Rattle.std.proofs.lemmas.Bool.{true≢false, and_parts, and_from}
+use Rattle.std.proofs.lemmas.Bool.{true≢false, and_parts}
 use Rattle.std.proofs.lemmas.List.Elements.{All-head, All-tail}
-use Rattle.kind_core.specs.declared.kinds.Kind.{Kind}
 use Rattle.kind_core.specs.declared.kinds.Kind.TheVariants.{Window}
 use Rattle.kind_core.specs.declared.shapes.Cell.{Cell}
 use Rattle.geom_core.specs.declared.rectangle.Rect.{Rect}
 use Rattle.geom_core.specs.Rect.{in_rect}
-use Rattle.look_core.specs.Seen.{Seen, no_film}
+use Rattle.look_core.specs.Seen.{no_film}
 use Rattle.widget_model.specs.Rows.{Row}
-use Rattle.widget_model.specs.Keys.{key_of, row_of, key_at}
+use Rattle.widget_model.specs.Keys.{key_of}
 use Rattle.widget_model.specs.Named.{row_named}
 use Rattle.widget_model.specs.Trees.{can_be_child, most_levels}
 use Rattle.widget_model.specs.Widgets.{Widgets, rows_of, row_at, row_kind}
@@ -23,14 +22,13 @@ use Rattle.widget_model.proofs.Hanging.{all_at}
 use Rattle.tree_core.proofs.Listed.{numbered_place}
 use Rattle.scene_model.specs.Scene.{Scene}
 use Rattle.scene_model.specs.Placing.{place_in}
-use Rattle.scene_model.specs.Showing.{place_of, parent_in, shows_in, shows_at, on_screen, child_at, lowest_in, window_at, top_of}
+use Rattle.scene_model.specs.Showing.{place_of, parent_in, shows_in, shows_at, on_screen, lowest_in, top_of}
 use Rattle.scene_model.specs.LookOf.{look_of}
 use Rattle.scene_model.specs.Colours.{look_at, colour_in, colour_at}
 use Rattle.scene_core.specs.declared.view.View.{View}
 use Rattle.scene_core.specs.View.{scene_of, keys_of, IsView}
-use Rattle.painter_core.specs.Layers.{Layers}
 use Rattle.painter_core.specs.Trail.{first_holding, trail, last_of}
-use Rattle.painter_core.specs.Stage.{rect_at, child_in_slot, slots_of, slots_below, colour_below, layers_of}
+use Rattle.painter_core.specs.Stage.{rect_at, child_in_slot, slots_below, colour_below, layers_of}
 use Rattle.painter_core.proofs.StageLemmas.{length-children, child-slot}
 use Rattle.painter_core.proofs.TrailLemmas.{Enters, Misses, trail-cases, trail-none}
 use Rattle.painter_core.proofs.KeyLemmas.{row_of-number, place_of-number, IsChildIn, IsChildIn-slot, shows_at-child, child_at-found, child_at-none}

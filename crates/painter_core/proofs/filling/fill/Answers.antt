@@ -1,12 +1,11 @@
-use Rattle.std.proofs.Common.{◌≡◌, ◌<◌, ◌≤◌, ◌*◌, ◌+◌, ◌^◌, sym, subst, ap, arith}
+use Rattle.std.proofs.Common.{◌≡◌, ◌*◌, sym, subst, ap, arith}
 use Rattle.std.specs.Prelude.{IfSome}
-use Rattle.canvas_core.specs.Screen.{Screen}
 use Rattle.geom_core.specs.declared.rectangle.Rect.{Rect}
 use Rattle.geom_core.specs.Rect.{in_rect, IsEnclosed, IsInside}
 use Rattle.geom_core.specs.Count.{screen_of}
 use Rattle.geom_core.specs.Splits.{row_at, upper_rows}
 use Rattle.geom_core.proofs.RectLemmas.{IsInside-from_enclosed, sides_some}
-use Rattle.painter_core.specs.Painted.{Filled, Painted}
+use Rattle.painter_core.specs.Painted.{Filled}
 use Rattle.painter_core.specs.Stage.{layers_of}
 use Rattle.painter_core.proofs.CutLemmas.{on_screen_kept}
 use Rattle.painter_core.proofs.RowLemmas.{row_in_piece, IsEnclosed-trans, IsInRange-on_screen, inside_of, rows_left, Painted-no_rows, Painted-line}

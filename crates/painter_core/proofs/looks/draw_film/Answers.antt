@@ -1,4 +1,4 @@
-use Rattle.std.proofs.Common.{◌≡◌, ℕ, ◌≤◌, ◌∙◌, sym, ap, List, [], arith}
+use Rattle.std.proofs.Common.{◌≡◌, ℕ, ◌≤◌, ◌∙◌, sym, ap, [], arith}
 use Rattle.look_core.specs.Seen as seen
 use Rattle.look_core.specs.Seen.{Seen, in_row}
 use Rattle.painter_core.proofs.LookLemmas.{look-film, no_row}

@@ -1,13 +1,9 @@
-use Rattle.std.proofs.Common.{◌≡◌, ℕ, ◌<◌, ◌≤◌, ◌+◌, ℤ, pos, ◌+ℤ◌, length, Some, None, sym, ap, subst, ◌∙◌, arith}
-use Rattle.std.specs.Prelude.{Option, unsigned_abs}
+use Rattle.std.proofs.Common.{◌∙◌}
 use Rattle.look_core.specs.Seen as seen
 use Rattle.look_core.specs.Seen.{Seen}
-use Rattle.widget_model.specs.Widgets.{rows_of}
 use Rattle.scene_model.specs.LookOf.{look_of}
 use Rattle.scene_core.specs.Children.{row_for}
 use Rattle.scene_core.specs.View.{scene_of}
-use Rattle.scene_core.proofs.Numbered.{live-there, read}
-use Rattle.painter_core.proofs.KeyLemmas.{row_of-number}
 use Rattle.painter_core.proofs.LookLemmas.{ShowsLook-drawn, look-label}
 use Rattle.painter_core.proofs.looks.draw_label.Goals as goal
 

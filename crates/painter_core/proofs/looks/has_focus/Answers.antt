@@ -1,13 +1,7 @@
-use Rattle.std.proofs.Common.{◌≡◌, false, ℕ, ◌<◌, ◌≤◌, ◌+◌, ℤ, pos, ◌+ℤ◌, length, Some, None, sym, ap, subst, ◌∙◌, arith}
-use Rattle.std.specs.Prelude.{Option, unsigned_abs}
-use Rattle.look_core.specs.Seen as seen
-use Rattle.look_core.specs.Seen.{Seen}
-use Rattle.widget_model.specs.Widgets.{rows_of}
-use Rattle.scene_model.specs.LookOf.{look_of}
+use Rattle.std.proofs.Common.{false, sym, ap, ◌∙◌}
+use Rattle.std.specs.Prelude.{Option}
 use Rattle.scene_core.specs.Children.{row_for}
-use Rattle.scene_core.specs.View.{scene_of}
-use Rattle.scene_core.proofs.Numbered.{live-there, read}
-use Rattle.painter_core.proofs.KeyLemmas.{row_of-number}
+use Rattle.scene_core.proofs.Numbered.{live-there}
 use Rattle.std.specs.Option.{option_map_or, option_and_then}
 use Rattle.tree_core.specs.declared.id.Id.{Id}
 use Rattle.widget_model.specs.Keys.{key_of, key_at, same_key}

@@ -1,4 +1,4 @@
-use Rattle.std.proofs.Common.{◌≡◌, ℕ, ℤ, true, length}
+use Rattle.std.proofs.Common.{◌≡◌, ℕ, ℤ, true}
 use Rattle.geom_core.specs.Rect.{in_rect}
 use Rattle.painter_core.specs.Stage.{layers_of}
 use Rattle.painter_core.specs.Trail.{trail, slots_from}

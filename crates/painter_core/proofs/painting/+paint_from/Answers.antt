@@ -1,15 +1,14 @@
-use Rattle.std.proofs.Common.{◌≡◌, ℕ, ◌<◌, ◌≤◌, ◌+◌, ◌-◌, ◌*◌, ℤ, pos, Bool, true, false, ◌&&◌, List, [], ◌∷◌, length, take, get_or, refl, sym, ap, subst, ◌∙◌, arith}
+use Rattle.std.proofs.Common.{◌<◌, ◌+◌, ◌-◌, ℤ, pos, List, [], ◌∷◌, length, take, get_or, refl, ap, ◌∙◌, arith}
 use Rattle.std.specs.Prelude.{Some}
 use Rattle.std.proofs.lemmas.List.{take_all}
 use Rattle.canvas_core.specs.Screen.{Screen}
 use Rattle.geom_core.specs.declared.rectangle.Rect.{Rect}
-use Rattle.geom_core.specs.Rect.{in_rect, area_of, IsEnclosed}
 use Rattle.geom_core.specs.Pieces.{covers, total_area}
 use Rattle.geom_core.proofs.RectLemmas.{rect_of, IsEnclosed-from_inside}
 use Rattle.geom_core.proofs.PieceLemmas.{covers-at, HavePixels-at}
 use Rattle.painter_core.specs.Painted.{wanted_of, colour_by}
 use Rattle.painter_core.specs.Stage.{layers_of}
-use Rattle.painter_core.specs.Trail.{trail, slots_from, last_of}
+use Rattle.painter_core.specs.Trail.{trail, slots_from}
 use Rattle.painter_core.proofs.TrailLemmas.{trail-none}
 use Rattle.painter_core.proofs.StageLemmas.{few_below}
 use Rattle.painter_core.proofs.RowLemmas.{IsInRange-on_screen, inside_of}

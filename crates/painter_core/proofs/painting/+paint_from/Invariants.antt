@@ -1,4 +1,4 @@
-use Rattle.std.proofs.Common.{◌≡◌, ℕ, ◌+◌, ◌-◌, ◌*◌, ◌∷◌, length, take}
+use Rattle.std.proofs.Common.{◌≡◌, ◌+◌, ◌-◌, ◌*◌, ◌∷◌, length, take}
 use Rattle.painter_core.specs.Painted.{PaintsAll}
 use Rattle.painter_core.specs.Stage.{layers_of}
 use Rattle.painter_core.specs.Trail.{trail, slots_from}

@@ -1,4 +1,4 @@
-use Rattle.std.proofs.Common.{◌≡◌, ◌<◌, ◌+◌, ◌*◌, ap, sym, ◌∙◌, subst, refl, arith}
+use Rattle.std.proofs.Common.{◌<◌, refl, arith}
 use Rattle.geom_core.specs.Rect.{area_of, IsInside}
 use Rattle.geom_core.specs.Count.{screen_of}
 use Rattle.geom_core.proofs.RectLemmas.{IsEnclosed-from_inside}

@@ -1,4 +1,4 @@
-use Rattle.std.proofs.Common.{◌≡◌, ℕ, Some, ◌∙◌, sym, ap, w32, rules}
+use Rattle.std.proofs.Common.{ℕ, Some, ◌∙◌, sym, ap, w32, rules}
 use Rattle.std.specs.Option.{option_map}
 use Rattle.std.proofs.lemmas.Int.{to_z-of_z}
 use Rattle.kind_core.specs.declared.kinds.Attr.TheVariants.{Value}

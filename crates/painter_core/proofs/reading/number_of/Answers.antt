@@ -1,4 +1,4 @@
-use Rattle.std.proofs.Common.{◌≡◌, ◌∙◌, ap, w32, rules}
+use Rattle.std.proofs.Common.{◌∙◌, ap, w32, rules}
 use Rattle.std.proofs.lemmas.Int.{to_z-of_z}
 use Rattle.widget_model.specs.Rows.{Row, attr_of}
 use Rattle.scene_model.specs.Values.{number_in}

@@ -1,4 +1,4 @@
-use Rattle.std.proofs.Common.{◌≡◌, Some, None, ◌∙◌, sym, ap}
+use Rattle.std.proofs.Common.{◌∙◌, sym, ap}
 use Rattle.widget_model.specs.Rows.{Row, attr_of}
 use Rattle.scene_model.specs.Values.{text_in}
 use Rattle.scene_core.proofs.Numbered.{read}

@@ -1,4 +1,4 @@
-use Rattle.std.proofs.Common.{◌≡◌, ℕ, ◌<◌, length, get_or, ap, sym, ◌∙◌, subst, arith}
+use Rattle.std.proofs.Common.{ℕ, ◌<◌, length, get_or, ap, sym, ◌∙◌, subst, arith}
 use Rattle.std.specs.Prelude.{Option, None, IfSome}
 use Rattle.painter_core.specs.Stage.{layers_of, slots_of, IsThere}
 use Rattle.painter_core.proofs.StageLemmas.{window-slot, child-slot, length-children}

@@ -1,4 +1,4 @@
-use Rattle.std.proofs.Common.{◌≡◌, sym, ◌∙◌}
+use Rattle.std.proofs.Common.{sym, ◌∙◌}
 use Rattle.painter_core.proofs.RootLemmas.{kept_place, no_kept_place}
 use Rattle.painter_core.proofs.slots.place.Goals as goal
 
