@@ -19,6 +19,7 @@ use Rattle.tree_core.specs.Refusals.{attach_refusal, attach_answer}
 use Rattle.tree_core.proofs.Listed.{AreNamedApart-rows, row_named-row}
 use Rattle.row_store.proofs.Nodes.{nodes-with_row}
 use Rattle.row_store.proofs.Options.{is_none_of}
+use Rattle.widget_model.proofs.Leaves.{LeavesNode-node}
 use Rattle.widget_model.proofs.Planting.{LeavesPlace, IsPlanted-change, IsPlanted-attach, IsPlanted-detach}
 use Rattle.widget_model.proofs.Cells.{CanHang}
 
@@ -42,7 +43,7 @@ IsGrove-with_row es id change row same grove there planted =
 -- and the place of each row
 pub IsGrove-leaves : (es : List (ℕ × Row)) (id : ℕ) (change : Row → Row) (row : Row) → ((row : Row) → node_of (change row) ≡ node_of row) → ((row : Row) → (change row).attached ≡ row.attached) → IsGrove es → row_at es id ≡ Some row → IsGrove (with_row id change es)
 IsGrove-leaves es id change row same still grove there =
-    let leaves : LeavesPlace change = record { client = λ r. ap (λ (n : Node). n.client) (same r); name = λ r. ap (λ (n : Node). n.name) (same r); kind = λ r. ap (λ (n : Node). n.kind) (same r); attached = still } in
+    let leaves : LeavesPlace change = record { leaves = LeavesNode-node change same; attached = still } in
     IsGrove-with_row es id change row same grove there (IsPlanted-change (rows_in es) row.client row.name change leaves grove.planted)
 
 pub IsGrove-unhang : (es : List (ℕ × Row)) (id : ℕ) (row : Row) → IsGrove es → row_at es id ≡ Some row → IsGrove (with_row id (with_attached None) es)

@@ -25,7 +25,8 @@ use Rattle.row_store.proofs.Nodes.{nodes-with_row, nodes-push, node_at-nodes}
 use Rattle.tree_core.proofs.ForestLemmas.{live-with_row, ties-with_row, linked-with_link, linked-push, IsForest-join, IsForest-push, no_refusal, joined_in_range}
 use Rattle.tree_core.proofs.Groves.{IsGrove-leaves}
 use Rattle.tree_core.proofs.Moves.{HasChildren-still}
-use Rattle.tree_core.proofs.Fits.{fitting-with_row, fitting-push, fits_table-new}
+use Rattle.widget_model.proofs.ValuesFit.{fits_table-new}
+use Rattle.tree_core.proofs.Fits.{fitting-with_row, fitting-push}
 use Rattle.widget_model.proofs.FitFilms.{HaveFitFilms-with_row, HaveFitFilms-push}
 use Rattle.tree_core.proofs.Newcomer.{planted-push, HasChildren-push}
 

@@ -1,5 +1,5 @@
 -- When a call refuses, and with what: the first that holds, in the order of the tests.
-use Rattle.std.specs.Prelude.{ℕ, ◌≡◌, ◌+◌, ◌&&◌, not, List, Option, Some, None, is_some, nat_le, nat_lt, if◌then◌else◌}
+use Rattle.std.specs.Prelude.{ℕ, ◌≡◌, ◌+◌, Bool, ◌&&◌, not, List, [], ◌∷◌, Option, Some, None, is_some, nat_le, nat_lt, if◌then◌else◌}
 use Rattle.std.specs.Option.{option_map, option_and_then}
 use Rattle.kind_core.specs.declared.kinds.Kind.{Kind}
 use Rattle.kind_core.specs.declared.shapes.Cell.{Cell}
@@ -12,13 +12,21 @@ use Rattle.tree_core.specs.declared.refusal.AddRefusal.TheVariants.{NameTaken, F
 use Rattle.tree_core.specs.declared.refusal.AttachRefusal.{AttachRefusal}
 use Rattle.tree_core.specs.declared.refusal.AttachRefusal.TheVariants.{WrongKind, HasParent, Cycle, TooDeep, CellTaken}
 
+-- the first refusal whose condition holds, from left to right
+abbrev pub first_of : {R : Type 0} → List (Bool × R) → Option R
+first_of [] = None
+first_of (refusal ∷ refusals) = if refusal.0 then Some refusal.1 else first_of refusals
+
 -- A new widget is refused where the client has one of the name, then where it has 128, then where it would
 -- be the ninth Window or the ninth VScreen.
 abbrev pub add_refusal : List (ℕ × Node) → ℕ → List ℕ → Kind → Option AddRefusal
 add_refusal entries client name kind =
-    if is_some (id_named entries client name) then Some NameTaken else
-    (if nat_le 128 (count_of client any_kind entries) then Some (Full 128) else
-    (if nat_le 8 (count_of client (counts_with kind) entries) then Some (Full 8) else None))
+    first_of (
+    (is_some (id_named entries client name), NameTaken)
+    ∷ (nat_le 128 (count_of client any_kind entries), Full 128)
+    ∷ (nat_le 8 (count_of client (counts_with kind) entries), Full 8)
+    ∷ []
+    )
 
 -- Want of memory comes only where nothing else is refused; any other answer is the first refusal.
 abbrev pub AnswersRefusal : Option AddRefusal → AddRefusal → Type 0
@@ -31,11 +39,14 @@ AnswersRefusal refusal (Full limit) = refusal ≡ Some (Full limit)
 -- has a child.
 abbrev pub attach_refusal : List Row → Row → Row → Cell → Option AttachRefusal
 attach_refusal rows parent child cell =
-    if not (has_children parent.kind && can_be_child child.kind) then Some WrongKind else
-    (if hangs child then Some HasParent else
-    (if is_above rows parent.client child.name parent.name then Some Cycle else
-    (if nat_lt most_levels (depth_of rows parent.client parent.name + height_of rows child.client child.name) then Some TooDeep else
-    (if is_some (child_in rows parent.client parent.name cell.column cell.row) then Some CellTaken else None))))
+    first_of (
+    (not (has_children parent.kind && can_be_child child.kind), WrongKind)
+    ∷ (hangs child, HasParent)
+    ∷ (is_above rows parent.client child.name parent.name, Cycle)
+    ∷ (nat_lt most_levels (depth_of rows parent.client parent.name + height_of rows child.client child.name), TooDeep)
+    ∷ (is_some (child_in rows parent.client parent.name cell.column cell.row), CellTaken)
+    ∷ []
+    )
 
 -- the same of two numbered rows
 abbrev pub attach_answer : Widgets → ℕ → ℕ → Cell → Option (Option AttachRefusal)

@@ -1,5 +1,5 @@
 //! Calls that read the tree: whether it has what a row says. A name that no widget has stands for none.
-use crate::tables::{index, kind, name, number, other, widget};
+use crate::tables::{index, kind, name, number, other, place, widget};
 use kind_core::{Attr, Cell, EventKind, Kind, Value};
 use std::str::SplitWhitespace;
 use std::test::Fail;
@@ -100,6 +100,18 @@ fn is_free(tree: &Tree, words: &mut SplitWhitespace<'_>) -> Result<bool, Fail> {
     Ok(tree.binding(id, EventKind::Move).is_none())
 }
 
+/// `placed WIDGET X Y WIDTH HEIGHT`.
+fn is_placed(tree: &Tree, words: &mut SplitWhitespace<'_>) -> Result<bool, Fail> {
+    let id = widget(tree, words)?;
+    Ok(tree.place_of(id) == Some(place(words)?))
+}
+
+/// `unplaced WIDGET`.
+fn is_unplaced(tree: &Tree, words: &mut SplitWhitespace<'_>) -> Result<bool, Fail> {
+    let id = widget(tree, words)?;
+    Ok(tree.place_of(id).is_none())
+}
+
 /// Whether the tree has what the row says.
 pub fn has(tree: &Tree, call: &str, words: &mut SplitWhitespace<'_>) -> Result<bool, Fail> {
     match call {
@@ -116,6 +128,8 @@ pub fn has(tree: &Tree, call: &str, words: &mut SplitWhitespace<'_>) -> Result<b
         "linked" => is_linked(tree, words),
         "bound" => is_bound(tree, words),
         "free" => is_free(tree, words),
+        "placed" => is_placed(tree, words),
+        "unplaced" => is_unplaced(tree, words),
         _ => Err("no such call".into()),
     }
 }

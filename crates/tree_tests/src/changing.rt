@@ -2,7 +2,7 @@
 ghost use Rattle.std.specs.Prelude.{◌≡◌, true};
 ghost use Rattle.widget_model.specs.Widgets.{is_joined};
 
-use crate::tables::{index, kind, name, number, widget};
+use crate::tables::{index, kind, name, number, place, widget};
 use kind_core::{Attr, AttrRefusal, Cell, EventKind, Kind, Value};
 use std::str::SplitWhitespace;
 use std::test::Fail;
@@ -182,6 +182,27 @@ fn unbind(tree: &mut Tree, words: &mut SplitWhitespace<'_>) -> Result<&'static s
     Ok("done")
 }
 
+/// `place WIDGET X Y WIDTH HEIGHT`.
+fn set_place(tree: &mut Tree, words: &mut SplitWhitespace<'_>) -> Result<&'static str, Fail>
+    requires { is_joined tree.old.clients 1 ≡ true }
+    ensures { is_joined tree.new.clients 1 ≡ true }
+{
+    let id = widget(tree, words)?;
+    let place = place(words)?;
+    tree.set_place(id, Some(place));
+    Ok("done")
+}
+
+/// `unplace WIDGET`.
+fn unplace(tree: &mut Tree, words: &mut SplitWhitespace<'_>) -> Result<&'static str, Fail>
+    requires { is_joined tree.old.clients 1 ≡ true }
+    ensures { is_joined tree.new.clients 1 ≡ true }
+{
+    let id = widget(tree, words)?;
+    tree.set_place(id, None);
+    Ok("done")
+}
+
 /// What the call answers.
 pub fn change(
     tree: &mut Tree,
@@ -203,6 +224,8 @@ pub fn change(
         "unlink" => unlink(tree, words),
         "bind" => bind(tree, words),
         "unbind" => unbind(tree, words),
+        "place" => set_place(tree, words),
+        "unplace" => unplace(tree, words),
         _ => Err("no such call".into()),
     }
 }

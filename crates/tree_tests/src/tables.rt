@@ -3,6 +3,7 @@ ghost use Rattle.std.specs.Prelude.{IfOk};
 ghost use Rattle.widget_model.specs.Rows.{IsIndex};
 ghost use Rattle.widget_model.specs.Widgets.{IsLive};
 
+use geom_core::Rect;
 use kind_core::{Kind, Name, name_from};
 use std::str::SplitWhitespace;
 use std::test::Fail;
@@ -32,6 +33,16 @@ pub fn index(words: &mut SplitWhitespace<'_>) -> Result<u32, Fail>
     Ok(at)
 }
 
+/// The next four words of a row: a place.
+pub fn place(words: &mut SplitWhitespace<'_>) -> Result<Rect, Fail> {
+    Ok(Rect {
+        x: word(words)?.parse()?,
+        y: word(words)?.parse()?,
+        w: number(words)?,
+        h: number(words)?,
+    })
+}
+
 /// The next name of a row.
 pub fn name(words: &mut SplitWhitespace<'_>) -> Result<Name, Fail> {
     match name_from(word(words)?.as_bytes()) {
@@ -47,6 +58,7 @@ pub fn kind(words: &mut SplitWhitespace<'_>) -> Result<Kind, Fail> {
         "Grid" => Ok(Kind::Grid),
         "Label" => Ok(Kind::Label),
         "Variable" => Ok(Kind::Variable),
+        "VScreen" => Ok(Kind::VScreen),
         _ => Err("a word is no kind".into()),
     }
 }

@@ -184,6 +184,29 @@ fn a_widget_that_holds_or_hangs_stays(rt: HostRuntime) -> Result<(), Fail> {
     plays(&rt, rt.alloc(), USED)
 }
 
+const PLACES: &str = "
+add a Label | done
+has unplaced a | yes
+place a 3 -4 50 60 | done
+has placed a 3 -4 50 60 | yes
+place a 1 2 3 4 | done
+add b Label | done
+has unplaced b | yes
+place b 5 6 7 8 | done
+has placed a 1 2 3 4 | yes
+has placed b 5 6 7 8 | yes
+unplace b | done
+has unplaced b | yes
+remove a | done
+add a Label | done
+has unplaced a | yes
+";
+
+#[test]
+fn the_last_place_of_a_widget_is_kept(rt: HostRuntime) -> Result<(), Fail> {
+    plays(&rt, rt.alloc(), PLACES)
+}
+
 /// A name of one letter.
 fn letter(byte: u8) -> Result<Name, Fail> {
     match name_from(&[byte]) {

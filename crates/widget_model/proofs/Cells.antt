@@ -14,6 +14,7 @@ use Rattle.widget_model.specs.Named.{has_name, row_named, with_named}
 use Rattle.widget_model.specs.Trees.{hangs, has_children, can_be_child, child_in, stands_at, depth_of, height_of, is_above, most_levels}
 use Rattle.widget_model.specs.Planted.{has_cell, is_alone, HaveOwnCells}
 use Rattle.widget_model.specs.Named.{AreNamedApart}
+use Rattle.widget_model.proofs.Leaves.{LeavesNode}
 use Rattle.widget_model.proofs.Hanging.{find-passes, find-element, find_none_at, find_none_from, find-map_none, find-map_same, find-filter_none, find-push_none, none_at, IsNamed, IsNamed-from, IsNamed-row_named, changed, row_named-only}
 
 -- the child in a cell hangs there
@@ -88,9 +89,7 @@ child_in-own (first ∷ rows) (suc i) row name cell own there attached = by (sta
 
 -- A change that leaves a row as it is, or cuts it loose.
 pub record Lessens (change : Row → Row) : Type 0 where
-  pub client : (row : Row) → (change row).client ≡ row.client
-  pub name : (row : Row) → (change row).name ≡ row.name
-  pub kind : (row : Row) → (change row).kind ≡ row.kind
+  pub leaves : LeavesNode change
   pub attached : (row : Row) → ((change row).attached ≡ None) ⊎ ((change row).attached ≡ row.attached)
 
 stands_at-less : (change : Row → Row) (client : ℕ) (name : List ℕ) (column line : ℕ) (row : Row) → Lessens change → stands_at client name column line row ≡ false → stands_at client name column line (change row) ≡ false
@@ -98,7 +97,7 @@ stands_at-less change client name column line row less h = by (less.attached row
   where
     by : ((change row).attached ≡ None) ⊎ ((change row).attached ≡ row.attached) → stands_at client name column line (change row) ≡ false
     by (inl alone) = stands_at-alone client name column line (change row) alone
-    by (inr same) = rw (less.client row, same) h
+    by (inr same) = rw (less.leaves.client row, same) h
 
 is_alone-map : (change : Row → Row) (later : List Row) (row : Row) → Lessens change → is_alone later row ≡ true → is_alone (map change later) (change row) ≡ true
 is_alone-map change later row less alone = is_alone-from (map change later) (change row) (λ name cell is. by name cell is (less.attached row))
@@ -107,7 +106,7 @@ is_alone-map change later row less alone = is_alone-from (map change later) (cha
     by name cell is (inl loose) = absurd (cc)
     by name cell is (inr same) =
         let free = is_alone-at later row name cell alone (sym same ∙ is) in
-        rw (less.client row)
+        rw (less.leaves.client row)
         (find-map_none (stands_at row.client name cell.column cell.row) change later (λ i other there. stands_at-less change row.client name cell.column cell.row other less (find_none_at (stands_at row.client name cell.column cell.row) later i other free there)))
 
 pub HaveOwnCells-map : (change : Row → Row) (rows : List Row) → Lessens change → HaveOwnCells rows → HaveOwnCells (map change rows)

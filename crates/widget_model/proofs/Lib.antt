@@ -8,3 +8,5 @@ pub mod OwnRows
 pub mod FittingValues
 pub mod FitFilms
 pub mod Slots
+pub mod ValuesFit
+pub mod Leaves

@@ -13,6 +13,7 @@ use Rattle.widget_model.specs.Trees.{hangs, parent_of, is_child, depth_of, heigh
 use Rattle.widget_model.specs.Planted.{hangs_right, IsPlanted}
 use Rattle.widget_model.specs.Named.{AreNamedApart}
 use Rattle.widget_model.proofs.Hanging.{find-element, all_at, all_from, none_at, all-filter, IsNamed-row_named, LeavesNames, changed, row_named-map, row_named-only, row_named-changed_other, row_named-filter, LeavesNames-changed, parent_in, parent_in-loose, parent_in-same, HangsIn-from, IsHungRight, hangs_right-at, hangs_right-from}
+use Rattle.widget_model.proofs.Leaves.{LeavesNode, LeavesNode-changed}
 use Rattle.widget_model.proofs.Levels.{ends_within-fewer, ends_within-hung, IsHung-attach, some_levels, ends_within-alone, parent_of-push, parent_of-push_alone}
 use Rattle.widget_model.proofs.Cells.{Lessens, HaveOwnCells-map, HaveOwnCells-filter, HaveOwnCells-push, HaveOwnCells-attach, hung_in, CanHang}
 
@@ -57,7 +58,7 @@ IsPlanted-map rows change less planted =
     }
   where
     leaves : LeavesNames change
-    leaves = record { client = less.client; name = less.name }
+    leaves = record { client = less.leaves.client; name = less.leaves.name }
 
     hang : (i : ℕ) (row : Row) → slice_get rows i ≡ Some row → hangs_right (map change rows) (change row) ≡ true
     hang i row there = hangs_right-from (map change rows) (change row) (λ name cell is. by name cell is (less.attached row))
@@ -66,12 +67,12 @@ IsPlanted-map rows change less planted =
         by name cell is (inl loose) = absurd (cc (is, loose))
         by name cell is (inr same) =
             let right = hangs_right-at rows row name cell (all_at (hangs_right rows) rows i row planted.hang there) (sym same ∙ is) in
-            let found : row_named (map change rows) (change row).client name ≡ Some (change right.upper) = rw (less.client row) (row_named-map rows change row.client name leaves ∙ ap (option_map change) right.found) in
+            let found : row_named (map change rows) (change row).client name ≡ Some (change right.upper) = rw (less.leaves.client row) (row_named-map rows change row.client name leaves ∙ ap (option_map change) right.found) in
             record {
               upper = change right.upper;
-              can_be_child = rw (less.kind row) right.can_be_child;
+              can_be_child = rw (less.leaves.kind row) right.can_be_child;
               found = found;
-              has_cell = rw (less.kind right.upper) right.has_cell;
+              has_cell = rw (less.leaves.kind right.upper) right.has_cell;
             }
 
     parents : (client : ℕ) (name : List ℕ) → (parent_of (map change rows) client name ≡ None) ⊎ (parent_of (map change rows) client name ≡ parent_of rows client name)
@@ -87,50 +88,31 @@ IsPlanted-map rows change less planted =
 
     low : (i : ℕ) (row : Row) → slice_get rows i ≡ Some row → ends_within most_levels (map change rows) (change row).client (change row).name ≡ true
     low i row there =
-        rw (less.client row, less.name row)
+        rw (less.leaves.client row, less.leaves.name row)
         (ends_within-fewer rows (map change rows) row.client (λ name. Unit {0}) (λ name on. parents row.client name) (λ name parent on up. tt) most_levels row.name tt
         (all_at (λ (r : Row). ends_within most_levels rows r.client r.name) rows i row planted.low there))
 
 Lessens-changed : (client : ℕ) (name : List ℕ) (change : Row → Row) → Lessens change → Lessens (changed client name change)
 Lessens-changed client name change less =
-    record {
-      client = λ row. by_client row (has_name client name row);
-      name = λ row. by_name row (has_name client name row);
-      kind = λ row. by_kind row (has_name client name row);
-      attached = λ row. by_attached row (has_name client name row);
-    }
+    record { leaves = LeavesNode-changed client name change less.leaves; attached = λ row. by row (has_name client name row) }
   where
-    by_client : (row : Row) (b : Bool) → (cond b (change row) row).client ≡ row.client
-    by_client row true = less.client row
-    by_client row false = refl
-
-    by_name : (row : Row) (b : Bool) → (cond b (change row) row).name ≡ row.name
-    by_name row true = less.name row
-    by_name row false = refl
-
-    by_kind : (row : Row) (b : Bool) → (cond b (change row) row).kind ≡ row.kind
-    by_kind row true = less.kind row
-    by_kind row false = refl
-
-    by_attached : (row : Row) (b : Bool) → ((cond b (change row) row).attached ≡ None) ⊎ ((cond b (change row) row).attached ≡ row.attached)
-    by_attached row true = less.attached row
-    by_attached row false = inr refl
+    by : (row : Row) (b : Bool) → ((cond b (change row) row).attached ≡ None) ⊎ ((cond b (change row) row).attached ≡ row.attached)
+    by row true = less.attached row
+    by row false = inr refl
 
 -- a change that leaves these is no change of how widgets hang
 pub record LeavesPlace (change : Row → Row) : Type 0 where
-  pub client : (row : Row) → (change row).client ≡ row.client
-  pub name : (row : Row) → (change row).name ≡ row.name
-  pub kind : (row : Row) → (change row).kind ≡ row.kind
+  pub leaves : LeavesNode change
   pub attached : (row : Row) → (change row).attached ≡ row.attached
 
 pub IsPlanted-change : (rows : List Row) (client : ℕ) (name : List ℕ) (change : Row → Row) → LeavesPlace change → IsPlanted rows → IsPlanted (with_named client name change rows)
 IsPlanted-change rows client name change leaves planted =
-    let less : Lessens change = record { client = leaves.client; name = leaves.name; kind = leaves.kind; attached = λ row. inr (leaves.attached row) } in
+    let less : Lessens change = record { leaves = leaves.leaves; attached = λ row. inr (leaves.attached row) } in
     IsPlanted-map rows (changed client name change) (Lessens-changed client name change less) planted
 
 pub IsPlanted-detach : (rows : List Row) (client : ℕ) (child : List ℕ) → IsPlanted rows → IsPlanted (with_named client child (with_attached None) rows)
 IsPlanted-detach rows client child planted =
-    let less : Lessens (with_attached None) = record { client = λ row. refl; name = λ row. refl; kind = λ row. refl; attached = λ row. inl refl } in
+    let less : Lessens (with_attached None) = record { leaves = record { client = λ row. refl; name = λ row. refl; kind = λ row. refl }; attached = λ row. inl refl } in
     IsPlanted-map rows (changed client child (with_attached None)) (Lessens-changed client child (with_attached None) less) planted
 
 -- rows left out by their names, where the parent of each row that is kept is kept

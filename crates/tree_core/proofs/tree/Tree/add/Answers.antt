@@ -4,31 +4,25 @@ use Rattle.widget_model.specs.Widgets.{Widgets, nodes, is_joined, row_at}
 use Rattle.row_store.specs.Index.{IsIndexed}
 use Rattle.row_store.specs.Counts.{AreCounts}
 use Rattle.tree_core.specs.Kept.{IsCounted}
-use Rattle.tree_core.proofs.ForestLemmas.{joined_in_range, no_refusal, live-maybe_push, live-last}
-use Rattle.tree_core.proofs.Counted.{IsWidgets-counted, IsCounted-added}
+use Rattle.tree_core.proofs.ForestLemmas.{no_refusal, live-maybe_push, live-last}
+use Rattle.tree_core.proofs.Counted.{IsWidgets-counted, member, IsCounted-added}
 use Rattle.tree_core.proofs.tree.Tree.add.Goals as goal
 use Rattle.tree_core.proofs.tree.Tree.add.Goals.{in-Ok, in-Err}
 
 pub free_number-id-requires-clause-low : goal.free_number-id-requires-clause-low
-free_number-id-requires-clause-low c =
-    (joined_in_range c.self.inside.clients.items c.args.client (ap (λ (w : Widgets). is_joined w.clients c.args.client) c.self.view_is ∙ c.requires) c.self.invariant.tree.forest.clients_in_range).0
+free_number-id-requires-clause-low c = (member c.self.invariant c.self.view_is c.args.client c.requires).low
 
 pub free_number-id-requires-clause-high : goal.free_number-id-requires-clause-high
-free_number-id-requires-clause-high c =
-    (joined_in_range c.self.inside.clients.items c.args.client (ap (λ (w : Widgets). is_joined w.clients c.args.client) c.self.view_is ∙ c.requires) c.self.invariant.tree.forest.clients_in_range).1
+free_number-id-requires-clause-high c = (member c.self.invariant c.self.view_is c.args.client c.requires).high
 
 pub free_number-id-requires-clause-room : goal.free_number-id-requires-clause-room
 free_number-id-requires-clause-room c = (no_refusal (nodes c.self.inside.store) c.args.client c.args.name c.args.kind (sym c.in-None.ensures)).1
 
 pub add_refusal-requires-clause-client : goal.add_refusal-requires-clause-client
-add_refusal-requires-clause-client c =
-    let high = (joined_in_range c.self.inside.clients.items c.args.client (ap (λ (w : Widgets). is_joined w.clients c.args.client) c.self.view_is ∙ c.requires) c.self.invariant.tree.forest.clients_in_range).1 in
-    omega (arith, high)
+add_refusal-requires-clause-client c = (member c.self.invariant c.self.view_is c.args.client c.requires).below
 
 pub start-requires : goal.start-requires
-start-requires c =
-    let high = (joined_in_range c.self.inside.clients.items c.args.client (ap (λ (w : Widgets). is_joined w.clients c.args.client) c.self.view_is ∙ c.requires) c.self.invariant.tree.forest.clients_in_range).1 in
-    omega (arith, high)
+start-requires c = (member c.self.invariant c.self.view_is c.args.client c.requires).below
 
 pub put_counted-requires-clause-new_name : goal.put_counted-requires-clause-new_name
 put_counted-requires-clause-new_name c = (no_refusal (nodes c.self.inside.store) c.args.client c.args.name c.args.kind (sym c.in-None.ensures)).0
@@ -36,18 +30,18 @@ put_counted-requires-clause-new_name c = (no_refusal (nodes c.self.inside.store)
 pub invariant_of-self : goal.invariant_of-self
 invariant_of-self c =
     let old = c.self.inside.store in
-    let member : is_joined c.self.inside.clients.items c.args.client ≡ true = ap (λ (w : Widgets). is_joined w.clients c.args.client) c.self.view_is ∙ c.requires in
+    let joined = (member c.self.invariant c.self.view_is c.args.client c.requires).joined in
     let P : List (ℕ × Row) → Type 0 = λ es. IsIndexed c.put_counted.new.names (nodes es) → AreCounts c.put_counted.new.counts (nodes es) → IsCounted c.self.inside.clients.items c.put_counted.new.names es c.self.inside.cells c.put_counted.new.counts c.self.inside.places in
-    let either = IsCounted-added c.self.invariant (is_ok c.put_counted.result) c.put_counted.new.names c.put_counted.new.counts c.free_number-id.result c.args.client c.args.name c.args.kind c.free_number-id.ensures.free (sym c.in-None.ensures) c.free_number-id.ensures.own member in
+    let either = IsCounted-added c.self.invariant (is_ok c.put_counted.result) c.put_counted.new.names c.put_counted.new.counts c.free_number-id.result c.args.client c.args.name c.args.kind c.free_number-id.ensures.free (sym c.in-None.ensures) c.free_number-id.ensures.own joined in
     let parts : P c.put_counted.new.store = subst P (sym c.put_counted.ensures.rows) either in
     parts c.put_counted.ensures.indexed c.put_counted.ensures.counted
 
 pub returns-clause-valid : goal.returns-clause-valid
 returns-clause-valid c =
     let old = c.self.inside.store in
-    let member : is_joined c.self.inside.clients.items c.args.client ≡ true = ap (λ (w : Widgets). is_joined w.clients c.args.client) c.self.view_is ∙ c.requires in
+    let joined = (member c.self.invariant c.self.view_is c.args.client c.requires).joined in
     let P : List (ℕ × Row) → Type 0 = λ es. IsIndexed c.put_counted.new.names (nodes es) → AreCounts c.put_counted.new.counts (nodes es) → IsCounted c.self.inside.clients.items c.put_counted.new.names es c.self.inside.cells c.put_counted.new.counts c.self.inside.places in
-    let either = IsCounted-added c.self.invariant (is_ok c.put_counted.result) c.put_counted.new.names c.put_counted.new.counts c.free_number-id.result c.args.client c.args.name c.args.kind c.free_number-id.ensures.free (sym c.in-None.ensures) c.free_number-id.ensures.own member in
+    let either = IsCounted-added c.self.invariant (is_ok c.put_counted.result) c.put_counted.new.names c.put_counted.new.counts c.free_number-id.result c.args.client c.args.name c.args.kind c.free_number-id.ensures.free (sym c.in-None.ensures) c.free_number-id.ensures.own joined in
     let parts : P c.put_counted.new.store = subst P (sym c.put_counted.ensures.rows) either in
     IsWidgets-counted (parts c.put_counted.ensures.indexed c.put_counted.ensures.counted)
 

@@ -6,13 +6,12 @@ use Rattle.widget_model.specs.Nodes.{counts_with}
 use Rattle.widget_model.specs.Trees.{is_used}
 use Rattle.widget_model.specs.Widgets.{Widgets, row_at, nodes, without_row}
 use Rattle.tree_core.specs.Children.{rows_in}
-use Rattle.row_store.specs.Counts.{AreCounts, lost}
 use Rattle.row_store.specs.Index.{IsIndexed}
-use Rattle.row_store.proofs.CountsLemmas.{AreCounts-lose, has_one}
+use Rattle.row_store.proofs.CountsLemmas.{has_one}
 use Rattle.tree_core.proofs.Listed.{row_at-without_row}
-use Rattle.tree_core.proofs.TreeKept.{IsWidgets-tree, live_row, client-below}
-use Rattle.tree_core.proofs.PlacesKept.{slot_made, IsPlaced-without}
-use Rattle.tree_core.proofs.TreeTaken.{IsTree-without, IsFree-unused}
+use Rattle.tree_core.proofs.TreeKept.{client-below}
+use Rattle.tree_core.proofs.PlacesKept.{slot_made}
+use Rattle.tree_core.proofs.Counted.{IsWidgets-counted, IsCounted-without}
 use Rattle.tree_core.proofs.tree.Tree.remove.Goals as goal
 
 pub lose-requires-clause-client : goal.lose-requires-clause-client
@@ -42,26 +41,22 @@ put-requires c = slot_made c.self.invariant.placed c.self.invariant.tree.forest 
 pub invariant_of-self : goal.invariant_of-self
 invariant_of-self c =
     let I : List (ℕ × Row) → Type 0 = λ es. IsIndexed c.take_out.new.names (nodes es) in
-    let found = live_row c.self.view_is c.args.id.key c.requires in
-    let answer : Some (is_used (rows_in c.self.inside.store) found.0) ≡ Some c.is_used.result = ap (option_map (is_used (rows_in c.self.inside.store))) (sym found.1) ∙ c.is_used.ensures in
-    let unused : is_used (rows_in c.self.inside.store) found.0 ≡ false = let same : is_used (rows_in c.self.inside.store) found.0 ≡ c.is_used.result = cc in same ∙ c.if-is_used.false in
-    let indexed : IsIndexed c.take_out.new.names (nodes (without_row c.args.id.key c.self.inside.store)) = subst I c.take_out.ensures.rows c.take_out.ensures.indexed in
-    let tree = IsTree-without c.self.inside.clients.items c.self.inside.names c.take_out.new.names c.self.inside.store c.self.inside.cells c.args.id.key found.0 c.self.invariant.tree (IsFree-unused c.self.inside.store c.args.id.key found.0 found.1 unused) indexed in
     let row = c.row-row.result.now in
-    let below = client-below c.self.inside.clients.items c.self.inside.store c.args.id.key row c.self.invariant.tree.forest c.row-row.ensures in
-    let fewer = AreCounts-lose c.self.inside.counts c.self.inside.store c.args.id.key row below c.self.invariant.tree.forest.own_numbers c.row-row.ensures c.self.invariant.counted in
-    let counted : AreCounts (lost c.client-client.result c.kind-kind.result c.self.inside.counts) (nodes (without_row c.args.id.key c.self.inside.store)) = rw (c.client-client.ensures, c.kind-kind.ensures) fewer in
-    rw (c.take_out.ensures.rows, c.lose.ensures) (record { tree = tree; counted = counted; placed = IsPlaced-without c.self.invariant.placed c.args.id.key c.put.new.self c.put.ensures.slots c.put.ensures.made })
+    let answer : Some (is_used (rows_in c.self.inside.store) row) ≡ Some c.is_used.result = ap (option_map (is_used (rows_in c.self.inside.store))) (sym c.row-row.ensures) ∙ c.is_used.ensures in
+    let unused : is_used (rows_in c.self.inside.store) row ≡ false = let same : is_used (rows_in c.self.inside.store) row ≡ c.is_used.result = cc in same ∙ c.if-is_used.false in
+    let indexed : IsIndexed c.take_out.new.names (nodes (without_row c.args.id.key c.self.inside.store)) = subst I c.take_out.ensures.rows c.take_out.ensures.indexed in
+    let parts = IsCounted-without c.self.invariant c.take_out.new.names c.put.new.self c.args.id.key row c.row-row.ensures unused indexed c.put.ensures.slots c.put.ensures.made in
+    rw (c.take_out.ensures.rows, c.lose.ensures, c.client-client.ensures, c.kind-kind.ensures) parts
 
 pub returns-clause-valid : goal.returns-clause-valid
 returns-clause-valid c =
     let I : List (ℕ × Row) → Type 0 = λ es. IsIndexed c.take_out.new.names (nodes es) in
-    let found = live_row c.self.view_is c.args.id.key c.requires in
-    let answer : Some (is_used (rows_in c.self.inside.store) found.0) ≡ Some c.is_used.result = ap (option_map (is_used (rows_in c.self.inside.store))) (sym found.1) ∙ c.is_used.ensures in
-    let unused : is_used (rows_in c.self.inside.store) found.0 ≡ false = let same : is_used (rows_in c.self.inside.store) found.0 ≡ c.is_used.result = cc in same ∙ c.if-is_used.false in
+    let row = c.row-row.result.now in
+    let answer : Some (is_used (rows_in c.self.inside.store) row) ≡ Some c.is_used.result = ap (option_map (is_used (rows_in c.self.inside.store))) (sym c.row-row.ensures) ∙ c.is_used.ensures in
+    let unused : is_used (rows_in c.self.inside.store) row ≡ false = let same : is_used (rows_in c.self.inside.store) row ≡ c.is_used.result = cc in same ∙ c.if-is_used.false in
     let indexed : IsIndexed c.take_out.new.names (nodes (without_row c.args.id.key c.self.inside.store)) = subst I c.take_out.ensures.rows c.take_out.ensures.indexed in
-    let tree = IsTree-without c.self.inside.clients.items c.self.inside.names c.take_out.new.names c.self.inside.store c.self.inside.cells c.args.id.key found.0 c.self.invariant.tree (IsFree-unused c.self.inside.store c.args.id.key found.0 found.1 unused) indexed in
-    rw c.take_out.ensures.rows (IsWidgets-tree _ _ _ c.self.inside.cells _ tree (IsPlaced-without c.self.invariant.placed c.args.id.key c.put.new.self c.put.ensures.slots c.put.ensures.made).seen)
+    let parts = IsCounted-without c.self.invariant c.take_out.new.names c.put.new.self c.args.id.key row c.row-row.ensures unused indexed c.put.ensures.slots c.put.ensures.made in
+    rw c.take_out.ensures.rows (IsWidgets-counted parts)
 
 pub returns-clause-others : goal.returns-clause-others
 returns-clause-others c = λ other apart live.

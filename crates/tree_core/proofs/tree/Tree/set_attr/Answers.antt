@@ -2,7 +2,7 @@ use Rattle.std.proofs.Common.{◌≡◌, Ok, refl, sym, ap, ◌∙◌}
 use Rattle.kind_core.specs.declared.kinds.Kind.{Kind}
 use Rattle.kind_core.specs.Attributes.{domain_of, judged}
 use Rattle.widget_model.specs.Rows.{with_attr}
-use Rattle.tree_core.proofs.Fits.{fits_table-with_attr}
+use Rattle.widget_model.proofs.ValuesFit.{fits_table-with_attr}
 use Rattle.tree_core.proofs.TreeKept.{live_edited}
 use Rattle.tree_core.proofs.Counted.{IsWidgets-counted, IsCounted-leaves}
 use Rattle.tree_core.proofs.tree.Tree.set_attr.Goals as goal
