@@ -5,7 +5,6 @@ pub mod Cells
 pub mod Levels
 pub mod Planting
 pub mod OwnRows
-pub mod FittingValues
 pub mod FitFilms
 pub mod Slots
 pub mod ValuesFit
