@@ -7,7 +7,7 @@ use Rattle.kind_core.specs.declared.values.AttrRefusal.TheVariants.{NotOfKind, O
 use Rattle.kind_core.specs.Attributes.{domain_of, judged}
 use Rattle.widget_model.specs.Rows.{Row, with_attr}
 use Rattle.widget_model.specs.Fitting.{fits_table}
-use Rattle.widget_model.proofs.FittingValues.{fits_table-with_attr}
+use Rattle.widget_model.proofs.ValuesFit.{fits_table-with_attr}
 use Rattle.desk_model.specs.AttrOptions.{told, attr_refusal, attrs_refusal, with_attrs}
 use Rattle.desk_model.proofs.Refusals.{passed}
 

@@ -25,7 +25,7 @@ Suits-with_link : (rows : List Row) (client : ℕ) (name : List ℕ) (row : Row)
 Suits-with_link rows client name row link planted leads suits =
     record {
       leaves = record { client = λ row. refl; name = λ row. refl; kind = λ row. refl };
-      planted = IsPlanted-change rows client name (with_link link) (record { client = λ row. refl; name = λ row. refl; kind = λ row. refl; attached = λ row. refl }) planted;
+      planted = IsPlanted-change rows client name (with_link link) (record { leaves = record { client = λ row. refl; name = λ row. refl; kind = λ row. refl }; attached = λ row. refl }) planted;
       linked = λ h. leads;
       linked_by_kind = λ h. suits;
       fitting = λ h. h;
@@ -71,7 +71,7 @@ IsSound-bind desk client name event tag sound = IsSound-outcome desk (bind_refus
         let one = passed _ _ none in
         let found = unless_there-none (row_named desk.rows client name) one.0 in
         IsSound-with_named desk client name found.0 (with_binding event tag) sound found.1
-        (Suits-change desk.rows client name found.0 (with_binding event tag) (record { client = λ row. refl; name = λ row. refl; kind = λ row. refl; attached = λ row. refl }) (λ row. refl) sound.rows.planted
+        (Suits-change desk.rows client name found.0 (with_binding event tag) (record { leaves = record { client = λ row. refl; name = λ row. refl; kind = λ row. refl }; attached = λ row. refl }) (λ row. refl) sound.rows.planted
         (λ h. h) (λ h. h) (λ h. has_slots-with_binding event tag found.0 ∙ h))
 
 pub IsSound-open : (desk : Desk) (client : ℕ) (name : List ℕ) → IsSound desk → IsSound (step_open desk client name).1

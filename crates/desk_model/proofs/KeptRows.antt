@@ -15,35 +15,10 @@ use Rattle.desk_model.specs.Desk.{Desk}
 use Rattle.widget_model.specs.Kinds.{is_variable_kind, is_window_kind}
 use Rattle.desk_model.specs.DeskFacts.{links_right, links_by_kind}
 use Rattle.widget_model.specs.Named.{AreNamedApart}
+use Rattle.widget_model.proofs.Leaves.{LeavesNode, LeavesNode-changed}
 use Rattle.widget_model.proofs.Planting.{LeavesPlace, IsPlanted-change}
 use Rattle.widget_model.proofs.Hanging.{all_at, all_from, LeavesNames, changed, row_named-map, row_named-only}
 use Rattle.desk_model.proofs.Sound.{AreRows, names_window, AreWindows, IsSound}
-
--- a change that leaves what names a row and its kind
-pub record LeavesNode (change : Row → Row) : Type 0 where
-  pub client : (row : Row) → (change row).client ≡ row.client
-  pub name : (row : Row) → (change row).name ≡ row.name
-  pub kind : (row : Row) → (change row).kind ≡ row.kind
-
-LeavesNode-changed : (client : ℕ) (name : List ℕ) (change : Row → Row) → LeavesNode change → LeavesNode (changed client name change)
-LeavesNode-changed client name change leaves =
-    record {
-      client = λ row. by_client row (has_name client name row);
-      name = λ row. by_name row (has_name client name row);
-      kind = λ row. by_kind row (has_name client name row);
-    }
-  where
-    by_client : (row : Row) (b : Bool) → (cond b (change row) row).client ≡ row.client
-    by_client row true = leaves.client row
-    by_client row false = refl
-
-    by_name : (row : Row) (b : Bool) → (cond b (change row) row).name ≡ row.name
-    by_name row true = leaves.name row
-    by_name row false = refl
-
-    by_kind : (row : Row) (b : Bool) → (cond b (change row) row).kind ≡ row.kind
-    by_kind row true = leaves.kind row
-    by_kind row false = refl
 
 -- it leaves which names there are, how many rows, and of what kinds
 has_name-map : (rows : List Row) (change : Row → Row) (client : ℕ) (name : List ℕ) → LeavesNode change → list_any (has_name client name) (map change rows) ≡ list_any (has_name client name) rows
@@ -106,10 +81,10 @@ pub record Suits (rows : List Row) (client : ℕ) (name : List ℕ) (row : Row) 
 pub Suits-change : (rows : List Row) (client : ℕ) (name : List ℕ) (row : Row) (change : Row → Row) → LeavesPlace change → ((row : Row) → (change row).link ≡ row.link) → IsPlanted rows → (fits_table row ≡ true → fits_table (change row) ≡ true) → (fits_rules row ≡ true → fits_rules (change row) ≡ true) → (has_slots row ≡ true → has_slots (change row) ≡ true) → Suits rows client name row change
 Suits-change rows client name row change leaves link planted fitting rules slots =
     record {
-      leaves = record { client = leaves.client; name = leaves.name; kind = leaves.kind };
+      leaves = leaves.leaves;
       planted = IsPlanted-change rows client name change leaves planted;
-      linked = λ h. rw (leaves.client row, link row) h;
-      linked_by_kind = λ h. rw (leaves.kind row, link row) h;
+      linked = λ h. rw (leaves.leaves.client row, link row) h;
+      linked_by_kind = λ h. rw (leaves.leaves.kind row, link row) h;
       fitting = fitting;
       rules = rules;
       slots = slots;

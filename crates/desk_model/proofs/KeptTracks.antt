@@ -18,8 +18,8 @@ use Rattle.desk_model.proofs.Refusals.{passed, unless_there-none}
 use Rattle.desk_model.proofs.Tracks.{fits_rules-with_track, has_slots-with_track}
 
 LeavesPlace-with_track : (axis : Axis) (track : ℕ) (options : List (ConfigOption × ℤ)) → LeavesPlace (with_track axis track options)
-LeavesPlace-with_track Across track options = record { client = λ row. refl; name = λ row. refl; kind = λ row. refl; attached = λ row. refl }
-LeavesPlace-with_track Down track options = record { client = λ row. refl; name = λ row. refl; kind = λ row. refl; attached = λ row. refl }
+LeavesPlace-with_track Across track options = record { leaves = record { client = λ row. refl; name = λ row. refl; kind = λ row. refl }; attached = λ row. refl }
+LeavesPlace-with_track Down track options = record { leaves = record { client = λ row. refl; name = λ row. refl; kind = λ row. refl }; attached = λ row. refl }
 
 link-with_track : (axis : Axis) (track : ℕ) (options : List (ConfigOption × ℤ)) (row : Row) → (with_track axis track options row).link ≡ row.link
 link-with_track Across track options row = refl

@@ -20,7 +20,7 @@ use Rattle.desk_model.proofs.KeptRows.{Suits, Suits-change, IsSound-with_named}
 use Rattle.desk_model.proofs.KeptNew.{IsNew, IsSound-push}
 use Rattle.desk_model.proofs.KeptOut.{IsSound-remove}
 use Rattle.desk_model.proofs.Refusals.{passed, when-none, unless_there-none, is_some-none}
-use Rattle.widget_model.proofs.FittingValues.{fits_table-new}
+use Rattle.widget_model.proofs.ValuesFit.{fits_table-new}
 use Rattle.desk_model.proofs.AttrOptions.{fits_table-with_attrs, same-with_attrs}
 
 IsNew-new_row : (clients : List ℕ) (rows : List Row) (client : ℕ) (name : List ℕ) (kind : Kind) → is_joined clients client ≡ true → row_named rows client name ≡ None → nat_le 128 (rows_counted client any_kind rows) ≡ false → nat_le 8 (rows_counted client (counts_with kind) rows) ≡ false → IsNew clients rows (new_row client name kind)
@@ -56,9 +56,7 @@ Suits-with_attrs : (rows : List Row) (client : ℕ) (name : List ℕ) (options :
 Suits-with_attrs rows client name options row planted none =
     Suits-change rows client name row (with_attrs options)
     (record {
-      client = λ row. same-with_attrs (λ (row : Row). row.client) (λ attr v row. refl) options row;
-      name = λ row. same-with_attrs (λ (row : Row). row.name) (λ attr v row. refl) options row;
-      kind = λ row. same-with_attrs (λ (row : Row). row.kind) (λ attr v row. refl) options row;
+      leaves = record { client = λ row. same-with_attrs (λ (row : Row). row.client) (λ attr v row. refl) options row; name = λ row. same-with_attrs (λ (row : Row). row.name) (λ attr v row. refl) options row; kind = λ row. same-with_attrs (λ (row : Row). row.kind) (λ attr v row. refl) options row };
       attached = λ row. same-with_attrs (λ (row : Row). row.attached) (λ attr v row. refl) options row;
     })
     (same-with_attrs (λ (row : Row). row.link) (λ attr v row. refl) options) planted (fits_table-with_attrs options row none)

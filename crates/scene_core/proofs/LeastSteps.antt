@@ -14,7 +14,8 @@ use Rattle.widget_model.specs.Widgets.{Widgets, rows_of, row_at, IsLive}
 use Rattle.widget_model.specs.Forest.{IsWidgets}
 use Rattle.widget_model.specs.Relatives.{parent_id}
 use Rattle.widget_model.proofs.Naming.{id_named-row}
-use Rattle.tree_core.proofs.Listed.{numbered_place, all_at, AreNamedApart-rows}
+use Rattle.widget_model.proofs.Hanging.{all_at}
+use Rattle.tree_core.proofs.Listed.{numbered_place, AreNamedApart-rows}
 use Rattle.scene_model.specs.declared.axis.Axis.{Axis}
 use Rattle.scene_model.specs.declared.axis.Axis.TheVariants.{Across, Down}
 use Rattle.scene_model.specs.Spans.{along}

@@ -10,7 +10,7 @@ use Rattle.kind_core.specs.declared.values.Value as value
 use Rattle.kind_core.specs.Attributes.{domain_of, judged}
 use Rattle.widget_model.specs.Rows.{Row, new_row, event_slot, with_attr, with_column_rule, with_row_rule, with_binding}
 use Rattle.widget_model.specs.Fitting.{fits_table, fits_rule, fits_rules, has_slots, is_fit}
-use Rattle.widget_model.proofs.FittingValues.{fits_table-new, fits_table-with_attr}
+use Rattle.widget_model.proofs.ValuesFit.{fits_table-new, fits_table-with_attr}
 
 -- the parts of it
 pub record IsFit (row : Row) : Type 0 where

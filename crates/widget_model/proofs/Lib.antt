@@ -5,7 +5,7 @@ pub mod Cells
 pub mod Levels
 pub mod Planting
 pub mod OwnRows
-pub mod FittingValues
+pub mod ValuesFit
 pub mod Fit
 pub mod FitFilms
 pub mod Slots
