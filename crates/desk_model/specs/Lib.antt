@@ -17,7 +17,6 @@ pub mod Commands
 pub mod DeskFacts
 pub mod OwnPart
 pub mod DeskLaws
-pub mod Keeping
 pub mod InputEffects
 pub mod InputEdits
 pub mod InputValues

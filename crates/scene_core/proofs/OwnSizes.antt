@@ -24,7 +24,7 @@ label_small widgets id ready live =
     let row = row_for widgets id in
     let place = numbered_place widgets.entries id row (live-there widgets id live) in
     let fit = IsFitRow-at (rows_of widgets) place.0 row ready.fit place.1 in
-    (label_of-text (rows_of widgets) row ready.fit.values fit.texts).length
+    (label_of-text (rows_of widgets) row ready.fit.values fit.values).length
 
 pub label_plain : (rows : List Row) (row : Row) (own : ℕ) → linked_value rows row ≡ None → own ≡ length (text_of Text row) → own ≡ length (label_of rows row)
 label_plain rows row own linked o = rw linked o
