@@ -18,7 +18,8 @@ use Rattle.widget_model.specs.Fitting.{fits_attr}
 use Rattle.widget_model.specs.Widgets.{Widgets, row_at, rows_of}
 use Rattle.widget_model.specs.Forest.{IsWidgets}
 use Rattle.scene_model.specs.Values.{number_in, count_of}
-use Rattle.tree_core.proofs.Listed.{all_at}
+use Rattle.widget_model.proofs.Hanging.{all_at}
+use Rattle.widget_model.proofs.Fit.{IsFit-is_fit}
 use Rattle.tree_core.proofs.TreeKept.{fits_at}
 use Rattle.input_core.specs.Numbered.{numbered}
 use Rattle.input_core.proofs.Numbers.{numbered_row}
@@ -63,7 +64,7 @@ real_starts (Some (Words t)) h = absurd (true≢false (sym h))
 attr_fits : (w : Widgets) (id : ℕ) (attr : Attr) → slice_get all_attrs (attr_slot attr) ≡ Some attr → IsWidgets w → is_some (row_at w.entries id) ≡ true → fits_attr (numbered w.entries id).kind attr (attr_of (numbered w.entries id) attr) ≡ true
 attr_fits w id attr there kept live =
     let row = numbered w.entries id in
-    let fits = fits_at w.entries id row kept.fitting (numbered_row w.entries id live) in
+    let fits = (IsFit-is_fit row (fits_at w.entries id row kept.fitting (numbered_row w.entries id live))).table in
     all_at (λ (a : Attr). fits_attr row.kind a (attr_of row a)) all_attrs (attr_slot attr) attr (and_parts (nat_eq (length row.values) 13) (list_all (λ (a : Attr). fits_attr row.kind a (attr_of row a)) all_attrs) fits).1 there
 
 pub max_most : (w : Widgets) (id : ℕ) → IsWidgets w → is_some (row_at w.entries id) ≡ true → count_of Max (numbered w.entries id) ≤ 10000

@@ -7,6 +7,8 @@ mod edits;
 #[cfg(test)]
 mod given;
 #[cfg(test)]
+mod keys;
+#[cfg(test)]
 mod pointing;
 #[cfg(test)]
 mod tables;

@@ -120,7 +120,10 @@ fn is_answered(rt: &impl Abort, tree: &Tree, row: &str) -> Result<(), Fail>
     let effects = route(tree, &before, hit, held, 64, 64, input);
     let (place, parts) = answer.split_once(" ;").ok_or("an answer has no effects")?;
     let after = pointer(tree, &mut place.split_whitespace())?;
-    assert!(rt; same_pointer(effects.pointer, after), "the pointer at {row}");
+    assert!(rt;
+        same_pointer(effects.pointer, after),
+        "the pointer at {row}"
+    );
     let mut wanted = Wanted {
         raise: None,
         value: None,
