@@ -21,6 +21,9 @@ use Rattle.scene_model.specs.Placing.{child_span, grid_span, parent_row, span_al
 use Rattle.scene_model.specs.Values.{offset_of}
 use Rattle.scene_model.proofs.LevelLaws.{spans_come_from_parents}
 use Rattle.scene_model.proofs.Ranges.{spans_are_small, tracks_are_small}
+use Rattle.grid_layout.specs.Spread.{widths_of}
+use Rattle.scene_core.specs.declared.tracks.Tracks.{Tracks}
+use Rattle.scene_core.specs.Measured.{AreTracks}
 use Rattle.scene_core.specs.Ready.{AreReady}
 use Rattle.scene_core.specs.Children.{row_for, needs_for}
 use Rattle.scene_core.proofs.Numbered.{parent_read, live-there}
@@ -101,3 +104,10 @@ other-span Scale axis rows parent span child w g f = refl
 other-span Scrollbar axis rows parent span child w g f = refl
 other-span Variable axis rows parent span child w g f = refl
 other-span VScreen axis rows parent span child w g f = refl
+
+-- the lengths of the tracks, from their least lengths and weights
+pub lengths-read : (needs : List Need) (rules : List (ℕ × ℕ)) (tracks : Tracks) (lengths : List ℕ) (room : ℕ) → AreTracks needs rules tracks
+    → take tracks.used lengths ≡ widths_of (take tracks.used tracks.least) (take tracks.used tracks.weights) room → take tracks.used lengths ≡ track_lengths needs rules room
+unfolding track_lengths
+lengths-read needs rules tracks lengths room are is =
+    is ∙ ap (λ (xs : List ℕ). widths_of xs (take tracks.used tracks.weights) room) are.least ∙ ap (λ (ys : List ℕ). widths_of (track_leasts needs rules) ys room) are.weights
