@@ -23,9 +23,9 @@ use Rattle.scene_model.proofs.LevelLaws.{spans_come_from_parents}
 use Rattle.scene_model.proofs.Ranges.{spans_are_small, tracks_are_small}
 use Rattle.grid_layout.specs.Spread.{widths_of}
 use Rattle.scene_core.specs.declared.tracks.Tracks.{Tracks}
-use Rattle.scene_core.specs.Measured.{AreTracks}
+use Rattle.scene_core.specs.Measured.{AreTracks, side}
 use Rattle.scene_core.specs.Ready.{AreReady}
-use Rattle.scene_core.specs.Children.{row_for, needs_for}
+use Rattle.scene_core.specs.Children.{row_for, size_for, needs_for}
 use Rattle.scene_core.proofs.Numbered.{parent_read, live-there}
 use Rattle.scene_core.proofs.ChildNeeds.{IsChildAt, child-at, le-greatest-filter, map-twice}
 use Rattle.scene_core.proofs.LeastSteps.{key-found, child-live}
@@ -111,3 +111,7 @@ pub lengths-read : (needs : List Need) (rules : List (ℕ × ℕ)) (tracks : Tra
 unfolding track_lengths
 lengths-read needs rules tracks lengths room are is =
     is ∙ ap (λ (xs : List ℕ). widths_of xs (take tracks.used tracks.weights) room) are.least ∙ ap (λ (ys : List ℕ). widths_of (track_leasts needs rules) ys room) are.weights
+
+pub side-size : (axis : Axis) (widgets : Widgets) (id : ℕ) → side axis (size_for widgets id) ≡ least_of (rows_of widgets) axis (row_for widgets id)
+side-size Across widgets id = refl
+side-size Down widgets id = refl
