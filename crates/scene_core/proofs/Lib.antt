@@ -9,3 +9,4 @@ pub mod LeastSteps
 pub mod Measures
 pub mod Finds
 pub mod Tops
+pub mod SideSteps

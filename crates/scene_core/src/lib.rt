@@ -10,6 +10,7 @@ mod least;
 mod own;
 mod reading;
 mod shown;
+mod sides;
 mod size;
 mod spans;
 mod top;

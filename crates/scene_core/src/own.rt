@@ -37,7 +37,7 @@ fn label_length(tree: &Tree, id: Id) -> usize
 }
 
 /// The number that the attribute is, without its sign.
-fn count_of(tree: &Tree, id: Id, attr: Attr) -> u32
+pub(crate) fn count_of(tree: &Tree, id: Id, attr: Attr) -> u32
     requires { IsLive tree.now id.key }
     ensures { result ≡ count_of attr (row_for tree.now id.key) }
 {
