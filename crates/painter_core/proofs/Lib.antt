@@ -1,0 +1,12 @@
+pub mod TrailLemmas
+pub mod PaintedLemmas
+pub mod RowLemmas
+pub mod PaintsLemmas
+pub mod CutLemmas
+pub mod StageLemmas
+pub mod KeyLemmas
+pub mod TopLemmas
+pub mod RootLemmas
+pub mod ChainLemmas
+pub mod SceneLemmas
+pub mod LookLemmas

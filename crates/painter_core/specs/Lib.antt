@@ -1,0 +1,6 @@
+pub mod Layers
+pub mod Trail
+pub mod Painted
+pub mod Stage
+pub mod Painting
+pub mod Lines

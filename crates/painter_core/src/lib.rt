@@ -1,0 +1,14 @@
+//! Painting: a piece of the screen is cut through the window order and down the widgets, and each part is written into
+//! rows that the screen lends.
+#![tactic(auto)]
+
+mod filling;
+mod line;
+mod looks;
+mod meeting;
+mod painting;
+mod pieces;
+mod reading;
+mod slots;
+
+pub use pieces::paint;
