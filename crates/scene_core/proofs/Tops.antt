@@ -19,7 +19,8 @@ use Rattle.widget_model.specs.Relatives.{parent_id, root_id}
 use Rattle.widget_model.specs.Widgets.{Widgets, rows_of, row_at, row_kind, nodes, place_at, IsLive}
 use Rattle.widget_model.specs.Forest.{IsWidgets}
 use Rattle.widget_model.proofs.Naming.{id_named-row}
-use Rattle.tree_core.proofs.Listed.{numbered_place, all_at}
+use Rattle.widget_model.proofs.Hanging.{all_at}
+use Rattle.tree_core.proofs.Listed.{numbered_place}
 use Rattle.scene_model.specs.Scene.{Scene}
 use Rattle.scene_model.specs.Placing.{place_in}
 use Rattle.scene_model.specs.Showing.{place_of, parent_in, on_screen, shows_in, shows_at, child_at, window_at, lowest_in, top_of}

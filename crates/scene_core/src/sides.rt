@@ -6,7 +6,7 @@ ghost use Rattle.widget_model.specs.Widgets.{IsLive, rows_of};
 ghost use Rattle.scene_model.specs.Placing.{span_along, window_span};
 ghost use Rattle.scene_model.specs.Values.{offset_of};
 ghost use Rattle.scene_core.specs.Children.{row_for, child_for, AreMeasured};
-ghost use Rattle.scene_core.specs.Ready.{AreReady};
+ghost use Rattle.widget_model.specs.Forest.{IsWidgets};
 ghost use Rattle.scene_core.specs.Sides.{IsSide};
 
 use crate::asked::{side, track_of};
@@ -83,7 +83,7 @@ pub(crate) fn window_span(tree: &Tree, id: Id, axis: Axis) -> Span
 
 /// One axis of a widget that has this span and these children.
 pub(crate) fn side_of(tree: &Tree, id: Id, axis: Axis, span: Span, children: &[Child]) -> Side
-    requires ready { AreReady tree.now }
+    requires valid { IsWidgets tree.now }
     requires live { IsLive tree.now id.key }
     requires children { AreMeasured tree.now id.key children.now }
     requires span { span ≡ span_along (rows_of tree.now) axis (row_for tree.now id.key) }
@@ -116,7 +116,7 @@ pub(crate) fn side_of(tree: &Tree, id: Id, axis: Axis, span: Span, children: &[C
 
 /// The span of a child of the widget.
 pub(crate) fn child_span(tree: &Tree, id: Id, axis: Axis, whole: &Side, child: &Child) -> Span
-    requires ready { AreReady tree.now }
+    requires valid { IsWidgets tree.now }
     requires live { IsLive tree.now id.key }
     requires side { IsSide axis tree.now id.key whole.now }
     requires parent { parent_id tree.now child.now.key ≡ Some id.key }

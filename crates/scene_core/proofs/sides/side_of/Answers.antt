@@ -10,7 +10,7 @@ grid_tracks-tracks-requires-clause-grid c = kind-grid c.args.tree.now c.args.id.
 
 pub lengths_in-requires-clause-room_small : goal.lengths_in-requires-clause-room_small
 lengths_in-requires-clause-room_small c =
-    let near = span-near c.args.tree.now c.args.id.key c.args.axis c.requires.ready c.requires.live in
+    let near = span-near c.args.tree.now c.args.id.key c.args.axis c.requires.valid c.requires.live in
     omega (arith, near.len, ap (λ (span : Span). span.len) c.requires.span)
 
 pub returns-in-Grid : goal.returns-in-Grid
