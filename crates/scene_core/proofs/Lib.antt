@@ -10,3 +10,5 @@ pub mod Measures
 pub mod Finds
 pub mod Tops
 pub mod SideSteps
+pub mod Roots
+pub mod PlaceSteps

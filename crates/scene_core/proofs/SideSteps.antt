@@ -52,7 +52,7 @@ pub span-child : (widgets : Widgets) (id kid : ℕ) (axis : Axis) → IsWidgets 
 span-child widgets id kid axis valid live parent =
     let below = child-live widgets id kid valid parent in
     spans_come_from_parents (rows_of widgets) axis (row_for widgets kid) (row_for widgets id) valid.planted (key-found widgets kid valid below)
-      (parent_read widgets kid valid below ∙ ap (option_map (row_for widgets)) parent)
+    (parent_read widgets kid valid below ∙ ap (option_map (row_for widgets)) parent)
 
 -- a child's track is in use
 pub track-used : (widgets : Widgets) (id kid : ℕ) (axis : Axis) → IsWidgets widgets → parent_id widgets kid ≡ Some id
@@ -64,14 +64,13 @@ track-used widgets id kid axis valid parent =
     let track : Need → ℕ = λ asked. asked.track in
     let kids = children_of (rows_of widgets) (row_for widgets id) in
     let bound : track_in axis (cell_of (row_for widgets kid)) ≤ greatest (map (λ (row : Row). (need row).track) kids) =
-        le-greatest-filter (λ (row : Row). (need row).track) (is_child (row_for widgets id).client (row_for widgets id).name) (rows_of widgets) at.index (row_for widgets kid) at.there at.is in
+    le-greatest-filter (λ (row : Row). (need row).track) (is_child (row_for widgets id).client (row_for widgets id).name) (rows_of widgets) at.index (row_for widgets kid) at.there at.is in
     let same : greatest (map track (map need kids)) ≡ greatest (map (λ (row : Row). (need row).track) kids) = ap greatest (map-twice track need kids) in
     omega (arith, bound, same)
 
 -- the span of a child of a Window, of a Grid and of a Frame
 module _ (widgets : Widgets) (id kid : ℕ) (axis : Axis) (valid : IsWidgets widgets) (live : IsLive widgets id) (parent : parent_id widgets kid ≡ Some id) (span result : Span) (pad : ℕ)
     (whole : span ≡ span_along (rows_of widgets) axis (row_for widgets id)) (padded : pad ≡ (cell_of (row_for widgets kid)).pad) where
-
   by-kind : (kind : Kind) → (row_for widgets id).kind ≡ kind → span_along (rows_of widgets) axis (row_for widgets kid) ≡ child_span kind axis (rows_of widgets) (row_for widgets id) span (row_for widgets kid)
   by-kind kind is =
       span-child widgets id kid axis valid live parent

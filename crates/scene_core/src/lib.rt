@@ -8,6 +8,7 @@ mod known;
 pub mod laws;
 mod least;
 mod own;
+mod places;
 mod reading;
 mod shown;
 mod sides;
@@ -19,6 +20,7 @@ mod view;
 
 pub use geom_core::Rect;
 pub use least::least_size;
+pub use places::place;
 pub use size::Size;
 pub use top::top_at;
 pub use tree_core::{Grab, Pointer};

@@ -39,15 +39,15 @@ returns-in-Grid c =
     in-grid w c.args.id.key c.args.child.now.key c.args.axis c.requires.valid c.requires.live c.requires.parent c.args.whole.now.span c.inset-in-Grid.result c.args.child.now.cell.pad
     c.requires.side.span (ap (λ (child : Child). child.cell.pad) c.requires.child) lengths grid tracks.lengths
     (c.inset-in-Grid.ensures ∙ ap (λ (s : Span). inset c.args.child.now.cell.pad s)
-      (c.track_span.ensures ∙ ap (λ (n : ℕ). track_span lengths c.args.whole.now.span n) (c.track_of.ensures ∙ ap (λ (child : Child). track_in c.args.axis child.cell) c.requires.child)))
+    (c.track_span.ensures ∙ ap (λ (n : ℕ). track_span lengths c.args.whole.now.span n) (c.track_of.ensures ∙ ap (λ (child : Child). track_in c.args.axis child.cell) c.requires.child)))
 
 pub returns-in_default : goal.returns-in_default
 returns-in_default c =
     let w = c.args.tree.now in
     let span = span_along (rows_of w) c.args.axis (row_for w c.args.id.key) in
     sym (span-child w c.args.id.key c.args.child.now.key c.args.axis c.requires.valid c.requires.live c.requires.parent
-      ∙ ap (λ k. child_span k c.args.axis (rows_of w) (row_for w c.args.id.key) span (row_for w c.args.child.now.key)) (sym c.kind_of.ensures)
-      ∙ other-span c.kind_of.result c.args.axis (rows_of w) (row_for w c.args.id.key) span (row_for w c.args.child.now.key) c.in_default.not-Window c.in_default.not-Grid c.in_default.not-Frame)
+    ∙ ap (λ k. child_span k c.args.axis (rows_of w) (row_for w c.args.id.key) span (row_for w c.args.child.now.key)) (sym c.kind_of.ensures)
+    ∙ other-span c.kind_of.result c.args.axis (rows_of w) (row_for w c.args.id.key) span (row_for w c.args.child.now.key) c.in_default.not-Window c.in_default.not-Grid c.in_default.not-Frame)
 
 pub content-requires-clause-low : goal.content-requires-clause-low
 content-requires-clause-low c =

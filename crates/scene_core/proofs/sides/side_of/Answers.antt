@@ -15,11 +15,11 @@ lengths_in-requires-clause-room_small c =
 
 pub returns-in-Grid : goal.returns-in-Grid
 returns-in-Grid c = record {
-    span = c.requires.span;
-    offset = λ frame. let other : c.kind_of.result ≡ Frame = c.kind_of.ensures ∙ frame in absurd (let grid = c.in-Grid.is in cc);
-    tracks = λ grid. record {
-      few = c.grid_tracks-tracks.ensures.few;
-      used = c.grid_tracks-tracks.ensures.used;
-      lengths = lengths-read _ _ c.grid_tracks-tracks.result c.lengths_in.result c.args.span.len c.grid_tracks-tracks.ensures c.lengths_in.ensures;
-    };
-  }
+  span = c.requires.span;
+  offset = λ frame. let other : c.kind_of.result ≡ Frame = c.kind_of.ensures ∙ frame in absurd (let grid = c.in-Grid.is in cc);
+  tracks = λ grid. record {
+    few = c.grid_tracks-tracks.ensures.few;
+    used = c.grid_tracks-tracks.ensures.used;
+    lengths = lengths-read _ _ c.grid_tracks-tracks.result c.lengths_in.result c.args.span.len c.grid_tracks-tracks.ensures c.lengths_in.ensures;
+  };
+}
