@@ -22,3 +22,7 @@ mod InWindows
 mod PointerKept
 mod CallSteps
 mod Calls
+pub mod CallSteps
+pub mod Calls
+pub mod InWindows
+pub mod PointerKept

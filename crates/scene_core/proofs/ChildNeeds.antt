@@ -44,7 +44,7 @@ asked_in-rooms (need ∷ needs) track = by (need.track == track) (asked_in-rooms
     by true e = ap (max need.room) e
     by false e = e ∙ sym (zero-max (greatest (map (room_in track) needs)))
 
-map-twice : {X Y Z : Type 0} (f : Y → Z) (g : X → Y) (xs : List X) → map f (map g xs) ≡ map (λ x. f (g x)) xs
+pub map-twice : {X Y Z : Type 0} (f : Y → Z) (g : X → Y) (xs : List X) → map f (map g xs) ≡ map (λ x. f (g x)) xs
 map-twice f g [] = refl
 map-twice {X} {Y} {Z} f g (x ∷ xs) = ap (λ (zs : List Z). f (g x) ∷ zs) (map-twice f g xs)
 
@@ -54,7 +54,7 @@ le-greatest f [] k d h = absurd (omega arith)
 le-greatest f (x ∷ xs) zero d h = omega arith
 le-greatest f (x ∷ xs) (suc k) d h = let rest = le-greatest f xs k d (omega arith) in omega arith
 
-le-greatest-filter : {X : Type 0} (f : X → ℕ) (p : X → Bool) (xs : List X) (i : ℕ) (x : X) → slice_get xs i ≡ Some x → p x ≡ true → f x ≤ greatest (map f (filter p xs))
+pub le-greatest-filter : {X : Type 0} (f : X → ℕ) (p : X → Bool) (xs : List X) (i : ℕ) (x : X) → slice_get xs i ≡ Some x → p x ≡ true → f x ≤ greatest (map f (filter p xs))
 le-greatest-filter f p [] i x there passes = absurd (cc)
 le-greatest-filter {X} f p (y ∷ ys) zero x there passes =
     let same : y ≡ x = cc in

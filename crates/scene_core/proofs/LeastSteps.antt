@@ -9,11 +9,12 @@ use Rattle.widget_model.specs.Rows.{Row}
 use Rattle.widget_model.specs.Named.{AreNamedApart}
 use Rattle.widget_model.specs.Keys.{key_of, row_of}
 use Rattle.widget_model.specs.Trees.{ends_within, most_levels}
-use Rattle.widget_model.specs.Fitting.{fits_rule}
+use Rattle.widget_model.specs.Fitting.{is_fit}
 use Rattle.widget_model.specs.Widgets.{Widgets, rows_of, row_at, IsLive}
 use Rattle.widget_model.specs.Forest.{IsWidgets}
 use Rattle.widget_model.specs.Relatives.{parent_id}
 use Rattle.widget_model.proofs.Naming.{id_named-row}
+use Rattle.widget_model.proofs.Fit.{IsFit-is_fit}
 use Rattle.widget_model.proofs.Hanging.{all_at}
 use Rattle.tree_core.proofs.Listed.{numbered_place, AreNamedApart-rows}
 use Rattle.scene_model.specs.declared.axis.Axis.{Axis}
@@ -25,9 +26,9 @@ use Rattle.scene_model.proofs.LevelLaws.{leasts_come_from_children}
 use Rattle.scene_model.proofs.Leasts.{IsFitRow, IsFitRow-at, rules_of-fit, IsFitCell-attached, cell_of-attached}
 use Rattle.scene_model.proofs.Ranges.{leasts_are_small}
 use Rattle.scene_model.proofs.Parents.{IsFound, IsChildOf, IsChildOf-is_child, ends_within-child}
+use Rattle.scene_model.proofs.FitWidgets.{widgets_are_fit}
 use Rattle.scene_core.specs.declared.size.Size.{Size}
 use Rattle.scene_core.specs.declared.child.Child.{Child}
-use Rattle.scene_core.specs.Ready.{AreReady, has_sides}
 use Rattle.scene_core.specs.Children.{row_for, size_for, child_for, needs_for, AreChildren, AreKnown, IsDeep}
 use Rattle.scene_core.specs.Measured.{IsMeasured}
 use Rattle.scene_core.proofs.Numbered.{live-there, row_of_name}
@@ -43,35 +44,37 @@ key-found widgets id valid live =
 pub apart : (widgets : Widgets) → IsWidgets widgets → AreNamedApart (rows_of widgets)
 apart widgets valid = AreNamedApart-rows widgets.entries valid.forest.own_names
 
-least-step : (widgets : Widgets) (id : ℕ) (axis : Axis) → AreReady widgets → IsLive widgets id → least_of (rows_of widgets) axis (row_for widgets id) ≡ least_by (least_of (rows_of widgets) axis) axis (rows_of widgets) (row_for widgets id)
-least-step widgets id axis ready live = leasts_come_from_children (rows_of widgets) axis (row_for widgets id) ready.fit.planted (apart widgets ready.valid) (key-found widgets id ready.valid live)
+least-step : (widgets : Widgets) (id : ℕ) (axis : Axis) → IsWidgets widgets → IsLive widgets id → least_of (rows_of widgets) axis (row_for widgets id) ≡ least_by (least_of (rows_of widgets) axis) axis (rows_of widgets) (row_for widgets id)
+least-step widgets id axis valid live = leasts_come_from_children (rows_of widgets) axis (row_for widgets id) valid.planted (apart widgets valid) (key-found widgets id valid live)
 
-pub least-grid : (widgets : Widgets) (id : ℕ) (axis : Axis) → AreReady widgets → IsLive widgets id → is_grid (row_for widgets id).kind ≡ true
+pub least-grid : (widgets : Widgets) (id : ℕ) (axis : Axis) → IsWidgets widgets → IsLive widgets id → is_grid (row_for widgets id).kind ≡ true
     → least_of (rows_of widgets) axis (row_for widgets id) ≡ grid_least (needs_for axis widgets id) (rules_of axis (row_for widgets id))
 unfolding least_by
-least-grid widgets id axis ready live is =
-    least-step widgets id axis ready live ∙ ap (λ (b : Bool). cond b (grid_least (needs_for axis widgets id) (rules_of axis (row_for widgets id))) (along axis (own_size (row_for widgets id).kind (rows_of widgets) (row_for widgets id)).0 (own_size (row_for widgets id).kind (rows_of widgets) (row_for widgets id)).1)) is
+least-grid widgets id axis valid live is =
+    least-step widgets id axis valid live ∙ ap (λ (b : Bool). cond b (grid_least (needs_for axis widgets id) (rules_of axis (row_for widgets id))) (along axis (own_size (row_for widgets id).kind (rows_of widgets) (row_for widgets id)).0 (own_size (row_for widgets id).kind (rows_of widgets) (row_for widgets id)).1)) is
 
-pub least-own : (widgets : Widgets) (id : ℕ) (axis : Axis) → AreReady widgets → IsLive widgets id → is_grid (row_for widgets id).kind ≡ false
+pub least-own : (widgets : Widgets) (id : ℕ) (axis : Axis) → IsWidgets widgets → IsLive widgets id → is_grid (row_for widgets id).kind ≡ false
     → least_of (rows_of widgets) axis (row_for widgets id) ≡ along axis (own_size (row_for widgets id).kind (rows_of widgets) (row_for widgets id)).0 (own_size (row_for widgets id).kind (rows_of widgets) (row_for widgets id)).1
 unfolding least_by
-least-own widgets id axis ready live is =
-    least-step widgets id axis ready live ∙ ap (λ (b : Bool). cond b (grid_least (needs_for axis widgets id) (rules_of axis (row_for widgets id))) (along axis (own_size (row_for widgets id).kind (rows_of widgets) (row_for widgets id)).0 (own_size (row_for widgets id).kind (rows_of widgets) (row_for widgets id)).1)) is
+least-own widgets id axis valid live is =
+    least-step widgets id axis valid live ∙ ap (λ (b : Bool). cond b (grid_least (needs_for axis widgets id) (rules_of axis (row_for widgets id))) (along axis (own_size (row_for widgets id).kind (rows_of widgets) (row_for widgets id)).0 (own_size (row_for widgets id).kind (rows_of widgets) (row_for widgets id)).1)) is
 
-pub size-small : (widgets : Widgets) (id : ℕ) (axis : Axis) → AreReady widgets → IsLive widgets id → least_of (rows_of widgets) axis (row_for widgets id) ≤ 4096
-size-small widgets id axis ready live = leasts_are_small (rows_of widgets) axis (row_for widgets id) ready.fit (key-found widgets id ready.valid live)
+pub size-small : (widgets : Widgets) (id : ℕ) (axis : Axis) → IsWidgets widgets → IsLive widgets id → least_of (rows_of widgets) axis (row_for widgets id) ≤ 4096
+size-small widgets id axis valid live = leasts_are_small (rows_of widgets) axis (row_for widgets id) (widgets_are_fit widgets valid) (key-found widgets id valid live)
 
-pub row-fit : (widgets : Widgets) (id : ℕ) → AreReady widgets → IsLive widgets id → IsFitRow (row_for widgets id)
-row-fit widgets id ready live =
+pub row-fit : (widgets : Widgets) (id : ℕ) → IsWidgets widgets → IsLive widgets id → IsFitRow (row_for widgets id)
+row-fit widgets id valid live =
     let place = numbered_place widgets.entries id (row_for widgets id) (live-there widgets id live) in
-    IsFitRow-at (rows_of widgets) place.0 (row_for widgets id) ready.fit place.1
+    IsFitRow-at (rows_of widgets) place.0 (row_for widgets id) (widgets_are_fit widgets valid) place.1
 
-pub rules-sixteen : (widgets : Widgets) (id : ℕ) (axis : Axis) → AreReady widgets → IsLive widgets id → length (rules_of axis (row_for widgets id)) ≡ 16
-rules-sixteen widgets id axis ready live =
+pub rules-sixteen : (widgets : Widgets) (id : ℕ) (axis : Axis) → IsWidgets widgets → IsLive widgets id → length (rules_of axis (row_for widgets id)) ≡ 16
+rules-sixteen widgets id axis valid live =
     let row = row_for widgets id in
     let place = numbered_place widgets.entries id row (live-there widgets id live) in
-    let sides = and_parts (nat_eq (length row.column_rules) 16) (nat_eq (length row.row_rules) 16) (all_at has_sides (rows_of widgets) place.0 row ready.sides place.1) in
-    by axis (eqb-true (length row.column_rules) 16 sides.0) (eqb-true (length row.row_rules) 16 sides.1)
+    let fit = IsFit-is_fit row (all_at is_fit (rows_of widgets) place.0 row valid.fitting place.1) in
+    let sides = and_parts (nat_eq (length row.column_rules) 16) (nat_eq (length row.row_rules) 16 && nat_eq (length row.bindings) 7) fit.slots in
+    let lower = and_parts (nat_eq (length row.row_rules) 16) (nat_eq (length row.bindings) 7) sides.1 in
+    by axis (eqb-true (length row.column_rules) 16 sides.0) (eqb-true (length row.row_rules) 16 lower.0)
   where
     by : (axis : Axis) → length (row_for widgets id).column_rules ≡ 16 → length (row_for widgets id).row_rules ≡ 16 → length (rules_of axis (row_for widgets id)) ≡ 16
     by Across a b = a
@@ -111,19 +114,19 @@ pub child-live : (widgets : Widgets) (id kid : ℕ) → IsWidgets widgets → pa
 child-live widgets id kid valid parent = let f = parent_id-found widgets id kid valid parent in rw f.lower_there refl
 
 -- a child's cell and least size are in range
-pub child-measured : (widgets : Widgets) (id kid : ℕ) → AreReady widgets → parent_id widgets kid ≡ Some id → IsMeasured (child_for widgets kid)
-child-measured widgets id kid ready parent =
-    let live = child-live widgets id kid ready.valid parent in
-    let at = child-at widgets id kid ready.valid parent in
+pub child-measured : (widgets : Widgets) (id kid : ℕ) → IsWidgets widgets → parent_id widgets kid ≡ Some id → IsMeasured (child_for widgets kid)
+child-measured widgets id kid valid parent =
+    let live = child-live widgets id kid valid parent in
+    let at = child-at widgets id kid valid parent in
     let of = IsChildOf-is_child (row_for widgets id).client (row_for widgets id).name (row_for widgets kid) at.is in
-    let cell = IsFitCell-attached (rows_of widgets) at.index (row_for widgets kid) (row_for widgets id).name of.cell ready.fit.planted at.there of.attached in
+    let cell = IsFitCell-attached (rows_of widgets) at.index (row_for widgets kid) (row_for widgets id).name of.cell valid.planted at.there of.attached in
     let same = cell_of-attached (row_for widgets kid) (row_for widgets id).name of.cell of.attached in
     record {
       column = rw same (cell.column_some, cell.column_most);
       line = rw same (cell.row_some, cell.row_most);
       pad = rw same cell.pad_most;
-      width = size-small widgets kid Across ready live;
-      height = size-small widgets kid Down ready live;
+      width = size-small widgets kid Across valid live;
+      height = size-small widgets kid Down valid live;
     }
 
 -- one size more is known

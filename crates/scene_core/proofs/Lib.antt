@@ -9,3 +9,6 @@ pub mod LeastSteps
 pub mod Measures
 pub mod Finds
 pub mod Tops
+pub mod SideSteps
+pub mod Roots
+pub mod PlaceSteps

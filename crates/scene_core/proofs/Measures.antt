@@ -16,15 +16,14 @@ use Rattle.scene_model.specs.Tracks.{cell_of, Need, asked_in, last_asked, rules_
 use Rattle.scene_core.specs.declared.size.Size.{Size}
 use Rattle.scene_core.specs.declared.child.Child.{Child}
 use Rattle.scene_core.specs.declared.tracks.Tracks.{Tracks}
-use Rattle.scene_core.specs.Ready.{AreReady}
 use Rattle.scene_core.specs.Children.{row_for, size_of, size_for, child_for, needs_for, AreChildren, AreMeasured, IsDeep}
 use Rattle.scene_core.specs.Measured.{IsMeasured, AreTracks, needs_seen}
 use Rattle.scene_core.proofs.Numbered.{live-there}
 use Rattle.scene_core.proofs.ChildNeeds.{asked-children, last-children}
 use Rattle.scene_core.proofs.LeastSteps.{child-measured, deep-none, least-own, least-grid}
 
-pub measured-all : (widgets : Widgets) (id : ℕ) (children : List Child) → AreReady widgets → AreMeasured widgets id children → All IsMeasured children
-measured-all widgets id children ready m = rw m.measured (All-map IsMeasured (child_for widgets) m.keys (λ k d less. child-measured widgets id (get_or m.keys k d) ready (m.each.each k d less)))
+pub measured-all : (widgets : Widgets) (id : ℕ) (children : List Child) → IsWidgets widgets → AreMeasured widgets id children → All IsMeasured children
+measured-all widgets id children valid m = rw m.measured (All-map IsMeasured (child_for widgets) m.keys (λ k d less. child-measured widgets id (get_or m.keys k d) valid (m.each.each k d less)))
 
 pub asked-measured : (axis : Axis) (widgets : Widgets) (id track : ℕ) (children : List Child) → IsWidgets widgets → IsLive widgets id → AreMeasured widgets id children → asked_in (needs_seen axis children) track ≡ asked_in (needs_for axis widgets id) track
 asked-measured axis widgets id track children valid live m = ap (λ (cs : List Child). asked_in (needs_seen axis cs) track) m.measured ∙ asked-children axis widgets id m.keys track valid live m.each
@@ -54,13 +53,13 @@ no_grid Scrollbar other = refl
 no_grid Variable other = refl
 no_grid VScreen other = refl
 
-pub size-own : (widgets : Widgets) (id : ℕ) (kind : Kind) (size : Size) → AreReady widgets → IsLive widgets id → kind ≡ (row_for widgets id).kind → (kind ≡ Grid → ⊥)
+pub size-own : (widgets : Widgets) (id : ℕ) (kind : Kind) (size : Size) → IsWidgets widgets → IsLive widgets id → kind ≡ (row_for widgets id).kind → (kind ≡ Grid → ⊥)
     → size.w ≡ (own_size kind (rows_of widgets) (row_for widgets id)).0 → size.h ≡ (own_size kind (rows_of widgets) (row_for widgets id)).1 → size ≡ size_for widgets id
-size-own widgets id kind size ready live is other w h =
+size-own widgets id kind size valid live is other w h =
     let plain : is_grid (row_for widgets id).kind ≡ false = ap is_grid (sym is) ∙ no_grid kind other in
     size-both widgets id size
-    (w ∙ ap (λ (k : Kind). (own_size k (rows_of widgets) (row_for widgets id)).0) is ∙ sym (least-own widgets id Across ready live plain))
-    (h ∙ ap (λ (k : Kind). (own_size k (rows_of widgets) (row_for widgets id)).1) is ∙ sym (least-own widgets id Down ready live plain))
+    (w ∙ ap (λ (k : Kind). (own_size k (rows_of widgets) (row_for widgets id)).0) is ∙ sym (least-own widgets id Across valid live plain))
+    (h ∙ ap (λ (k : Kind). (own_size k (rows_of widgets) (row_for widgets id)).1) is ∙ sym (least-own widgets id Down valid live plain))
 
 pub deep-some : (widgets : Widgets) (most id : ℕ) → IsWidgets widgets → IsLive widgets id → IsDeep widgets most id → 1 ≤ most
 deep-some widgets zero id valid live deep = absurd (deep-none widgets id valid live deep)

@@ -36,7 +36,7 @@ use Rattle.scene_core.proofs.LeastSteps.{key-found, child-live}
 use Rattle.scene_core.proofs.Finds.{find-none, find-only, same_key-true}
 
 -- a Window hangs in none
-window-alone : (widgets : Widgets) (id : ℕ) → IsWidgets widgets → IsLive widgets id → (row_for widgets id).kind ≡ Window → (row_for widgets id).attached ≡ None
+pub window-alone : (widgets : Widgets) (id : ℕ) → IsWidgets widgets → IsLive widgets id → (row_for widgets id).kind ≡ Window → (row_for widgets id).attached ≡ None
 window-alone widgets id valid live is =
     let row = row_for widgets id in
     let place = numbered_place widgets.entries id row (live-there widgets id live) in
@@ -62,7 +62,7 @@ window-open widgets id is = record { live = by (row_at widgets.entries id) refl 
     by None q h = absurd (cc)
     by (Some row) q h = refl
 
-parent_of-row : (widgets : Widgets) (id : ℕ) → IsWidgets widgets → IsLive widgets id → parent_of (rows_of widgets) (row_for widgets id).client (row_for widgets id).name ≡ option_map (λ (attached : List ℕ × Cell). attached.0) (row_for widgets id).attached
+pub parent_of-row : (widgets : Widgets) (id : ℕ) → IsWidgets widgets → IsLive widgets id → parent_of (rows_of widgets) (row_for widgets id).client (row_for widgets id).name ≡ option_map (λ (attached : List ℕ × Cell). attached.0) (row_for widgets id).attached
 parent_of-row widgets id valid live = parent_of-found (rows_of widgets) (row_for widgets id).client (row_for widgets id).name (row_for widgets id) (key-found widgets id valid live)
 
 parent-none : (widgets : Widgets) (id : ℕ) → IsWidgets widgets → IsOpenWindow widgets id → parent_of (rows_of widgets) (row_for widgets id).client (row_for widgets id).name ≡ None
@@ -76,7 +76,7 @@ parent-key widgets id kid valid parent =
     ∙ ap (λ (client : ℕ). Some (client, (row_for widgets id).name)) of.owner
 
 -- the root by the key
-root-read : (widgets : Widgets) (id : ℕ) → IsLive widgets id → root_id widgets id ≡ id_named (nodes widgets.entries) (root_key (rows_of widgets) (key_of (row_for widgets id))).0 (root_key (rows_of widgets) (key_of (row_for widgets id))).1
+pub root-read : (widgets : Widgets) (id : ℕ) → IsLive widgets id → root_id widgets id ≡ id_named (nodes widgets.entries) (root_key (rows_of widgets) (key_of (row_for widgets id))).0 (root_key (rows_of widgets) (key_of (row_for widgets id))).1
 root-read widgets id live = ap (option_and_then (λ (row : Row). id_named (nodes widgets.entries) row.client (root_of (rows_of widgets) row.client row.name))) (live-there widgets id live)
 
 pub root-child : (widgets : Widgets) (id kid : ℕ) → IsWidgets widgets → IsLive widgets id → parent_id widgets kid ≡ Some id → root_id widgets kid ≡ root_id widgets id

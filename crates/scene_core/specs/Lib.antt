@@ -1,4 +1,6 @@
 pub mod View
-pub mod Ready
 pub mod Children
 pub mod Measured
+pub mod Sides
+pub mod Places
+pub mod Laid

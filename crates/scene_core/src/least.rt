@@ -5,7 +5,7 @@ ghost use Rattle.widget_model.specs.Trees.{most_levels};
 ghost use Rattle.widget_model.specs.Widgets.{IsLive, IsGrid, rows_of, row_at};
 ghost use Rattle.scene_model.specs.Least.{least_of};
 ghost use Rattle.scene_model.specs.Tracks.{rules_of};
-ghost use Rattle.scene_core.specs.Ready.{AreReady};
+ghost use Rattle.widget_model.specs.Forest.{IsWidgets};
 ghost use Rattle.scene_core.specs.Children.{row_for, size_of, size_for, needs_for, AreKnown, AreMeasured, IsDeep};
 ghost use Rattle.scene_core.specs.Measured.{AreTracks};
 
@@ -24,7 +24,7 @@ use tree_core::{Id, Tree};
 
 /// The tracks in use along the axis of a Grid with these children.
 pub(crate) fn grid_tracks(tree: &Tree, id: Id, axis: Axis, children: &[Child]) -> Tracks
-    requires ready { AreReady tree.now }
+    requires valid { IsWidgets tree.now }
     requires grid { IsGrid tree.now id.key }
     requires children { AreMeasured tree.now id.key children.now }
     ensures { AreTracks (needs_for axis tree.now id.key) (rules_of axis (row_for tree.now id.key)) result }
@@ -35,7 +35,7 @@ pub(crate) fn grid_tracks(tree: &Tree, id: Id, axis: Axis, children: &[Child]) -
 
 /// The least length along the axis of a Grid with these children.
 fn grid_length(tree: &Tree, id: Id, axis: Axis, children: &[Child]) -> u32
-    requires ready { AreReady tree.now }
+    requires valid { IsWidgets tree.now }
     requires grid { IsGrid tree.now id.key }
     requires children { AreMeasured tree.now id.key children.now }
     ensures { result ≡ least_of (rows_of tree.now) axis (row_for tree.now id.key) }
@@ -47,7 +47,7 @@ fn grid_length(tree: &Tree, id: Id, axis: Axis, children: &[Child]) -> u32
 /// The children of the widget, measured.
 #[cycle(least)]
 pub(crate) fn measured(tree: &Tree, known: &mut Known, most: u32, id: Id) -> ArrayVec<Child, 256>
-    requires ready { AreReady tree.now }
+    requires valid { IsWidgets tree.now }
     requires live { IsLive tree.now id.key }
     requires deep { IsDeep tree.now most id.key }
     requires known { AreKnown tree.now known.old.sizes }
@@ -71,7 +71,7 @@ pub(crate) fn measured(tree: &Tree, known: &mut Known, most: u32, id: Id) -> Arr
 /// The least size of the widget. It is worked out once, and then known.
 #[cycle(least)]
 pub(crate) fn least(tree: &Tree, known: &mut Known, most: u32, id: Id) -> Size
-    requires ready { AreReady tree.now }
+    requires valid { IsWidgets tree.now }
     requires live { IsLive tree.now id.key }
     requires deep { IsDeep tree.now most id.key }
     requires known { AreKnown tree.now known.old.sizes }
@@ -90,7 +90,7 @@ pub(crate) fn least(tree: &Tree, known: &mut Known, most: u32, id: Id) -> Size
 /// The least size of the widget, from its kind or its children.
 #[cycle(least)]
 fn fresh(tree: &Tree, known: &mut Known, most: u32, id: Id) -> Size
-    requires ready { AreReady tree.now }
+    requires valid { IsWidgets tree.now }
     requires live { IsLive tree.now id.key }
     requires deep { IsDeep tree.now most id.key }
     requires known { AreKnown tree.now known.old.sizes }
@@ -107,7 +107,7 @@ fn fresh(tree: &Tree, known: &mut Known, most: u32, id: Id) -> Size
 /// The least size of a Grid, from its children.
 #[cycle(least)]
 fn grid_size(tree: &Tree, known: &mut Known, most: u32, id: Id) -> Size
-    requires ready { AreReady tree.now }
+    requires valid { IsWidgets tree.now }
     requires grid { IsGrid tree.now id.key }
     requires live { IsLive tree.now id.key }
     requires deep { IsDeep tree.now most id.key }
@@ -125,7 +125,7 @@ fn grid_size(tree: &Tree, known: &mut Known, most: u32, id: Id) -> Size
 /// widget below is visited once, with a few look-ups in hash maps and, for a Grid, its 256 cells. See docs/MACHINE.md,
 /// "Layout".
 pub fn least_size(tree: &Tree, id: Id) -> Size
-    requires ready { AreReady tree.now }
+    requires valid { IsWidgets tree.now }
     requires live { IsLive tree.now id.key }
     ensures { option_map (size_of (rows_of tree.now)) (row_at tree.now.entries id.key) ≡ Some result }
 {

@@ -8,8 +8,10 @@ mod known;
 pub mod laws;
 mod least;
 mod own;
+mod places;
 mod reading;
 mod shown;
+mod sides;
 mod size;
 mod spans;
 mod top;
@@ -18,6 +20,7 @@ mod view;
 
 pub use geom_core::Rect;
 pub use least::least_size;
+pub use places::place;
 pub use size::Size;
 pub use top::top_at;
 pub use tree_core::{Grab, Pointer};

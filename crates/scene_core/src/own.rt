@@ -4,7 +4,7 @@ ghost use Rattle.std.specs.Fmt.{signed_decimal};
 ghost use Rattle.widget_model.specs.Widgets.{IsLive, rows_of};
 ghost use Rattle.scene_model.specs.Least.{own_size, bar_size};
 ghost use Rattle.scene_model.specs.Values.{count_of, label_of, is_vertical};
-ghost use Rattle.scene_core.specs.Ready.{AreReady};
+ghost use Rattle.widget_model.specs.Forest.{IsWidgets};
 ghost use Rattle.scene_core.specs.Children.{row_for, film_size};
 
 use crate::reading::{linked_value, number_of, text_length};
@@ -24,7 +24,7 @@ fn digits(number: i32) -> usize
 
 /// How many bytes a Label shows.
 fn label_length(tree: &Tree, id: Id) -> usize
-    requires ready { AreReady tree.now }
+    requires valid { IsWidgets tree.now }
     requires live { IsLive tree.now id.key }
     ensures count { result ≡ length (label_of (rows_of tree.now) (row_for tree.now id.key)) }
     ensures few { result ≤ 72 }
@@ -37,7 +37,7 @@ fn label_length(tree: &Tree, id: Id) -> usize
 }
 
 /// The number that the attribute is, without its sign.
-fn count_of(tree: &Tree, id: Id, attr: Attr) -> u32
+pub(crate) fn count_of(tree: &Tree, id: Id, attr: Attr) -> u32
     requires { IsLive tree.now id.key }
     ensures { result ≡ count_of attr (row_for tree.now id.key) }
 {
@@ -73,7 +73,7 @@ fn film_size(tree: &Tree, id: Id) -> Size
 
 /// What a widget of the kind needs by itself.
 pub(crate) fn own_size(tree: &Tree, id: Id, kind: Kind) -> Size
-    requires ready { AreReady tree.now }
+    requires valid { IsWidgets tree.now }
     requires live { IsLive tree.now id.key }
     requires kind { kind ≡ (row_for tree.now id.key).kind }
     ensures w { result.w ≡ (own_size kind (rows_of tree.now) (row_for tree.now id.key)).0 }

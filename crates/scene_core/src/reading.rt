@@ -1,11 +1,10 @@
 //! What a widget's row says, read by its number.
-ghost use Rattle.std.specs.Prelude.{◌≡◌, ◌≤◌, length, Some, IfSome};
-ghost use Rattle.std.specs.Option.{option_map, option_map_or};
+ghost use Rattle.std.specs.Prelude.{◌≡◌, ◌≤◌, length};
+ghost use Rattle.std.specs.Option.{option_map_or};
 ghost use Rattle.widget_model.specs.Rows.{IsIndex};
-ghost use Rattle.widget_model.specs.Widgets.{IsLive, IsGrid, rows_of, row_at};
+ghost use Rattle.widget_model.specs.Widgets.{IsLive, IsGrid, rows_of};
 ghost use Rattle.scene_model.specs.Values.{number_in, number_of, text_in, text_of, linked_value};
 ghost use Rattle.scene_model.specs.Tracks.{cell_of, rules_of, rule_of};
-ghost use Rattle.scene_model.specs.Placing.{parent_row};
 ghost use Rattle.scene_core.specs.Children.{row_for};
 
 use kind_core::{Attr, Cell, Kind, Text, Value};
@@ -106,13 +105,4 @@ pub(crate) fn cell_of(tree: &Tree, id: Id) -> Cell
     ensures { result ≡ cell_of (row_for tree.now id.key) }
 {
     cell_in(tree.cell(id))
-}
-
-/// The widget in which this one hangs.
-pub(crate) fn parent_of(tree: &Tree, id: Id) -> Option<Id>
-    requires { IsLive tree.now id.key }
-    ensures row { option_map (λ parent. row_for tree.now parent.key) result ≡ parent_row (rows_of tree.now) (row_for tree.now id.key) }
-    ensures live { IfSome result (λ parent. IsLive tree.now parent.key) }
-{
-    tree.parent(id)
 }

@@ -3,7 +3,7 @@ ghost use Rattle.std.specs.Prelude.{◌≡◌, ◌≤◌, ◌<◌, ◌+◌, ℕ,
 ghost use Rattle.grid_layout.specs.Spread.{widths_of};
 ghost use Rattle.widget_model.specs.Widgets.{IsGrid};
 ghost use Rattle.scene_model.specs.Tracks.{asked_in, last_asked, rules_of};
-ghost use Rattle.scene_core.specs.Ready.{AreReady};
+ghost use Rattle.widget_model.specs.Forest.{IsWidgets};
 ghost use Rattle.scene_core.specs.Children.{row_for, needs_for};
 ghost use Rattle.scene_core.specs.Measured.{AreTracks};
 
@@ -68,7 +68,7 @@ fn set_track(tracks: &mut Tracks, index: usize, rule: (u32, u32), room: u32)
 
 /// The tracks in use of a Grid along the axis, where its children ask for this.
 pub(crate) fn tracks_of(tree: &Tree, id: Id, axis: Axis, asked: &Asked) -> Tracks
-    requires ready { AreReady tree.now }
+    requires valid { IsWidgets tree.now }
     requires grid { IsGrid tree.now id.key }
     requires rooms { (index : ℕ) → index < 16 → slice_index asked.now.rooms index ≡ asked_in (needs_for axis tree.now id.key) (index + 1) }
     requires last { asked.now.last ≡ last_asked (needs_for axis tree.now id.key) }

@@ -71,7 +71,7 @@ track_span-at bound track lengths span few each at =
     record { low = omega (arith, ints, at.low); high = omega (arith, ints, at.high, before); len = index-most 4128 lengths (track - 1) each }
 
 -- how far a Frame moves its child
-offset-between : (rows : List Row) (axis : Axis) (row : Row) → row.kind ≡ Frame → IsFitRow row → IsBetween (pos 0) (pos 4096) (offset_of axis rows row)
+pub offset-between : (rows : List Row) (axis : Axis) (row : Row) → row.kind ≡ Frame → IsFitRow row → IsBetween (pos 0) (pos 4096) (offset_of axis rows row)
 offset-between rows Across row is fit = number_of-takes row X (pos 0) (pos 4096) (rw is (record { none = refl; words = λ text. refl; numbers = λ n. refl })) fit.values
 offset-between rows Down row is fit = by (linked_value rows row)
   where

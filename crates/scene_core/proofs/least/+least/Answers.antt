@@ -10,17 +10,17 @@ use Rattle.scene_core.proofs.Measures.{deep-some, deep-suc, child-same, length-m
 use Rattle.scene_core.proofs.least.+least.Goals as goal
 
 pub measured-overflow_sub-most : goal.measured-overflow_sub-most
-measured-overflow_sub-most t c = deep-some c.args.tree.now c.args.most c.args.id.key c.requires.ready.valid c.requires.live c.requires.deep
+measured-overflow_sub-most t c = deep-some c.args.tree.now c.args.most c.args.id.key c.requires.valid c.requires.live c.requires.deep
 
 pub measured-least-requires : goal.measured-least-requires
 measured-least-requires t c =
-    let some_more = deep-some c.args.tree.now c.args.most c.args.id.key c.requires.ready.valid c.requires.live c.requires.deep in
+    let some_more = deep-some c.args.tree.now c.args.most c.args.id.key c.requires.valid c.requires.live c.requires.deep in
     let each : AreChildren c.args.tree.now c.args.id.key c.as_slice-key-items.result.now = subst (λ (xs : List ℕ). AreChildren c.args.tree.now c.args.id.key xs) (sym c.as_slice-key-items.ensures.value) c.child_keys-keys.ensures.children in
     let parent = each.each c.loop-key.key-index 0 c.loop-key-test.true in
     let kid = get_or c.as_slice-key-items.result.now c.loop-key.key-index 0 in
-    let live = child-live c.args.tree.now c.args.id.key kid c.requires.ready.valid parent in
-    let deep = deep-child c.args.tree.now (c.args.most - 1) c.args.id.key kid c.requires.ready.valid (deep-suc c.args.tree.now c.args.most c.args.id.key some_more c.requires.deep) live parent in
-    (omega arith, (c.requires.ready, (live, (deep, c.loop-key.invariant.known))))
+    let live = child-live c.args.tree.now c.args.id.key kid c.requires.valid parent in
+    let deep = deep-child c.args.tree.now (c.args.most - 1) c.args.id.key kid c.requires.valid (deep-suc c.args.tree.now c.args.most c.args.id.key some_more c.requires.deep) live parent in
+    (omega arith, (c.requires.valid, (live, (deep, c.loop-key.invariant.known))))
 
 pub measured-push-requires : goal.measured-push-requires
 measured-push-requires t c =
@@ -63,10 +63,10 @@ least-returns t c = record {
 pub fresh-grid_size-requires : goal.fresh-grid_size-requires
 fresh-grid_size-requires t c =
     let grid = kind-grid c.args.tree.now c.args.id.key c.requires.live (sym c.kind_of-kind.ensures ∙ c.in-Grid.is) in
-    (omega arith, (c.requires.ready, (grid, (c.requires.live, (c.requires.deep, c.requires.known)))))
+    (omega arith, (c.requires.valid, (grid, (c.requires.live, (c.requires.deep, c.requires.known)))))
 
 pub fresh-returns-in_default : goal.fresh-returns-in_default
 fresh-returns-in_default t c = record {
-  size = size-own c.args.tree.now c.args.id.key c.kind_of-kind.result c.own_size.result c.requires.ready c.requires.live c.kind_of-kind.ensures c.in_default.not-Grid c.own_size.ensures.w c.own_size.ensures.h;
+  size = size-own c.args.tree.now c.args.id.key c.kind_of-kind.result c.own_size.result c.requires.valid c.requires.live c.kind_of-kind.ensures c.in_default.not-Grid c.own_size.ensures.w c.own_size.ensures.h;
   known = c.requires.known;
 }

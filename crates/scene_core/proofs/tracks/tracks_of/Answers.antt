@@ -4,6 +4,7 @@ use Rattle.std.specs.List.{range_with_len}
 use Rattle.widget_model.specs.Widgets.{IsLive}
 use Rattle.scene_model.specs.Tracks.{track_least, last_asked, last_ruled, rule_of, rules_of, asked_in}
 use Rattle.scene_model.proofs.Leasts.{needs_of-fit, rules_of-fit}
+use Rattle.scene_model.proofs.FitWidgets.{widgets_are_fit}
 use Rattle.scene_core.specs.Children.{row_for, needs_for}
 use Rattle.scene_core.proofs.Numbered.{grid-live}
 use Rattle.scene_core.proofs.TrackSteps.{made_more, used_more, tracks_whole}
@@ -15,7 +16,7 @@ loop-index-preserved c =
     let needs = needs_for c.args.axis c.args.tree.now c.args.id.key in
     let rules = rules_of c.args.axis (row_for c.args.tree.now c.args.id.key) in
     let live = grid-live c.args.tree.now c.args.id.key c.requires.grid in
-    let sixteen = rules-sixteen c.args.tree.now c.args.id.key c.args.axis c.requires.ready live in
+    let sixteen = rules-sixteen c.args.tree.now c.args.id.key c.args.axis c.requires.valid live in
     let i = c.loop-index.index in
     let less : i < 16 = c.loop-index-test.true in
     let at : max c.rule_of-rule.result.0 (get_or c.args.asked.now.rooms i 0) ≡ track_least needs rules (i + 1) =
@@ -33,11 +34,11 @@ returns c =
     let needs = needs_for c.args.axis c.args.tree.now c.args.id.key in
     let rules = rules_of c.args.axis (row_for c.args.tree.now c.args.id.key) in
     let live = grid-live c.args.tree.now c.args.id.key c.requires.grid in
-    let sixteen = rules-sixteen c.args.tree.now c.args.id.key c.args.axis c.requires.ready live in
+    let sixteen = rules-sixteen c.args.tree.now c.args.id.key c.args.axis c.requires.valid live in
     let end : c.loop-index.index ≡ 16 = omega arith in
     tracks_whole needs rules c.loop-index.tracks c.loop-index.invariant.long c.loop-index.invariant.heavy sixteen
-    (needs_of-fit _ c.args.axis (row_for c.args.tree.now c.args.id.key) c.requires.ready.fit)
-    (rules_of-fit c.args.axis (row_for c.args.tree.now c.args.id.key) (row-fit c.args.tree.now c.args.id.key c.requires.ready live))
+    (needs_of-fit _ c.args.axis (row_for c.args.tree.now c.args.id.key) (widgets_are_fit c.args.tree.now c.requires.valid))
+    (rules_of-fit c.args.axis (row_for c.args.tree.now c.args.id.key) (row-fit c.args.tree.now c.args.id.key c.requires.valid live))
     (subst (λ n. take n c.loop-index.tracks.least ≡ map (track_least needs rules) (range_with_len 1 n)) end c.loop-index.invariant.least)
     (subst (λ n. take n c.loop-index.tracks.weights ≡ map (λ track. (rule_of rules track).1) (range_with_len 1 n)) end c.loop-index.invariant.weights)
     (subst (λ n. c.loop-index.tracks.used ≡ max (last_asked needs) (last_ruled 1 (take n rules))) end c.loop-index.invariant.used)
