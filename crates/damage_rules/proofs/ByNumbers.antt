@@ -100,6 +100,7 @@ alike-is number keys before after shot shot' looks window are there = by (is_ope
   where
     test : Bool
     test = is_placed_alike (number window) (spot_at shot (number window)) (spot_at shot' (number window))
+
     by : (a : Bool) → is_open_in before window ≡ a → (b : Bool) → is_open_in after window ≡ b → is_placed_alike (number window) (spot_at shot (number window)) (spot_at shot' (number window)) ≡ ((a && b) && same_place (place_of before window) (place_of after window))
     by false a b' b = not_alike (number window) _ _ (inl (closed number keys before shot window are.mine there a))
     by true a false b = not_alike (number window) _ _ (inr (closed number keys after shot' window are.mine' there b))
@@ -125,8 +126,10 @@ shifted-is number keys before after shot shot' looks window are there =
   where
     order : windows_in shot ≡ map number before.windows
     order = ap numbers_of are.mine.shot_is.windows ∙ numbers-placed number (place_of before) before.windows
+
     order' : windows_in shot' ≡ map number after.windows
     order' = ap numbers_of are.mine'.shot_is.windows ∙ numbers-placed number (place_of after) after.windows
+
     higher : is_higher_in (map number before.windows) (map number after.windows) (number window) ≡ list_any (λ other. reach.is_over same_key before.windows other window && reach.is_over same_key after.windows window other) before.windows
     higher = higher-number number keys before.windows after.windows window are.mine.own there (λ k is. are.mine.within k (window_stands before k are.mine.sound is)) (λ k is. are.mine'.within k (window_stands after k are.mine'.sound is))
 
@@ -140,6 +143,7 @@ not_under scene window key sound opened unshown = false_from_ne_true (is_under s
         let upper = IsParentKey-parent_in scene key parent hangs in
         let there = HangsIn-from scene.rows key.0 key.1 upper.name upper.hung in
         row_stands scene key there.row there.found
+
     shown : is_under scene window key ≡ true → is_shown scene key ≡ true
     shown h =
         let root : window ≡ root_key scene.rows key = same_key-is window (root_key scene.rows key) h in
@@ -166,8 +170,10 @@ altered-is number keys before after shot shot' looks window key are there key_th
   where
     kept : Bool → Bool
     kept k = not k || list_any (nat_eq (number key)) looks
+
     rest : Bool
     rest = not (same_parent (parent_in before key) (parent_in after key)) || (not (same_place (place_of before key) (place_of after key)) || not (same_look (look_at before key) (look_at after key)))
+
     by : (a : Bool) → is_shown before key ≡ a → (b : Bool) → is_shown after key ≡ b → kept (is_kept (number window) (spot_at shot (number key)) (spot_at shot' (number key))) ≡ (not (is_under before window key && is_under after window key) || rest)
     by false a b' b =
         ap kept (not_kept_left (number window) _ _ (are.mine.shot_is.unshown key key_there a))
@@ -181,10 +187,10 @@ altered-is number keys before after shot shot' looks window key are there key_th
         let under = spot_under number keys before shot window key are.mine there a found in
         let under' = spot_under number keys after shot' window key are.mine' there b found' in
         let parents : same_number found.spot.parent found'.spot.parent ≡ same_parent (parent_in before key) (parent_in after key) =
-            (λ i. same_number (found.is.parent i) (found'.is.parent i))
-            ∙ same_number-parent number keys (parent_in before key) (parent_in after key) are.mine.own
-                (λ k is. are.mine.within k (parent_stands before key k are.mine.sound.planted is))
-                (λ k is. are.mine'.within k (parent_stands after key k are.mine'.sound.planted is)) in
+        (λ i. same_number (found.is.parent i) (found'.is.parent i))
+        ∙ same_number-parent number keys (parent_in before key) (parent_in after key) are.mine.own
+        (λ k is. are.mine.within k (parent_stands before key k are.mine.sound.planted is))
+        (λ k is. are.mine'.within k (parent_stands after key k are.mine'.sound.planted is)) in
         (λ i. kept (is_kept (number window) (found.at i) (found'.at i)))
         ∙ ((λ i. not ((under i && under' i) && (parents i && same_place (found.is.place i) (found'.is.place i))) || are.looks_are key a b i)
         ∙ ungrouped (is_under before window key && is_under after window key) (same_parent (parent_in before key) (parent_in after key)) (same_place (place_of before key) (place_of after key)) (same_look (look_at before key) (look_at after key)))
@@ -215,22 +221,25 @@ area-is number keys before after shot shot' looks scene one key x y are mine the
   where
     root : ℕ × List ℕ
     root = root_key scene.rows key
+
     given : (n : Bool) (area : Rect) → holds x y (cond n (area ∷ []) []) ≡ (n && in_rect area x y)
     given true area = or_nothing (in_rect area x y)
     given false area = refl
+
     nothing : is_shown scene key ≡ false → ((is_open_in scene root && is_named_in before after root key) && shows_at scene key x y) ≡ false
     nothing unshown = inner (and_cases (list_any (same_key key) (keys_in scene)) (is_open_in scene root) unshown)
       where
         inner : (list_any (same_key key) (keys_in scene) ≡ false) ⊎ (is_open_in scene root ≡ false) → ((is_open_in scene root && is_named_in before after root key) && shows_at scene key x y) ≡ false
         inner (inl absent) = and_right (is_open_in scene root && is_named_in before after root key) _ (false_from_ne_true (shows_at scene key x y) (λ shows. true≢false (sym (shows-stands scene key x y mine.sound.planted shows) ∙ absent)))
         inner (inr shut) = and_left _ _ (and_left _ _ shut)
+
     by : (s : Bool) → is_shown scene key ≡ s → holds x y (area_of shot shot' looks (number key) (spot_at one (number key))) ≡ ((is_open_in scene root && is_named_in before after root key) && shows_at scene key x y)
     by true shown =
         let found = Spotted-shown number keys scene one key mine shown in
         let opened = (and_parts (list_any (same_key key) (keys_in scene)) (is_open_in scene root) shown).1 in
         let root_there = mine.within root (window_stands scene root mine.sound opened) in
         let named : is_named shot shot' looks found.spot.window (number key) ≡ is_named_in before after root key =
-            ap (λ (w : ℕ). is_named shot shot' looks w (number key)) found.is.window ∙ named-is number keys before after shot shot' looks root key are root_there there in
+        ap (λ (w : ℕ). is_named shot shot' looks w (number key)) found.is.window ∙ named-is number keys before after shot shot' looks root key are root_there there in
         ap (λ (o : Option Spot). holds x y (area_of shot shot' looks (number key) o)) found.at
         ∙ (given (is_named shot shot' looks found.spot.window (number key)) found.spot.shown
         ∙ ((λ i. named i && found.is.shown x y i)

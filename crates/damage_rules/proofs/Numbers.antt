@@ -49,9 +49,9 @@ unfolding is_higher_in
 higher-number number keys before after window own there each each' =
     any-number number (λ other. is_over nat_eq (map number before) other (number window) && is_over nat_eq (map number after) (number window) other) (λ other. is_over same_key before other window && is_over same_key after window other) before
     (λ other is.
-        let over = over-number number keys before other window own (each other is) there each in
-        let under = over-number number keys after window other own there (each other is) each' in
-        λ i. over i && under i)
+    let over = over-number number keys before other window own (each other is) there each in
+    let under = over-number number keys after window other own there (each other is) each' in
+    λ i. over i && under i)
 
 -- the numbers of windows with their places
 pub numbers-placed : (number : ℕ × List ℕ → ℕ) (place : ℕ × List ℕ → Rect) (windows : List (ℕ × List ℕ)) → numbers_of (map (λ key. (number key, place key)) windows) ≡ map number windows

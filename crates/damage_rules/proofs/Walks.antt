@@ -42,6 +42,7 @@ not_over (window ∷ windows) upper lower absent = by (nat_eq upper window) (not
   where
     parts : (nat_eq lower window ≡ false) × (list_any (nat_eq lower) windows ≡ false)
     parts = or_parts (nat_eq lower window) (list_any (nat_eq lower) windows) absent
+
     by : (b : Bool) → is_over nat_eq windows upper lower ≡ false → cond b (list_any (nat_eq lower) windows) (is_over nat_eq windows upper lower) ≡ false
     by true rest = parts.1
     by false rest = rest
@@ -84,8 +85,10 @@ higher_is below window higher (other ∷ others) once = by (nat_eq other window)
   where
     rest : list_any (tested (other ∷ others) below window) others ≡ list_any (tested others below window) others
     rest = skip_first other window below others others once.0
+
     first : is_over nat_eq (other ∷ others) other window ≡ list_any (nat_eq window) others
     first = cond-true (nat_eq other other) _ _ (eq-eqb other other refl)
+
     by : (b : Bool) → nat_eq other window ≡ b → higher_from below window (higher || below other) others ≡ ((list_any (nat_eq window) others && (higher || below other)) || list_any (tested others below window) others) → cond b higher (higher_from below window (higher || below other) others) ≡ (((nat_eq window other || list_any (nat_eq window) others) && higher) || ((is_over nat_eq (other ∷ others) other window && below other) || list_any (tested (other ∷ others) below window) others))
     by true same step =
         let turn : nat_eq window other ≡ true = eq-eqb window other (sym (eqb-true other window same)) in

@@ -116,6 +116,7 @@ taken_widget before after x y window key unshifted opened opened' h = by (or_cas
   where
     parts : (is_altered before after window key ≡ true) × ((shows_under before window key x y || shows_under after window key x y) ≡ true)
     parts = and_parts (is_altered before after window key) (shows_under before window key x y || shows_under after window key x y) h
+
     by : (shows_under before window key x y ≡ true) ⊎ (shows_under after window key x y ≡ true) → in_reach_by before after x y key ≡ true
     by (inl was) = or_left _ _ (named-altered before after before x y window key unshifted opened parts.0 was)
     by (inr now) = or_right _ _ (named-altered before after after x y window key unshifted opened' parts.0 now)

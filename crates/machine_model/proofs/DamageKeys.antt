@@ -48,6 +48,7 @@ none_of test (first ∷ keys) key none there = by (λ later. none_of test keys k
   where
     parts : (test first ≡ false) × (list_any test keys ≡ false)
     parts = or_parts (test first) (list_any test keys) none
+
     by : (list_any (same_key key) keys ≡ true → test key ≡ false) → (b : Bool) → same_key key first ≡ b → (b || list_any (same_key key) keys) ≡ true → test key ≡ false
     by rest true same there = ap test (same_key-is key first same) ∙ parts.0
     by rest false same there = rest there
@@ -59,6 +60,7 @@ all_of test (first ∷ keys) key all there = by (λ later. all_of test keys key 
   where
     parts : (test first ≡ true) × (list_all test keys ≡ true)
     parts = and_parts (test first) (list_all test keys) all
+
     by : (list_any (same_key key) keys ≡ true → test key ≡ true) → (b : Bool) → same_key key first ≡ b → (b || list_any (same_key key) keys) ≡ true → test key ≡ true
     by rest true same there = ap test (same_key-is key first same) ∙ parts.0
     by rest false same there = rest there
@@ -90,7 +92,7 @@ find-stands test (first ∷ keys) key found = by (find-stands test keys key) (te
 
 -- nothing is left of an empty span
 pub none_in_span : (p : ℤ) → (int_le (pos 0) p && int_lt p (pos 0 +ℤ pos 0)) ≡ false
-none_in_span p = by (cases_Bool (int_le (pos 0) p)) 
+none_in_span p = by (cases_Bool (int_le (pos 0) p))
   where
     by : (int_le (pos 0) p ≡ true) ⊎ (int_le (pos 0) p ≡ false) → (int_le (pos 0) p && int_lt p (pos 0 +ℤ pos 0)) ≡ false
     by (inl h) = grind arith

@@ -15,6 +15,7 @@ first_over test (window ∷ windows) first other found there passes apart = by (
   where
     not_here : (same_key other window ≡ false) → list_any (same_key other) windows ≡ true
     not_here h = sym (ap (λ b. b || list_any (same_key other) windows) h) ∙ there
+
     by : (find test windows ≡ Some first → list_any (same_key other) windows ≡ true → is_over same_key windows first other ≡ true) → (b : Bool) → test window ≡ b → cond b (Some window) (find test windows) ≡ Some first → is_over same_key (window ∷ windows) first other ≡ true
     by rest true h found =
         let same : window ≡ first = cc in

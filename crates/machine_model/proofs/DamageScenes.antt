@@ -40,7 +40,7 @@ unfolding parent_in
 parent_in-child scene key i row names there is =
     let child = IsChildOf-is_child key.0 key.1 row is in
     let named : parent_of scene.rows row.client row.name ≡ Some key.1 =
-        parent_of-found scene.rows row.client row.name row (row_named-own scene.rows i row names there) ∙ ap (option_map (λ (attached : List ℕ × Cell). attached.0)) child.attached in
+    parent_of-found scene.rows row.client row.name row (row_named-own scene.rows i row names there) ∙ ap (option_map (λ (attached : List ℕ × Cell). attached.0)) child.attached in
     ap (option_map {U = ℕ × List ℕ} (λ (name : List ℕ). (row.client, name))) named ∙ ap (λ (client : ℕ). Some (client, key.1)) child.owner
 
 child_found : (scene : Scene) (x y : ℤ) (key child : ℕ × List ℕ) → AreNamedApart scene.rows → child_at scene key x y ≡ Some child → (parent_in scene child ≡ Some key) × (shows_at scene child x y ≡ true)
@@ -127,6 +127,7 @@ window_alone scene window sound there = by (parent_in scene window) refl
   where
     is : is_kind_of is_window_kind (row_of scene.rows window) ≡ true
     is = all_of (λ w. is_kind_of is_window_kind (row_of scene.rows w)) scene.windows window sound.windows there
+
     by : (o : Option (ℕ × List ℕ)) → parent_in scene window ≡ o → o ≡ None
     by None hangs = refl
     by (Some parent) hangs =
@@ -141,6 +142,7 @@ window_stands scene window sound there = by (row_of scene.rows window) refl
   where
     is : is_kind_of is_window_kind (row_of scene.rows window) ≡ true
     is = all_of (λ w. is_kind_of is_window_kind (row_of scene.rows w)) scene.windows window sound.windows there
+
     by : (o : Option Row) → row_of scene.rows window ≡ o → list_any (same_key window) (keys_in scene) ≡ true
     by None found = absurd (true≢false (sym is ∙ ap (is_kind_of is_window_kind) found))
     by (Some row) found = row_stands scene window row found

@@ -51,10 +51,13 @@ seen_in (suc most) before after window key x y planted planted' keeps low seen =
   where
     kept : IsKept before after window key
     kept = keeps.each key seen
+
     inside : Rect → Option (ℕ × List ℕ) → Bool
     inside place o = in_rect place x y && option_map_or (λ parent. shows_at after parent x y) o (on_screen after x y)
+
     through : (place place' : Rect) → place ≡ place' → (o o' : Option (ℕ × List ℕ)) → o ≡ o' → inside place' o' ≡ inside place o
     through place place' same o o' also = λ i. inside (sym same i) (sym also i)
+
     by : ((parent : ℕ × List ℕ) → ends_within most before.rows parent.0 parent.1 ≡ true → IsSeen before window parent x y → IsSeen after window parent x y) → (o : Option (ℕ × List ℕ)) → parent_in before key ≡ o → inside (place_of before key) o ≡ true
     by rest None hangs =
         let was : (in_rect (place_of before key) x y && on_screen before x y) ≡ true = sym (shows_at-up before key x y planted ∙ ap (shown_through before key x y) hangs) ∙ seen.shows in
@@ -79,12 +82,16 @@ child_after before after window key child x y climbed climbed' keeps seen found 
   where
     is : (parent_in before child ≡ Some key) × (shows_at before child x y ≡ true)
     is = climbed.child key child found
+
     child_was : IsSeen before window child x y
     child_was = child_seen before window key child x y climbed seen found
+
     hangs : parent_in after child ≡ Some key
     hangs = sym (keeps.each child child_was).parent ∙ is.0
+
     shows : shows_at after child x y ≡ true
     shows = (seen_after before after window child x y climbed.planted climbed'.planted keeps child_was).shows
+
     by : (o : Option (ℕ × List ℕ)) → child_at after key x y ≡ o → o ≡ Some child
     by None missing = absurd (true≢false (sym shows ∙ climbed'.childless key child missing hangs))
     by (Some other) there =

@@ -80,8 +80,10 @@ unshifted before after x y window unreached shown = false_from_ne_true (is_shift
     opened : IsShown before after window x y → (is_open_in before window ≡ true) ⊎ (is_open_in after window ≡ true)
     opened (inl h) = inl h.0
     opened (inr h) = inr h.0
+
     outside : IsOutside before after x y window
     outside = IsOutside-unreached before after x y window (unreached_of before after x y window unreached (opened shown))
+
     reached : IsShown before after window x y → in_window before after window x y ≡ false → ⊥
     reached (inl h) none = true≢false (sym (and_from _ _ h.0 h.1) ∙ (or_parts (shows_open before window x y) (shows_open after window x y) none).0)
     reached (inr h) none = true≢false (sym (and_from _ _ h.0 h.1) ∙ (or_parts (shows_open before window x y) (shows_open after window x y) none).1)
@@ -120,14 +122,18 @@ is_unaltered before after x y window key planted planted' unreached shown seen =
     opened : IsShown before after window x y → (is_open_in before window ≡ true) ⊎ (is_open_in after window ≡ true)
     opened (inl h) = inl h.0
     opened (inr h) = inr h.0
+
     outside : IsOutside before after x y window
     outside = IsOutside-unreached before after x y window (unreached_of before after x y window unreached (opened shown))
+
     none : list_any (in_widget before after window x y) (keys_in before ++ keys_in after) ≡ false
     none = outside.altered (unshifted before after x y window unreached shown)
+
     untouched : (a b c : Bool) → (a && (b || c)) ≡ false → (b ≡ true) ⊎ (c ≡ true) → a ≡ false
     untouched false b c h is = refl
     untouched true b c h (inl is) = absurd (true≢false (sym (or_left b c is) ∙ h))
     untouched true b c h (inr is) = absurd (true≢false (sym (or_right b c is) ∙ h))
+
     by : IsSeen before window key x y ⊎ IsSeen after window key x y → is_altered before after window key ≡ false
     by (inl was) =
         untouched _ (shows_under before window key x y) (shows_under after window key x y)
@@ -154,8 +160,8 @@ keeps_on before after x y window u shown =
     record {
       screen = same_screen before after x y u;
       each = λ key seen.
-        let is = is_unaltered before after x y window key u.sound.planted u.sound'.planted u.unreached shown (inl seen) in
-        record { under = is.under_after; parent = is.parent; place = is.place; look = is.look };
+          let is = is_unaltered before after x y window key u.sound.planted u.sound'.planted u.unreached shown (inl seen) in
+          record { under = is.under_after; parent = is.parent; place = is.place; look = is.look };
     }
 
 keeps_back : (before after : Scene) (x y : ℤ) (window : ℕ × List ℕ) → IsUnreached before after x y → IsShown before after window x y → Keeps after before window x y
@@ -163,8 +169,8 @@ keeps_back before after x y window u shown =
     record {
       screen = sym (same_screen before after x y u);
       each = λ key seen.
-        let is = is_unaltered before after x y window key u.sound.planted u.sound'.planted u.unreached shown (inr seen) in
-        record { under = is.under_before; parent = sym is.parent; place = sym is.place; look = sym is.look };
+          let is = is_unaltered before after x y window key u.sound.planted u.sound'.planted u.unreached shown (inr seen) in
+          record { under = is.under_before; parent = sym is.parent; place = sym is.place; look = sym is.look };
     }
 
 -- an open window that shows the pixel is seen in itself
@@ -211,20 +217,28 @@ same_colour before after x y u (Some window) first = λ i. colour_in (look i) (p
   where
     found : (list_any (same_key window) before.windows ≡ true) × (shows_at before window x y ≡ true)
     found = found_passes (λ w. shows_at before w x y) before.windows window first
+
     shown : IsShown before after window x y
     shown = inl found
+
     keeps : Keeps before after window x y
     keeps = keeps_on before after x y window u shown
+
     seen : IsSeen before window window x y
     seen = window_seen before window x y u.sound found.0 found.1
+
     climbed : IsClimbed before x y
     climbed = IsClimbed-sound before x y u.sound
+
     lowest : lowest_in most_levels before x y window ≡ lowest_in most_levels after x y window
     lowest = same_lowest most_levels before after window window x y climbed (IsClimbed-sound after x y u.sound') keeps (keeps_back before after x y window u shown) seen
+
     kept : IsKept before after window (lowest_in most_levels before x y window)
     kept = keeps.each (lowest_in most_levels before x y window) (lowest_seen most_levels before window window x y climbed seen)
+
     look : look_at before (lowest_in most_levels before x y window) ≡ look_at after (lowest_in most_levels after x y window)
     look = kept.look ∙ ap (look_at after) lowest
+
     place : place_of before (lowest_in most_levels before x y window) ≡ place_of after (lowest_in most_levels after x y window)
     place = kept.place ∙ ap (place_of after) lowest
 

@@ -50,7 +50,7 @@ impl Shot {
     }
 
     /// Takes all windows and spots out.
-    
+
     pub fn clear(&mut self)
         ensures bare { IsBare self.new }
         ensures valid { IsShot self.new }
