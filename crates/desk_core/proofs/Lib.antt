@@ -22,7 +22,3 @@ mod InWindows
 mod PointerKept
 mod CallSteps
 mod Calls
-pub mod CallSteps
-pub mod Calls
-pub mod InWindows
-pub mod PointerKept
