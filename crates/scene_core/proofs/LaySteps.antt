@@ -139,13 +139,16 @@ module _ (old mid new : Widgets) (id kid : ℕ) (live : IsLive old id) (valid : 
       by : AreLaid most (with_places mid.places old) kid new → place_at new other ≡ due old other
       by then = then.under other (below-places mid.places old most kid other below)
 
+-- a child that is measured after places have changed
+kid-from : (old new : Widgets) (id key : ℕ) (child : Child) → new ≡ with_places new.places old → parent_id new key ≡ Some id → child ≡ child_for new key → (parent_id old child.key ≡ Some id) × (child ≡ child_for old child.key)
+kid-from old new id key child same parent is =
+    subst (λ (kid : Child). (parent_id old kid.key ≡ Some id) × (kid ≡ child_for old kid.key)) (sym is) (parent-back old new key id same parent, sym (child-same-rows old new key same))
+
 -- the measured children, and the numbers that they are of
 pub measured-back : (old new : Widgets) (id : ℕ) (children : List Child) (i : ℕ) (child : Child) → new ≡ with_places new.places old → AreMeasured new id children → slice_get children i ≡ Some child → (parent_id old child.key ≡ Some id) × (child ≡ child_for old child.key)
 measured-back old new id children i child same are there =
     let at = map-at (child_for new) are.keys i child (sym (ap (λ (cs : List Child). slice_get cs i) are.measured) ∙ there) in
-    let key : child.key ≡ at.0 = ap (λ (c : Child). c.key) at.2 in
-    let parent : parent_id new at.0 ≡ Some id = in-all are.keys i at.0 (λ k. parent_id new k ≡ Some id) are.each.each at.1 in
-    (parent-back old new child.key id same (ap (parent_id new) key ∙ parent), at.2 ∙ ap (child_for new) (sym key) ∙ sym (child-same-rows old new child.key same))
+    kid-from old new id at.0 child same (in-all are.keys i at.0 (λ k. parent_id new k ≡ Some id) are.each.each at.1) at.2
   where
     map-at : (f : ℕ → Child) (keys : List ℕ) (i : ℕ) (child : Child) → slice_get (map f keys) i ≡ Some child → (key : ℕ) × (slice_get keys i ≡ Some key) × (child ≡ f key)
     map-at f [] i child there = absurd (cc)
