@@ -1,22 +1,22 @@
 -- What the measured children of a widget ask for is what the definitions say that its children ask for, in whatever order.
-use Rattle.std.proofs.Common.{◌≡◌, ℕ, zero, suc, ◌+◌, ◌*◌, ◌<◌, ◌≤◌, ◌==◌, max, Bool, true, false, cond, ◌&&◌, nat_eq, eq-eqb, List, [], ◌∷◌, ◌++◌, length, map, get_or, slice_get, slice_index_or, All, Option, Some, None, refl, sym, ap, ◌∙◌, arith, if◌then◌else◌}
-use Rattle.std.specs.List.{filter, Contains}
+use Rattle.std.proofs.Common.{◌≡◌, ℕ, zero, suc, ◌<◌, ◌≤◌, ◌==◌, max, Bool, true, false, cond, ◌&&◌, nat_eq, eq-eqb, List, [], ◌∷◌, length, map, get_or, slice_get, Option, Some, refl, sym, ap, ◌∙◌, arith, if◌then◌else◌}
+use Rattle.std.specs.List.{filter}
 use Rattle.std.specs.Option.{option_and_then}
 use Rattle.kind_core.specs.declared.shapes.Cell.{Cell}
 use Rattle.widget_model.specs.Rows.{Row}
 use Rattle.widget_model.specs.Nodes.{id_named}
 use Rattle.widget_model.specs.Trees.{is_child}
-use Rattle.widget_model.specs.Widgets.{Widgets, rows_of, row_at, nodes, IsLive}
+use Rattle.widget_model.specs.Widgets.{Widgets, rows_of, nodes, IsLive}
 use Rattle.widget_model.specs.Forest.{IsWidgets}
 use Rattle.widget_model.specs.Relatives.{parent_id}
 use Rattle.widget_model.proofs.Naming.{id_named-row}
 use Rattle.tree_core.proofs.Listed.{listed_number, numbered_place}
 use Rattle.scene_model.specs.declared.axis.Axis.{Axis}
 use Rattle.scene_model.specs.declared.axis.Axis.TheVariants.{Across, Down}
-use Rattle.scene_model.specs.Tracks.{Need, greatest, asked_in, last_asked, need_of, needs_of, children_of}
+use Rattle.scene_model.specs.Tracks.{Need, greatest, asked_in, last_asked, need_of, children_of}
 use Rattle.scene_model.specs.Least.{least_of}
 use Rattle.scene_model.proofs.Lists.{All-map-filter, greatest-most}
-use Rattle.scene_model.proofs.Parents.{IsChildOf, IsChildOf-is_child}
+use Rattle.scene_model.proofs.Parents.{IsChildOf-is_child}
 use Rattle.std.proofs.lemmas.Slice.Eq.{bytes_eq-Decides}
 use Rattle.std.specs.Str.{bytes_eq}
 use Rattle.std.specs.Option.{option_map_or}
@@ -26,7 +26,7 @@ use Rattle.scene_core.specs.declared.child.Child.{Child}
 use Rattle.scene_core.specs.Measured.{need_seen, needs_seen}
 use Rattle.scene_core.specs.Children.{row_for, child_for, needs_for, AreChildren}
 use Rattle.scene_core.proofs.Numbered.{row_for-there, live-there}
-use Rattle.scene_core.proofs.ChildNumbers.{IsFound, parent_id-found}
+use Rattle.scene_core.proofs.ChildNumbers.{parent_id-found}
 
 -- what a need asks for in one track
 room_in : ℕ → Need → ℕ

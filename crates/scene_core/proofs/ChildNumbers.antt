@@ -1,23 +1,22 @@
 -- The numbers of a widget's children: what its cells have is what hangs in it.
-use Rattle.std.proofs.Common.{◌≡◌, ℕ, ◌+◌, ◌-◌, ◌*◌, ◌/◌, ◌%◌, ◌<◌, ◌≤◌, List, [], ◌∷◌, ◌++◌, length, All, Option, Some, None, refl, sym, ap, ◌∙◌, arith, inl, inr, ◌⊎◌, get_or, length-append}
+use Rattle.std.proofs.Common.{◌≡◌, ℕ, ◌+◌, ◌-◌, ◌*◌, ◌/◌, ◌%◌, ◌<◌, ◌≤◌, List, [], ◌∷◌, ◌++◌, length, All, Option, Some, None, refl, sym, ap, ◌∙◌, arith, inl, inr, ◌⊎◌, length-append}
 use Rattle.std.proofs.lemmas.Bool.{cases_lt}
 use Rattle.std.proofs.lemmas.List.{append-nil, get_or_append_left}
 use Rattle.std.specs.List.{Contains}
-use Rattle.std.specs.Option.{option_map, option_map_or, option_and_then}
-use Rattle.std.proofs.lemmas.List.Elements.{All-append, All-nil, All-push, Contains-push}
+use Rattle.std.specs.Option.{option_map, option_and_then}
+use Rattle.std.proofs.lemmas.List.Elements.{All-nil, All-push, Contains-push}
 use Rattle.kind_core.specs.declared.kinds.Kind.{Kind}
 use Rattle.kind_core.specs.declared.shapes.Cell.{Cell}
 use Rattle.widget_model.specs.Rows.{Row, IsIndex}
 use Rattle.widget_model.specs.Nodes.{id_named}
-use Rattle.widget_model.specs.Widgets.{Widgets, rows_of, row_at, nodes, IsLive}
+use Rattle.widget_model.specs.Widgets.{Widgets, row_at, nodes}
 use Rattle.widget_model.specs.Forest.{IsWidgets}
 use Rattle.widget_model.specs.Relatives.{parent_id, child_id}
 use Rattle.widget_model.proofs.Naming.{id_named-row}
 use Rattle.tree_core.specs.Children.{cells_of}
 use Rattle.tree_core.specs.Kept.{IsGrove}
-use Rattle.tree_core.proofs.Children.{HangsAt, child_id-hangs, hangs-child_id, HangsUnder, attached-hangs, HangsUnder-HangsAt, IsCellOf}
-use Rattle.scene_core.specs.Children.{row_for, one_or_none, AreChildren}
-use Rattle.scene_core.proofs.Numbered.{row_for-there}
+use Rattle.tree_core.proofs.Children.{child_id-hangs, hangs-child_id, attached-hangs, HangsUnder-HangsAt, IsCellOf}
+use Rattle.scene_core.specs.Children.{one_or_none, AreChildren}
 
 pub grove_of : (widgets : Widgets) → IsWidgets widgets → IsGrove widgets.entries
 grove_of widgets valid = record { own_numbers = valid.forest.own_numbers; own_names = valid.forest.own_names; planted = valid.planted }

@@ -1,16 +1,14 @@
 -- The least size of a numbered widget, from its kind and its children.
-use Rattle.std.proofs.Common.{◌≡◌, ℕ, zero, suc, ◌+◌, ◌-◌, ◌<◌, ◌≤◌, Bool, true, false, cond, ◌&&◌, nat_eq, min, sum, take, List, length, map, get_or, set, replicate, slice_get, All, Option, Some, None, IfSome, refl, sym, ap, ◌∙◌, arith, subst, inl, inr, ◌⊎◌}
+use Rattle.std.proofs.Common.{◌≡◌, ℕ, zero, suc, ◌-◌, ◌<◌, ◌≤◌, Bool, true, false, cond, ◌&&◌, nat_eq, List, length, get_or, set, replicate, Option, Some, None, IfSome, refl, sym, ap, ◌∙◌, arith, subst, inl, inr, ◌⊎◌}
 use Rattle.std.proofs.lemmas.Bool.{and_parts, eqb-true, true≢false, cases_eq, cases_lt}
 use Rattle.std.specs.Option.{option_map}
-use Rattle.std.proofs.lemmas.List.{get_or-set_other, get_or-set_same, length-set, set_past}
-use Rattle.std.specs.List.{list_all}
-use Rattle.kind_core.specs.declared.kinds.Kind.{Kind}
+use Rattle.std.proofs.lemmas.List.{get_or-set_other, get_or-set_same, set_past}
 use Rattle.widget_model.specs.Rows.{Row}
 use Rattle.widget_model.specs.Named.{AreNamedApart}
 use Rattle.widget_model.specs.Keys.{key_of, row_of}
 use Rattle.widget_model.specs.Trees.{ends_within, most_levels}
 use Rattle.widget_model.specs.Fitting.{is_fit}
-use Rattle.widget_model.specs.Widgets.{Widgets, rows_of, row_at, IsLive}
+use Rattle.widget_model.specs.Widgets.{Widgets, rows_of, IsLive}
 use Rattle.widget_model.specs.Forest.{IsWidgets}
 use Rattle.widget_model.specs.Relatives.{parent_id}
 use Rattle.widget_model.proofs.Naming.{id_named-row}
@@ -20,20 +18,19 @@ use Rattle.tree_core.proofs.Listed.{numbered_place, AreNamedApart-rows}
 use Rattle.scene_model.specs.declared.axis.Axis.{Axis}
 use Rattle.scene_model.specs.declared.axis.Axis.TheVariants.{Across, Down}
 use Rattle.scene_model.specs.Spans.{along}
-use Rattle.scene_model.specs.Tracks.{rules_of, grid_least, cell_of}
+use Rattle.scene_model.specs.Tracks.{rules_of, grid_least}
 use Rattle.scene_model.specs.Least.{own_size, is_grid, least_by, least_of}
 use Rattle.scene_model.proofs.LevelLaws.{leasts_come_from_children}
-use Rattle.scene_model.proofs.Leasts.{IsFitRow, IsFitRow-at, rules_of-fit, IsFitCell-attached, cell_of-attached}
+use Rattle.scene_model.proofs.Leasts.{IsFitRow, IsFitRow-at, IsFitCell-attached, cell_of-attached}
 use Rattle.scene_model.proofs.Ranges.{leasts_are_small}
-use Rattle.scene_model.proofs.Parents.{IsFound, IsChildOf, IsChildOf-is_child, ends_within-child}
+use Rattle.scene_model.proofs.Parents.{IsChildOf-is_child, ends_within-child}
 use Rattle.scene_model.proofs.FitWidgets.{widgets_are_fit}
 use Rattle.scene_core.specs.declared.size.Size.{Size}
-use Rattle.scene_core.specs.declared.child.Child.{Child}
-use Rattle.scene_core.specs.Children.{row_for, size_for, child_for, needs_for, AreChildren, AreKnown, IsDeep}
+use Rattle.scene_core.specs.Children.{row_for, size_for, child_for, needs_for, AreKnown, IsDeep}
 use Rattle.scene_core.specs.Measured.{IsMeasured}
 use Rattle.scene_core.proofs.Numbered.{live-there, row_of_name}
-use Rattle.scene_core.proofs.ChildNeeds.{IsChildAt, child-at}
-use Rattle.scene_core.proofs.ChildNumbers.{IsFound as IsHung, parent_id-found}
+use Rattle.scene_core.proofs.ChildNeeds.{child-at}
+use Rattle.scene_core.proofs.ChildNumbers.{parent_id-found}
 
 -- a numbered widget is found by its key
 pub key-found : (widgets : Widgets) (id : ℕ) → IsWidgets widgets → IsLive widgets id → row_of (rows_of widgets) (key_of (row_for widgets id)) ≡ Some (row_for widgets id)

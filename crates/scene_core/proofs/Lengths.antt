@@ -1,5 +1,5 @@
 -- The sums of the first of a few short lengths.
-use Rattle.std.proofs.Common.{◌≡◌, ℕ, ◌≤◌, ◌<◌, ◌^◌, List, length, take, sum, All, refl, arith}
+use Rattle.std.proofs.Common.{ℕ, ◌≤◌, List, length, take, sum, All, arith}
 use Rattle.std.proofs.lemmas.List.Sums.{sum_by-take-le}
 use Rattle.grid_layout.proofs.Shares.{least_sum_small}
 

@@ -12,3 +12,4 @@ pub mod Tops
 pub mod SideSteps
 pub mod Roots
 pub mod PlaceSteps
+pub mod LaySteps

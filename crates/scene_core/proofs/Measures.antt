@@ -1,26 +1,24 @@
 -- The measured children of a widget, and the sizes and tracks that are made of them.
-use Rattle.std.proofs.Common.{◌≡◌, ℕ, zero, suc, ◌+◌, ◌-◌, ◌≤◌, Bool, true, false, min, sum, take, List, [], ◌∷◌, map, length, All, Option, Some, refl, sym, ap, ◌∙◌, arith, get_or, length-take}
+use Rattle.std.proofs.Common.{◌≡◌, ℕ, zero, suc, ◌-◌, ◌≤◌, false, min, sum, take, List, [], ◌∷◌, map, length, All, Some, refl, sym, ap, ◌∙◌, arith, get_or, length-take}
 use Rattle.std.proofs.lemmas.List.Elements.{All-map}
-use Rattle.std.proofs.lemmas.List.{map_more, take_all}
 use Rattle.std.specs.Option.{option_map}
 use Rattle.kind_core.specs.declared.kinds.Kind.{Kind}
 use Rattle.kind_core.specs.declared.kinds.Kind.TheVariants.{Window, Grid, Frame, Button, Label, Entry, Scale, Scrollbar, Variable, VScreen}
-use Rattle.widget_model.specs.Rows.{Row}
 use Rattle.widget_model.specs.Widgets.{Widgets, rows_of, row_at, IsLive}
 use Rattle.widget_model.specs.Forest.{IsWidgets}
 use Rattle.scene_model.specs.declared.axis.Axis.{Axis}
 use Rattle.scene_model.specs.declared.axis.Axis.TheVariants.{Across, Down}
 use Rattle.scene_model.specs.Least.{own_size, is_grid, least_of}
 use Rattle.kind_core.specs.declared.shapes.Cell.{Cell}
-use Rattle.scene_model.specs.Tracks.{cell_of, Need, asked_in, last_asked, rules_of, grid_least}
+use Rattle.scene_model.specs.Tracks.{cell_of, Need, asked_in, last_asked, grid_least}
 use Rattle.scene_core.specs.declared.size.Size.{Size}
 use Rattle.scene_core.specs.declared.child.Child.{Child}
 use Rattle.scene_core.specs.declared.tracks.Tracks.{Tracks}
-use Rattle.scene_core.specs.Children.{row_for, size_of, size_for, child_for, needs_for, AreChildren, AreMeasured, IsDeep}
+use Rattle.scene_core.specs.Children.{row_for, size_of, size_for, child_for, needs_for, AreMeasured, IsDeep}
 use Rattle.scene_core.specs.Measured.{IsMeasured, AreTracks, needs_seen}
 use Rattle.scene_core.proofs.Numbered.{live-there}
 use Rattle.scene_core.proofs.ChildNeeds.{asked-children, last-children}
-use Rattle.scene_core.proofs.LeastSteps.{child-measured, deep-none, least-own, least-grid}
+use Rattle.scene_core.proofs.LeastSteps.{child-measured, deep-none, least-own}
 
 pub measured-all : (widgets : Widgets) (id : ℕ) (children : List Child) → IsWidgets widgets → AreMeasured widgets id children → All IsMeasured children
 measured-all widgets id children valid m = rw m.measured (All-map IsMeasured (child_for widgets) m.keys (λ k d less. child-measured widgets id (get_or m.keys k d) valid (m.each.each k d less)))

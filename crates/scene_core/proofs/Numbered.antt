@@ -1,5 +1,5 @@
 -- From numbers to rows: what a call of the tree says of a number is said of the row with that number.
-use Rattle.std.proofs.Common.{◌≡◌, ℕ, Bool, true, false, cond, List, [], ◌∷◌, Option, Some, None, IsSome, refl, sym, ap, ◌∙◌, nat_eq, eq-eqb, ℤ}
+use Rattle.std.proofs.Common.{◌≡◌, ℕ, Bool, true, false, cond, List, [], ◌∷◌, Option, Some, None, IsSome, refl, sym, ap, ◌∙◌, nat_eq, eq-eqb}
 use Rattle.std.specs.Option.{option_map, option_map_or, option_and_then}
 use Rattle.kind_core.specs.declared.kinds.Attr.TheVariants.{Value}
 use Rattle.kind_core.specs.declared.shapes.Cell.{Cell}
@@ -11,7 +11,7 @@ use Rattle.widget_model.specs.Widgets.{Widgets, rows_of, row_at, nodes, IsLive, 
 use Rattle.widget_model.specs.Forest.{IsWidgets}
 use Rattle.widget_model.specs.Links.{linked_id}
 use Rattle.widget_model.specs.Relatives.{parent_id}
-use Rattle.widget_model.proofs.Naming.{row_named-found, row_named-none, id_named-row}
+use Rattle.widget_model.proofs.Naming.{row_named-found, row_named-none}
 use Rattle.scene_model.specs.Values.{number_of, linked_value}
 use Rattle.scene_model.specs.Tracks.{cell_of}
 use Rattle.scene_model.specs.Placing.{parent_row}

@@ -1,9 +1,8 @@
 -- The sizes that widgets need by themselves, and what bounds them.
-use Rattle.std.proofs.Common.{◌≡◌, ℕ, ◌+◌, ◌*◌, ◌≤◌, List, length, ◌++◌, Option, Some, None, ℤ, refl, sym, ap, ◌∙◌, arith, length-append}
+use Rattle.std.proofs.Common.{◌≡◌, ℕ, ◌+◌, ◌≤◌, List, length, Some, None, ℤ, arith, length-append}
 use Rattle.std.specs.Fmt.{signed_decimal}
 use Rattle.kind_core.specs.declared.kinds.Kind.{Kind}
 use Rattle.kind_core.specs.declared.kinds.Attr.TheVariants.{Text}
-use Rattle.kind_core.specs.Effective.{label_text}
 use Rattle.widget_model.specs.Rows.{Row}
 use Rattle.widget_model.specs.Widgets.{Widgets, rows_of, IsLive}
 use Rattle.tree_core.proofs.Listed.{numbered_place}

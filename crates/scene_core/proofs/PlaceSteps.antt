@@ -1,14 +1,12 @@
 -- A place and its two spans.
-use Rattle.std.proofs.Common.{◌≡◌, ℕ, List, refl, sym, ap, ◌∙◌}
+use Rattle.std.proofs.Common.{◌≡◌, List, ap, ◌∙◌}
 use Rattle.geom_core.specs.declared.rectangle.Rect.{Rect}
 use Rattle.widget_model.specs.Rows.{Row}
-use Rattle.widget_model.specs.Widgets.{Widgets, rows_of}
 use Rattle.scene_model.specs.declared.axis.Axis.{Axis}
 use Rattle.scene_model.specs.declared.axis.Axis.TheVariants.{Across, Down}
 use Rattle.scene_model.specs.declared.axis.Span.{Span}
 use Rattle.scene_model.specs.Spans.{span_of, rect_of}
 use Rattle.scene_model.specs.Placing.{place_in, span_along}
-use Rattle.scene_core.specs.Children.{row_for}
 
 pub span-of-place : (rows : List Row) (axis : Axis) (row : Row) (place : Rect) → place ≡ place_in rows row → span_of axis place ≡ span_along rows axis row
 unfolding place_in

@@ -1,5 +1,5 @@
 -- The root of a widget, by its number: going up ends there.
-use Rattle.std.proofs.Common.{◌≡◌, ℕ, zero, suc, ◌+◌, ◌-◌, ◌≤◌, Bool, true, false, List, Option, Some, None, IsSome, refl, sym, ap, ◌∙◌, arith, subst, inl, inr, ◌⊎◌}
+use Rattle.std.proofs.Common.{◌≡◌, ℕ, zero, suc, ◌-◌, ◌≤◌, true, List, Option, Some, None, IsSome, refl, sym, ap, ◌∙◌, arith}
 use Rattle.std.proofs.lemmas.Bool.{true≢false}
 use Rattle.std.specs.Option.{option_map, option_map_or, option_and_then}
 use Rattle.kind_core.specs.declared.kinds.Kind.{Kind}
@@ -21,12 +21,12 @@ use Rattle.scene_model.specs.declared.axis.Axis.TheVariants.{Across, Down}
 use Rattle.scene_model.specs.Spans.{rect_of}
 use Rattle.scene_model.specs.Placing.{place_in, root_span, window_span}
 use Rattle.scene_model.proofs.LevelLaws.{roots_are_placed_by_their_rows, ends-found}
-use Rattle.scene_model.proofs.Parents.{ends_within-child, IsChildOf, IsChildOf-is_child}
+use Rattle.scene_model.proofs.Parents.{ends_within-child, IsChildOf-is_child}
 use Rattle.scene_core.specs.Children.{row_for}
 use Rattle.scene_core.specs.Places.{IsInWindow}
-use Rattle.scene_core.proofs.Numbered.{live-there, parent_read, read}
+use Rattle.scene_core.proofs.Numbered.{live-there, parent_read}
 use Rattle.scene_core.proofs.ChildNumbers.{parent_id-found}
-use Rattle.scene_core.proofs.ChildNeeds.{IsChildAt, child-at}
+use Rattle.scene_core.proofs.ChildNeeds.{child-at}
 use Rattle.scene_core.proofs.LeastSteps.{key-found, child-live}
 use Rattle.scene_core.proofs.Tops.{parent_of-row, root-read, root-child, window-open, window-alone}
 

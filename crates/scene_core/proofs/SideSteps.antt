@@ -1,11 +1,9 @@
 -- The span of a child, from its parent's span, kind and tracks.
-use Rattle.std.proofs.Common.{◌≡◌, ℕ, ◌+◌, ◌-◌, ◌*◌, ◌<◌, ◌≤◌, ℤ, pos, ◌≤ℤ◌, neg_ℤ, max, take, length, get_or, sum, List, map, All, Option, Some, None, refl, sym, ap, ◌∙◌, arith, subst, slice_index_or, length-take}
+use Rattle.std.proofs.Common.{◌≡◌, ℕ, ◌-◌, ◌≤◌, ℤ, pos, ◌≤ℤ◌, neg_ℤ, take, length, List, map, All, Some, refl, sym, ap, ◌∙◌, arith, subst, length-take}
 use Rattle.std.proofs.lemmas.Int.{ints}
-use Rattle.std.proofs.lemmas.List.{get_or-take}
 use Rattle.std.specs.Option.{option_map}
 use Rattle.kind_core.specs.declared.kinds.Kind.{Kind}
 use Rattle.kind_core.specs.declared.kinds.Kind.TheVariants.{Window, Grid, Frame, Button, Label, Entry, Scale, Scrollbar, Variable, VScreen}
-use Rattle.kind_core.specs.declared.kinds.Attr.TheVariants.{X, Y}
 use Rattle.widget_model.specs.Rows.{Row}
 use Rattle.widget_model.specs.Widgets.{Widgets, rows_of, IsLive}
 use Rattle.widget_model.specs.Forest.{IsWidgets}
@@ -13,11 +11,11 @@ use Rattle.widget_model.specs.Relatives.{parent_id}
 use Rattle.scene_model.specs.declared.axis.Axis.{Axis}
 use Rattle.scene_model.specs.declared.axis.Axis.TheVariants.{Across, Down}
 use Rattle.scene_model.specs.declared.axis.Span.{Span}
-use Rattle.scene_model.specs.Spans.{along, no_span, inset, content, framed}
-use Rattle.scene_model.specs.Tracks.{Need, cell_of, track_in, need_of, needs_of, rules_of, tracks_used, track_leasts, track_weights, track_lengths, track_span, last_asked, last_ruled, greatest, children_of}
+use Rattle.scene_model.specs.Spans.{no_span, inset, content, framed}
+use Rattle.scene_model.specs.Tracks.{Need, cell_of, track_in, need_of, rules_of, tracks_used, track_leasts, track_lengths, track_span, greatest, children_of}
 use Rattle.widget_model.specs.Trees.{is_child}
 use Rattle.scene_model.specs.Least.{least_of}
-use Rattle.scene_model.specs.Placing.{child_span, grid_span, parent_row, span_along}
+use Rattle.scene_model.specs.Placing.{child_span, grid_span, span_along}
 use Rattle.scene_model.specs.Values.{offset_of}
 use Rattle.scene_model.proofs.LevelLaws.{spans_come_from_parents}
 use Rattle.scene_model.proofs.FitRows.{IsBetween}
@@ -31,8 +29,8 @@ use Rattle.scene_core.specs.declared.sides.Side.{Side}
 use Rattle.scene_core.specs.declared.child.Child.{Child}
 use Rattle.scene_core.specs.Children.{row_for, size_for, child_for, needs_for}
 use Rattle.scene_core.proofs.Lengths.{sum_take_small}
-use Rattle.scene_core.proofs.Numbered.{parent_read, live-there}
-use Rattle.scene_core.proofs.ChildNeeds.{IsChildAt, child-at, le-greatest-filter, map-twice}
+use Rattle.scene_core.proofs.Numbered.{parent_read}
+use Rattle.scene_core.proofs.ChildNeeds.{child-at, le-greatest-filter, map-twice}
 use Rattle.scene_core.proofs.LeastSteps.{key-found, child-live, child-measured, row-fit}
 
 -- a span of a numbered widget begins near the screen

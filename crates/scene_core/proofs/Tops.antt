@@ -1,12 +1,11 @@
 -- What a view's windows and children show, by their numbers.
-use Rattle.std.proofs.Common.{◌≡◌, ℕ, zero, suc, ◌+◌, ◌-◌, ◌<◌, ◌≤◌, ℤ, pos, Bool, true, false, cond, ◌&&◌, nat_eq, List, [], ◌∷◌, length, drop, get_or, slice_get, All, Option, Some, None, IsSome, refl, sym, ap, ◌∙◌, arith, subst, drop-cons, add-one}
-use Rattle.std.proofs.lemmas.Bool.{and_parts, eqb-true, true≢false}
+use Rattle.std.proofs.Common.{◌≡◌, ℕ, zero, suc, ◌+◌, ◌<◌, ℤ, pos, Bool, true, false, cond, ◌&&◌, List, [], ◌∷◌, length, drop, get_or, slice_get, All, Option, Some, None, IsSome, refl, sym, ap, ◌∙◌, arith, subst, drop-cons}
+use Rattle.std.proofs.lemmas.Bool.{and_parts, true≢false}
 use Rattle.std.proofs.lemmas.List.Elements.{All-head, All-tail}
 use Rattle.std.specs.List.{find, Contains}
 use Rattle.std.specs.Option.{option_map, option_map_or, option_and_then}
 use Rattle.geom_core.specs.declared.rectangle.Rect.{Rect}
 use Rattle.geom_core.specs.Rect.{in_rect}
-use Rattle.kind_core.specs.declared.kinds.Kind.{Kind}
 use Rattle.kind_core.specs.declared.kinds.Kind.TheVariants.{Window}
 use Rattle.kind_core.specs.declared.shapes.Cell.{Cell}
 use Rattle.widget_model.specs.Rows.{Row}
@@ -25,13 +24,13 @@ use Rattle.scene_model.specs.Scene.{Scene}
 use Rattle.scene_model.specs.Placing.{place_in}
 use Rattle.scene_model.specs.Showing.{place_of, parent_in, on_screen, shows_in, shows_at, child_at, window_at, lowest_in, top_of}
 use Rattle.std.proofs.lemmas.Option.{get_or_from_slice_get}
-use Rattle.scene_model.proofs.Parents.{parent_of-found, IsChildOf, IsChildOf-is_child}
+use Rattle.scene_model.proofs.Parents.{parent_of-found, IsChildOf-is_child}
 use Rattle.scene_model.proofs.LevelLaws.{children_show_within_parents, children_have_their_parents_root}
 use Rattle.scene_model.proofs.Apart.{children_share_no_pixel}
 use Rattle.scene_core.specs.Children.{row_for, AreChildren}
 use Rattle.scene_core.specs.View.{keys_of, AreWindows, KeepsPlaces, IsUnderOpen}
 use Rattle.scene_core.proofs.Numbered.{live-there, read}
-use Rattle.scene_core.proofs.ChildNeeds.{IsChildAt, child-at, child-number}
+use Rattle.scene_core.proofs.ChildNeeds.{child-at, child-number}
 use Rattle.scene_core.proofs.LeastSteps.{key-found, child-live}
 use Rattle.scene_core.proofs.Finds.{find-none, find-only, same_key-true}
 

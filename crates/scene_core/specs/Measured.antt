@@ -1,6 +1,6 @@
 -- An inner word of the proofs: what the code has of a widget's children and of a Grid's tracks is what the definitions of
 -- layout have.
-use Rattle.std.specs.Prelude.{ℕ, ◌≡◌, ◌≤◌, ◌+◌, ◌*◌, List, map, length, take}
+use Rattle.std.specs.Prelude.{ℕ, ◌≡◌, ◌≤◌, ◌+◌, ◌*◌, List, map, take}
 use Rattle.std.specs.List.{All}
 use Rattle.scene_model.specs.declared.axis.Axis.{Axis}
 use Rattle.scene_model.specs.Spans.{along}

@@ -1,6 +1,6 @@
 -- A view is seen as a scene: each widget is named by its key, its client and name, in place of its number. In a view of
 -- a desk the open windows are live Windows, each once, and the screen's size is in range.
-use Rattle.std.specs.Prelude.{ℕ, ◌≡◌, ◌≤◌, List, [], ◌∷◌, Option, Some}
+use Rattle.std.specs.Prelude.{ℕ, ◌≡◌, ◌≤◌, List, [], ◌∷◌, Some}
 use Rattle.std.specs.List.{All, Contains}
 use Rattle.std.specs.Option.{option_map, option_map_or}
 use Rattle.kind_core.specs.declared.kinds.Kind.TheVariants.{Window}
@@ -14,7 +14,7 @@ use Rattle.tree_core.specs.Holds.{pointer_seen}
 use Rattle.scene_model.specs.Scene.{Scene}
 use Rattle.scene_model.specs.Placing.{place_in}
 use Rattle.scene_core.specs.declared.view.View.{View}
-use Rattle.stack_core.specs.Stack.{IsStack, holds_key}
+use Rattle.stack_core.specs.Stack.{IsStack}
 
 -- the keys of the numbered rows; a number that names no row has none
 abbrev pub keys_of : List (ℕ × Row) → List ℕ → List (ℕ × List ℕ)

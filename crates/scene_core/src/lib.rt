@@ -6,6 +6,7 @@ mod child;
 mod children;
 mod known;
 pub mod laws;
+mod laying;
 mod least;
 mod own;
 mod places;
@@ -19,6 +20,7 @@ mod tracks;
 mod view;
 
 pub use geom_core::Rect;
+pub use laying::relayout;
 pub use least::least_size;
 pub use places::place;
 pub use size::Size;

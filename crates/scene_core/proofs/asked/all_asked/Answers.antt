@@ -1,4 +1,4 @@
-use Rattle.std.proofs.Common.{◌≡◌, ℕ, ◌+◌, ◌<◌, ◌≤◌, get_or, take, arith, max, ap, ◌∙◌, sym}
+use Rattle.std.proofs.Common.{◌+◌, arith}
 use Rattle.scene_core.proofs.Needs.{asked_in_more, last_asked_more, blank_child, max_small}
 use Rattle.scene_core.proofs.asked.all_asked.Goals as goal
 

@@ -1,5 +1,4 @@
-use Rattle.std.proofs.Common.{◌≡◌, ◌∙◌, ◌+◌, ◌++◌, ◌≤◌, List, ℕ, sym, ap, refl, arith, subst}
-use Rattle.tree_core.specs.Children.{cells_of}
+use Rattle.std.proofs.Common.{◌≡◌, ◌∙◌, ◌+◌, ◌++◌, List, ℕ, sym, ap, arith, subst}
 use Rattle.scene_core.specs.Children.{one_or_none}
 use Rattle.scene_core.proofs.ChildNumbers.{AreFound, found_none, found_more, found_all}
 use Rattle.scene_core.proofs.children.child_keys.Goals as goal

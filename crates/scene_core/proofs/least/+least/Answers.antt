@@ -1,9 +1,7 @@
-use Rattle.std.proofs.Common.{◌≡◌, ◌∙◌, ◌+◌, ◌-◌, ◌*◌, ◌<◌, ◌≤◌, ◌++◌, ◌∷◌, [], ℕ, List, Some, All, length, take, map, get_or, sym, ap, arith, subst, rules}
+use Rattle.std.proofs.Common.{◌∙◌, ◌-◌, ◌<◌, ◌≤◌, ◌++◌, ◌∷◌, [], ℕ, List, length, map, get_or, sym, ap, arith, subst}
 use Rattle.std.proofs.lemmas.List.{map_more, take_all}
-use Rattle.widget_model.specs.Widgets.{IsLive}
-use Rattle.widget_model.specs.Relatives.{parent_id}
 use Rattle.scene_core.specs.declared.child.Child.{Child}
-use Rattle.scene_core.specs.Children.{child_for, AreKnown, IsDeep, AreChildren}
+use Rattle.scene_core.specs.Children.{child_for, AreKnown, AreChildren}
 use Rattle.scene_core.proofs.Numbered.{kind-grid}
 use Rattle.scene_core.proofs.LeastSteps.{deep-child, child-live, known-put}
 use Rattle.scene_core.proofs.Measures.{deep-some, deep-suc, child-same, length-made, size-own}

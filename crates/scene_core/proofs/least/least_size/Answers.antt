@@ -1,4 +1,4 @@
-use Rattle.std.proofs.Common.{◌≡◌, ℕ, sym, subst}
+use Rattle.std.proofs.Common.{ℕ, sym, subst}
 use Rattle.scene_core.specs.Children.{IsDeep}
 use Rattle.scene_core.proofs.LeastSteps.{known-none, deep-all}
 use Rattle.scene_core.proofs.Measures.{size-there}

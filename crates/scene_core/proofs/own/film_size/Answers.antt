@@ -1,4 +1,4 @@
-use Rattle.std.proofs.Common.{◌≡◌, ◌∙◌, sym, ap}
+use Rattle.std.proofs.Common.{◌∙◌, ap}
 use Rattle.scene_core.specs.Children.{film_size}
 use Rattle.scene_core.proofs.Numbered.{read}
 use Rattle.scene_core.proofs.own.film_size.Goals as goal

@@ -1,4 +1,4 @@
-use Rattle.std.proofs.Common.{◌≡◌, ◌∙◌, ◌-◌, ◌<◌, ℕ, Some, None, sym, arith}
+use Rattle.std.proofs.Common.{◌≡◌, Some, sym, arith}
 use Rattle.widget_model.specs.Relatives.{parent_id}
 use Rattle.scene_core.proofs.Roots.{ends-some, ends-up, in-window-up, in-window-alone}
 use Rattle.scene_core.proofs.places.+place_up.Goals as goal

@@ -1,4 +1,4 @@
-use Rattle.std.proofs.Common.{◌≡◌, ◌∙◌}
+use Rattle.std.proofs.Common.{◌∙◌}
 use Rattle.widget_model.specs.Widgets.{rows_of}
 use Rattle.scene_core.specs.Children.{row_for}
 use Rattle.scene_core.proofs.PlaceSteps.{place-of-spans}

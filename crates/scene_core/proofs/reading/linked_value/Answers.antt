@@ -1,8 +1,8 @@
-use Rattle.std.proofs.Common.{◌≡◌, ◌∙◌, sym, ap, refl, length, Some, None, rules, w32}
-use Rattle.std.specs.Option.{option_map, option_map_or}
+use Rattle.std.proofs.Common.{◌∙◌, sym, ap, Some, rules, w32}
+use Rattle.std.specs.Option.{option_map}
 use Rattle.std.proofs.lemmas.Int.{to_z-of_z}
-use Rattle.scene_core.proofs.Numbered.{read, linked_read, parent_read, cell_read}
-use Rattle.std.proofs.Common.{Option, ℕ}
+use Rattle.scene_core.proofs.Numbered.{linked_read}
+use Rattle.std.proofs.Common.{ℕ}
 use Rattle.kind_core.specs.declared.kinds.Attr.TheVariants.{Value}
 use Rattle.scene_model.specs.Values.{number_of}
 use Rattle.scene_core.specs.Children.{row_for}

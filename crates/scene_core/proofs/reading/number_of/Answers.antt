@@ -1,7 +1,6 @@
-use Rattle.std.proofs.Common.{◌≡◌, ◌∙◌, sym, ap, refl, length, Some, None, rules, w32}
-use Rattle.std.specs.Option.{option_map, option_map_or}
+use Rattle.std.proofs.Common.{◌∙◌, ap, rules, w32}
 use Rattle.std.proofs.lemmas.Int.{to_z-of_z}
-use Rattle.scene_core.proofs.Numbered.{read, linked_read, parent_read, cell_read}
+use Rattle.scene_core.proofs.Numbered.{read}
 use Rattle.widget_model.specs.Rows.{attr_of}
 use Rattle.scene_model.specs.Values.{number_in}
 use Rattle.scene_core.proofs.reading.number_of.Goals as goal

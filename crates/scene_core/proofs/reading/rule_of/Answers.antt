@@ -1,7 +1,4 @@
-use Rattle.std.proofs.Common.{◌≡◌, ◌∙◌, sym, ap, refl, length, Some, None, rules, w32}
-use Rattle.std.specs.Option.{option_map, option_map_or}
-use Rattle.std.proofs.lemmas.Int.{to_z-of_z}
-use Rattle.scene_core.proofs.Numbered.{read, linked_read, parent_read, cell_read}
+use Rattle.scene_core.proofs.Numbered.{read}
 use Rattle.widget_model.specs.Rows.{column_rule_of, row_rule_of}
 use Rattle.scene_core.proofs.reading.rule_of.Goals as goal
 

@@ -1,6 +1,5 @@
-use Rattle.std.proofs.Common.{◌≡◌, ◌∙◌, sym, ap, refl, length}
-use Rattle.std.specs.Option.{option_map, option_map_or}
-use Rattle.scene_core.proofs.Numbered.{read, linked_read, parent_read, cell_read}
+use Rattle.std.proofs.Common.{◌∙◌, ap, length}
+use Rattle.scene_core.proofs.Numbered.{read}
 use Rattle.widget_model.specs.Rows.{attr_of}
 use Rattle.scene_model.specs.Values.{text_in}
 use Rattle.scene_core.proofs.reading.text_length.Goals as goal

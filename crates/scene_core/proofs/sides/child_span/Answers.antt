@@ -1,18 +1,15 @@
-use Rattle.std.proofs.Common.{◌≡◌, ◌∙◌, ◌+◌, ◌≤◌, ◌≤ℤ◌, ℕ, All, List, take, length, pos, neg_ℤ, sym, ap, arith, subst, refl, ℤ, to_z, of_z, w32, rules}
+use Rattle.std.proofs.Common.{◌≡◌, ◌∙◌, ℕ, take, length, sym, ap, arith, ℤ, to_z, of_z, w32, rules}
 use Rattle.std.proofs.lemmas.Int.{to_z-of_z}
 use Rattle.widget_model.specs.Widgets.{rows_of}
 use Rattle.std.proofs.lemmas.Int.{ints}
-use Rattle.kind_core.specs.declared.kinds.Kind.TheVariants.{Window, Grid, Frame}
 use Rattle.scene_model.specs.declared.axis.Span.{Span}
 use Rattle.scene_model.specs.Tracks.{track_in, track_span}
 use Rattle.scene_model.specs.Spans.{inset, framed}
 use Rattle.scene_model.specs.Placing.{child_span, span_along}
-use Rattle.widget_model.specs.Rows.{Row}
 use Rattle.scene_core.specs.Children.{row_for}
 use Rattle.scene_core.specs.declared.child.Child.{Child}
 use Rattle.scene_core.specs.Measured.{side}
-use Rattle.scene_core.proofs.LeastSteps.{child-measured}
-use Rattle.scene_core.proofs.SideSteps.{whole-near, content-near, used-length, few-length, kid-measured, track-within, track-some, lengths-short, moved-between, cut-near, span-near, span-child, in-window, in-grid, in-frame, other-span, side-size, track-used}
+use Rattle.scene_core.proofs.SideSteps.{whole-near, content-near, used-length, few-length, kid-measured, track-within, track-some, lengths-short, moved-between, cut-near, span-child, in-window, in-grid, in-frame, other-span, side-size}
 use Rattle.scene_core.proofs.sides.child_span.Goals as goal
 
 pub returns-in-Window : goal.returns-in-Window

@@ -1,5 +1,5 @@
-use Rattle.std.proofs.Common.{◌≡◌, ◌∙◌, ◌≤◌, sym, ap, arith}
-use Rattle.kind_core.specs.declared.kinds.Kind.TheVariants.{Grid, Frame}
+use Rattle.std.proofs.Common.{◌≡◌, ◌∙◌, sym, ap, arith}
+use Rattle.kind_core.specs.declared.kinds.Kind.TheVariants.{Frame}
 use Rattle.scene_model.specs.declared.axis.Span.{Span}
 use Rattle.scene_core.proofs.Numbered.{kind-grid}
 use Rattle.scene_core.proofs.SideSteps.{span-near, lengths-read}

@@ -1,4 +1,4 @@
-use Rattle.std.proofs.Common.{◌≡◌, ◌∙◌, ◌+◌, ◌<◌, ℕ, List, Some, sym, ap, arith, refl}
+use Rattle.std.proofs.Common.{arith}
 use Rattle.scene_core.proofs.LeastSteps.{child-live}
 use Rattle.scene_core.proofs.Tops.{under-child}
 use Rattle.scene_core.proofs.top.+lowest.Goals as goal

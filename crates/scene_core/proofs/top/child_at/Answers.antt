@@ -1,4 +1,4 @@
-use Rattle.std.proofs.Common.{◌≡◌, ◌∙◌, ◌+◌, ◌<◌, ◌≤◌, ℕ, List, Some, length, get_or, sym, ap, arith, subst, rules, true, false, w32, below_more, refl, to_z, of_z, ℤ}
+use Rattle.std.proofs.Common.{◌≡◌, ◌∙◌, ℕ, List, get_or, sym, ap, arith, subst, true, w32, below_more, refl, to_z, of_z, ℤ}
 use Rattle.geom_core.specs.Rect.{in_rect}
 use Rattle.widget_model.specs.Keys.{key_of}
 use Rattle.widget_model.specs.Widgets.{rows_of}

@@ -1,4 +1,4 @@
-use Rattle.std.proofs.Common.{◌≡◌, ◌∙◌, ◌+◌, ◌<◌, ℕ, ℤ, List, Option, Some, None, length, get_or, drop, slice_get, sym, ap, arith, refl, true, false, to_z, of_z, w32, is_some}
+use Rattle.std.proofs.Common.{◌≡◌, ◌∙◌, ◌<◌, ℕ, ℤ, List, Option, Some, length, drop, slice_get, sym, ap, arith, refl, true, false, to_z, of_z, w32, is_some}
 use Rattle.std.specs.List.{find}
 use Rattle.std.proofs.lemmas.Int.{to_z-of_z}
 use Rattle.std.proofs.lemmas.Option.{slice_get-get_or}
@@ -6,7 +6,7 @@ use Rattle.geom_core.specs.Rect.{in_rect}
 use Rattle.widget_model.specs.Keys.{key_of}
 use Rattle.widget_model.specs.Widgets.{rows_of}
 use Rattle.scene_model.specs.Placing.{place_in}
-use Rattle.scene_model.specs.Showing.{shows_at, on_screen, window_at}
+use Rattle.scene_model.specs.Showing.{shows_at, on_screen}
 use Rattle.scene_core.specs.Children.{row_for}
 use Rattle.scene_core.specs.View.{scene_of, keys_of}
 use Rattle.scene_core.proofs.Tops.{find-off, among-at, window-among, under-window, kept-place, window-shown, window-hidden, first-here, first-later}

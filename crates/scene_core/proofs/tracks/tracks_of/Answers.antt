@@ -1,8 +1,7 @@
-use Rattle.std.proofs.Common.{◌≡◌, ◌∙◌, sym, ap, refl, arith, max, ◌+◌, ◌<◌, ◌≤◌, get_or, length, ℕ, subst, take, rules, map, w32, Fits}
+use Rattle.std.proofs.Common.{◌≡◌, ◌∙◌, ap, arith, max, ◌+◌, ◌<◌, get_or, length, subst, take, map}
 use Rattle.std.proofs.lemmas.List.{length-set}
 use Rattle.std.specs.List.{range_with_len}
-use Rattle.widget_model.specs.Widgets.{IsLive}
-use Rattle.scene_model.specs.Tracks.{track_least, last_asked, last_ruled, rule_of, rules_of, asked_in}
+use Rattle.scene_model.specs.Tracks.{track_least, last_asked, last_ruled, rule_of, rules_of}
 use Rattle.scene_model.proofs.Leasts.{needs_of-fit, rules_of-fit}
 use Rattle.scene_model.proofs.FitWidgets.{widgets_are_fit}
 use Rattle.scene_core.specs.Children.{row_for, needs_for}

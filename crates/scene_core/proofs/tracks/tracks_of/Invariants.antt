@@ -1,4 +1,4 @@
-use Rattle.std.proofs.Common.{◌≡◌, ◌+◌, max, take, map, length}
+use Rattle.std.proofs.Common.{◌≡◌, max, take, map, length}
 use Rattle.std.specs.List.{range_with_len}
 use Rattle.scene_model.specs.Tracks.{track_least, last_asked, last_ruled, rule_of, rules_of}
 use Rattle.scene_core.specs.Children.{row_for, needs_for}

@@ -1,0 +1,260 @@
+-- Kept places change as widgets are laid out; their rows stay.
+use Rattle.std.proofs.Common.{◌≡◌, ℕ, zero, suc, ◌+◌, ◌-◌, ◌<◌, ◌≤◌, true, false, List, [], ◌∷◌, length, map, get_or, slice_get, Option, Some, None, nat_eq, refl, sym, ap, ◌∙◌, arith, subst, inl, inr}
+use Rattle.std.proofs.lemmas.Bool.{cases_eq, cases_lt, ne_eqb}
+use Rattle.std.proofs.lemmas.List.Elements.{All-head, All-tail}
+use Rattle.std.specs.List.{All}
+use Rattle.std.specs.Option.{option_map}
+use Rattle.geom_core.specs.declared.rectangle.Rect.{Rect}
+use Rattle.widget_model.specs.Trees.{ends_within, most_levels}
+use Rattle.widget_model.specs.Relatives.{parent_id, root_id}
+use Rattle.widget_model.specs.Widgets.{Widgets, rows_of, row_at, place_at, with_place, IsLive}
+use Rattle.widget_model.specs.Forest.{IsWidgets}
+use Rattle.scene_model.specs.declared.axis.Axis.{Axis}
+use Rattle.scene_model.specs.Placing.{place_in}
+use Rattle.scene_core.specs.declared.child.Child.{Child}
+use Rattle.scene_core.specs.declared.sides.Side.{Side}
+use Rattle.scene_core.specs.declared.size.Size.{Size}
+use Rattle.scene_core.specs.Children.{row_for, child_for, AreKnown, AreMeasured, IsDeep}
+use Rattle.scene_core.specs.Places.{HasPlaces}
+use Rattle.scene_core.specs.Sides.{IsSide}
+use Rattle.scene_core.specs.Laid.{with_places, due, IsBelow, AreReplaced, AreLaid}
+use Rattle.scene_core.proofs.Numbered.{live-there}
+use Rattle.scene_core.proofs.Tops.{root-child}
+use Rattle.scene_core.proofs.Roots.{root-alone, ends-some, ends-up, ends-live, parent-live, rooted-live}
+
+-- What rows alone say holds whatever places are kept.
+module _ (places : List (Option Rect)) (widgets : Widgets) where
+  deep-places : (most id : ℕ) → IsDeep widgets most id → IsDeep (with_places places widgets) most id
+  unfolding row_for
+  deep-places most id deep = record { upper = deep.upper; within = deep.within }
+
+  known-places : (sizes : List (Option Size)) → AreKnown widgets sizes → AreKnown (with_places places widgets) sizes
+  unfolding row_for
+  known-places sizes known id = known id
+
+  known-kept : (sizes : List (Option Size)) → AreKnown (with_places places widgets) sizes → AreKnown widgets sizes
+  unfolding row_for
+  known-kept sizes known id = known id
+
+  side-places : (axis : Axis) (id : ℕ) (side : Side) → IsSide axis widgets id side → IsSide axis (with_places places widgets) id side
+  unfolding row_for
+  side-places axis id side is = record {
+    span = is.span;
+    offset = is.offset;
+    tracks = λ grid. record { few = (is.tracks grid).few; used = (is.tracks grid).used; lengths = (is.tracks grid).lengths };
+  }
+
+  side-kept : (axis : Axis) (id : ℕ) (side : Side) → IsSide axis (with_places places widgets) id side → IsSide axis widgets id side
+  unfolding row_for
+  side-kept axis id side is = record {
+    span = is.span;
+    offset = is.offset;
+    tracks = λ grid. record { few = (is.tracks grid).few; used = (is.tracks grid).used; lengths = (is.tracks grid).lengths };
+  }
+
+  child-places : (key : ℕ) → child_for widgets key ≡ child_for (with_places places widgets) key
+  unfolding row_for
+  child-places key = refl
+
+  row-places : (id : ℕ) → place_in (rows_of widgets) (row_for widgets id) ≡ place_in (rows_of (with_places places widgets)) (row_for (with_places places widgets) id)
+  unfolding row_for
+  row-places id = refl
+
+  below-places : (most id other : ℕ) → IsBelow most widgets id other → IsBelow most (with_places places widgets) id other
+  below-places zero id other below = below
+  below-places (suc most) id other below = elim below [ inl same ↦ inl same | inr down ↦ inr (down.0, down.1, below-places most down.0 other down.2) ]
+
+-- the same where the rows are known to be the same
+pub live-same : (old new : Widgets) (id : ℕ) → new ≡ with_places new.places old → IsLive old id → IsLive new id
+live-same old new id same live = subst (λ (w : Widgets). IsLive w id) (sym same) live
+
+pub deep-same : (old new : Widgets) (most id : ℕ) → new ≡ with_places new.places old → IsDeep old most id → IsDeep new most id
+deep-same old new most id same deep = subst (λ (w : Widgets). IsDeep w most id) (sym same) (deep-places new.places old most id deep)
+
+pub known-same : (old new : Widgets) (sizes : List (Option Size)) → new ≡ with_places new.places old → AreKnown old sizes → AreKnown new sizes
+known-same old new sizes same known = subst (λ (w : Widgets). AreKnown w sizes) (sym same) (known-places new.places old sizes known)
+
+pub known-back : (old new : Widgets) (sizes : List (Option Size)) → new ≡ with_places new.places old → AreKnown new sizes → AreKnown old sizes
+known-back old new sizes same known = known-kept new.places old sizes (subst (λ (w : Widgets). AreKnown w sizes) same known)
+
+pub side-same : (old new : Widgets) (axis : Axis) (id : ℕ) (side : Side) → new ≡ with_places new.places old → IsSide axis old id side → IsSide axis new id side
+side-same old new axis id side same is = subst (λ (w : Widgets). IsSide axis w id side) (sym same) (side-places new.places old axis id side is)
+
+pub side-back : (old new : Widgets) (axis : Axis) (id : ℕ) (side : Side) → new ≡ with_places new.places old → IsSide axis new id side → IsSide axis old id side
+side-back old new axis id side same is = side-kept new.places old axis id side (subst (λ (w : Widgets). IsSide axis w id side) same is)
+
+pub child-same-rows : (old new : Widgets) (key : ℕ) → new ≡ with_places new.places old → child_for old key ≡ child_for new key
+child-same-rows old new key same = subst (λ (w : Widgets). child_for old key ≡ child_for w key) (sym same) (child-places new.places old key)
+
+pub parent-same : (old new : Widgets) (key id : ℕ) → new ≡ with_places new.places old → parent_id old key ≡ Some id → parent_id new key ≡ Some id
+parent-same old new key id same parent = subst (λ (w : Widgets). parent_id w key ≡ Some id) (sym same) parent
+
+pub parent-back : (old new : Widgets) (key id : ℕ) → new ≡ with_places new.places old → parent_id new key ≡ Some id → parent_id old key ≡ Some id
+parent-back old new key id same parent = subst (λ (w : Widgets). parent_id w key ≡ Some id) same parent
+
+pub due-same : (old new : Widgets) (id : ℕ) → new ≡ with_places new.places old → place_in (rows_of old) (row_for old id) ≡ place_in (rows_of new) (row_for new id)
+due-same old new id same = subst (λ (w : Widgets). place_in (rows_of old) (row_for old id) ≡ place_in (rows_of w) (row_for w id)) (sym same) (row-places new.places old id)
+
+-- one place is set
+pub set-same : (old new : Widgets) (id : ℕ) (place : Option Rect) → new ≡ with_place id place old → new ≡ with_places new.places old
+set-same old new id place is = is ∙ ap (λ (places : List (Option Rect)). with_places places old) (sym (ap (λ (w : Widgets). w.places) is))
+
+pub replaced-set : (old new : Widgets) (id : ℕ) (place : Rect) → new ≡ with_places new.places old → IsWidgets new → place ≡ place_in (rows_of old) (row_for old id) → place_at new id ≡ Some place
+    → ((other : ℕ) → nat_eq other id ≡ false → place_at new other ≡ place_at old other) → AreReplaced old id new
+replaced-set old new id place same valid is now others = record {
+  same = same;
+  valid = valid;
+  others = λ other apart. others other (ne_eqb other id (λ e. apart (ap (root_id old) e)));
+  kept = λ other kept. elim (cases_eq other id) [
+    | inl e ↦ ap (place_at new) e ∙ now ∙ ap Some is ∙ ap (due old) (sym e)
+    | inr apart ↦ others other (ne_eqb other id apart) ∙ kept
+  ];
+}
+
+-- a child is laid out after that
+module _ (old mid new : Widgets) (id kid : ℕ) (live : IsLive old id) (valid : IsWidgets old) (first : AreReplaced old id mid) (parent : parent_id old kid ≡ Some id) where
+  pub replaced-then : AreReplaced mid kid new → AreReplaced old id new
+  unfolding row_for
+  replaced-then second = by (subst (λ (w : Widgets). AreReplaced w kid new) first.same second)
+    where
+      by : AreReplaced (with_places mid.places old) kid new → AreReplaced old id new
+      by then = record {
+        same = then.same;
+        valid = then.valid;
+        others = λ other apart. then.others other (λ e. apart (e ∙ root-child old id kid valid live parent)) ∙ first.others other apart;
+        kept = λ other is. then.kept other (first.kept other is);
+      }
+
+  pub kept-then : (other : ℕ) → AreReplaced mid kid new → place_at mid other ≡ due old other → place_at new other ≡ due old other
+  unfolding row_for
+  kept-then other second is = by (subst (λ (w : Widgets). AreReplaced w kid new) first.same second)
+    where
+      by : AreReplaced (with_places mid.places old) kid new → place_at new other ≡ due old other
+      by then = then.kept other is
+
+  pub under-then : (most other : ℕ) → AreLaid most mid kid new → IsBelow most old kid other → place_at new other ≡ due old other
+  unfolding row_for
+  under-then most other second below = by (subst (λ (w : Widgets). AreLaid most w kid new) first.same second)
+    where
+      by : AreLaid most (with_places mid.places old) kid new → place_at new other ≡ due old other
+      by then = then.under other (below-places mid.places old most kid other below)
+
+-- a child that is measured after places have changed
+kid-from : (old new : Widgets) (id key : ℕ) (child : Child) → new ≡ with_places new.places old → parent_id new key ≡ Some id → child ≡ child_for new key → (parent_id old child.key ≡ Some id) × (child ≡ child_for old child.key)
+kid-from old new id key child same parent is =
+    subst (λ (kid : Child). (parent_id old kid.key ≡ Some id) × (kid ≡ child_for old kid.key)) (sym is) (parent-back old new key id same parent, sym (child-same-rows old new key same))
+
+-- the measured children, and the numbers that they are of
+pub measured-back : (old new : Widgets) (id : ℕ) (children : List Child) (i : ℕ) (child : Child) → new ≡ with_places new.places old → AreMeasured new id children → slice_get children i ≡ Some child → (parent_id old child.key ≡ Some id) × (child ≡ child_for old child.key)
+measured-back old new id children i child same are there =
+    let at = map-at (child_for new) are.keys i child (sym (ap (λ (cs : List Child). slice_get cs i) are.measured) ∙ there) in
+    kid-from old new id at.0 child same (in-all are.keys i at.0 (λ k. parent_id new k ≡ Some id) are.each.each at.1) at.2
+  where
+    map-at : (f : ℕ → Child) (keys : List ℕ) (i : ℕ) (child : Child) → slice_get (map f keys) i ≡ Some child → (key : ℕ) × (slice_get keys i ≡ Some key) × (child ≡ f key)
+    map-at f [] i child there = absurd (cc)
+    map-at f (key ∷ keys) zero child there = (key, refl, let e : f key ≡ child = cc in sym e)
+    map-at f (key ∷ keys) (suc i) child there = map-at f keys i child there
+
+    in-all : (keys : List ℕ) (i key : ℕ) (P : ℕ → Type 0) → All P keys → slice_get keys i ≡ Some key → P key
+    in-all [] i key P all there = absurd (cc)
+    in-all (k ∷ keys) zero key P all there = let e : k ≡ key = cc in subst P e (All-head P k keys all)
+    in-all (k ∷ keys) (suc i) key P all there = in-all keys i key P (All-tail P k keys all) there
+
+-- and each child is among them
+pub child-among : (old new : Widgets) (id kid : ℕ) (children : List Child) → new ≡ with_places new.places old → AreMeasured new id children → parent_id old kid ≡ Some id
+    → (i : ℕ) × (child : Child) × (slice_get children i ≡ Some child) × (child.key ≡ kid)
+child-among old new id kid children same are parent =
+    let among = are.each.all kid (parent-same old new kid id same parent) in
+    let at = at-map (child_for new) are.keys among.0 kid among.1 among.2 in
+    (among.0, child_for new kid, ap (λ (cs : List Child). slice_get cs among.0) are.measured ∙ at, refl)
+  where
+    at-map : (f : ℕ → Child) (keys : List ℕ) (i kid : ℕ) → i < length keys → get_or keys i kid ≡ kid → slice_get (map f keys) i ≡ Some (f kid)
+    at-map f [] i kid less is = absurd (omega arith)
+    at-map f (key ∷ keys) zero kid less is = ap (λ (k : ℕ). Some (f k)) is
+    at-map f (key ∷ keys) (suc i) kid less is = at-map f keys i kid (omega arith) is
+
+-- the widget itself, and those below its children
+pub laid-under : (most : ℕ) (old base new : Widgets) (id : ℕ) (children : List Child) → base ≡ with_places base.places old → AreMeasured base id children → place_at new id ≡ due old id
+    → ((i : ℕ) (child : Child) → slice_get children i ≡ Some child → (other : ℕ) → IsBelow (most - 1) old child.key other → place_at new other ≡ due old other)
+    → (other : ℕ) → IsBelow most old id other → place_at new other ≡ due old other
+laid-under zero old base new id children same are own each other below = subst (λ (n : ℕ). place_at new n ≡ due old n) below own
+laid-under (suc most) old base new id children same are own each other below = elim below [ inl e ↦ subst (λ (n : ℕ). place_at new n ≡ due old n) e own | inr down ↦ under down.0 down.1 down.2 ]
+  where
+    under : (kid : ℕ) → parent_id old kid ≡ Some id → IsBelow most old kid other → place_at new other ≡ due old other
+    under kid parent rest =
+        let at = child-among old base id kid children same are parent in
+        let e : suc most - 1 ≡ most = omega arith in
+        each at.0 at.1 at.2 other (subst (λ (n : ℕ). IsBelow n old at.1.key other) (sym e) (subst (λ (n : ℕ). IsBelow most old n other) (sym at.3) rest))
+
+-- going down so many times at the most, or more
+below-more : (few more : ℕ) (widgets : Widgets) (id other : ℕ) → IsBelow few widgets id other → IsBelow (few + more) widgets id other
+below-more zero zero widgets id other below = below
+below-more zero (suc more) widgets id other below = here (zero + suc more) (let e : suc more ≡ zero + suc more = omega arith in e)
+  where
+    here : (n : ℕ) → suc more ≡ n → IsBelow n widgets id other
+    here n e = subst (λ (k : ℕ). IsBelow k widgets id other) e (inl below)
+below-more (suc few) more widgets id other below = deeper (suc few + more) (let e : suc (few + more) ≡ suc few + more = omega arith in e) (λ kid rest. below-more few more widgets kid other rest)
+  where
+    deeper : (n : ℕ) → suc (few + more) ≡ n → ((kid : ℕ) → IsBelow few widgets kid other → IsBelow (few + more) widgets kid other) → IsBelow n widgets id other
+    deeper n e each = subst (λ (k : ℕ). IsBelow k widgets id other) e (elim below [ inl same ↦ inl same | inr down ↦ inr (down.0, down.1, each down.0 down.2) ])
+
+-- a widget under a root is below it
+below-up : (most few : ℕ) (widgets : Widgets) (top id other : ℕ) → IsWidgets widgets → IsLive widgets id → ends_within most (rows_of widgets) (row_for widgets id).client (row_for widgets id).name ≡ true
+    → IsBelow few widgets id other → root_id widgets id ≡ Some top → IsBelow (few + most) widgets top other
+below-up zero few widgets top id other valid live ends below root = let more = ends-some widgets zero id ends in absurd (omega (arith, more))
+below-up (suc most) few widgets top id other valid live ends below root = by (λ upper above up kid rooted. below-up most (suc few) widgets top upper other valid above up kid rooted) (parent_id widgets id) refl
+  where
+    by : ((upper : ℕ) → IsLive widgets upper → ends_within most (rows_of widgets) (row_for widgets upper).client (row_for widgets upper).name ≡ true → IsBelow (suc few) widgets upper other → root_id widgets upper ≡ Some top → IsBelow (suc few + most) widgets top other)
+        → (o : Option ℕ) → parent_id widgets id ≡ o → IsBelow (few + suc most) widgets top other
+    by rest None none =
+        let same : Some id ≡ Some top = sym (root-alone widgets id valid live none) ∙ root in
+        let e : id ≡ top = cc in
+        subst (λ (n : ℕ). IsBelow (few + suc most) widgets n other) e (below-more few (suc most) widgets id other below)
+    by rest (Some upper) parent =
+        let above = parent-live widgets upper id valid parent in
+        let e : suc few + most ≡ few + suc most = omega arith in
+        let less : suc most - 1 ≡ most = omega arith in
+        let ends_above : ends_within most (rows_of widgets) (row_for widgets upper).client (row_for widgets upper).name ≡ true = rw (← less) (ends-up widgets (suc most) upper id valid parent ends) in
+        subst (λ (n : ℕ). IsBelow n widgets top other) e
+        (rest upper above ends_above (inr (id, parent, below)) (sym (root-child widgets upper id valid above parent) ∙ root))
+
+pub below-root : (widgets : Widgets) (top other : ℕ) → IsWidgets widgets → IsLive widgets other → root_id widgets other ≡ Some top → IsBelow most_levels widgets top other
+unfolding most_levels
+below-root widgets top other valid live root = below-up most_levels zero widgets top other other valid live (ends-live widgets other valid live) refl root
+
+-- an element at an index
+pub there-at : (children : List Child) (i : ℕ) (blank : Child) → i < length children → slice_get children i ≡ Some (get_or children i blank)
+there-at [] i blank less = absurd (omega arith)
+there-at (child ∷ children) zero blank less = refl
+there-at (child ∷ children) (suc i) blank less = there-at children i blank (omega arith)
+
+-- the children before the next index, with one more laid out
+pub under-more : (children : List Child) (index : ℕ) (blank : Child) (P : Child → Type 0) → ((i : ℕ) (child : Child) → i < index → slice_get children i ≡ Some child → P child) → index < length children → P (get_or children index blank)
+    → (i : ℕ) (child : Child) → i < index + 1 → slice_get children i ≡ Some child → P child
+under-more children index blank P before less here i child lower there = elim (cases_lt i index) [ inl early ↦ before i child early there | inr late ↦ last (omega arith) ]
+  where
+    last : i ≡ index → P child
+    last same =
+        let both : Some (get_or children index blank) ≡ Some child = sym (there-at children index blank less) ∙ ap (slice_get children) (sym same) ∙ there in
+        let e : get_or children index blank ≡ child = cc in
+        subst P e here
+
+-- an index of an element is below any that is past the end
+pub at-most : (children : List Child) (i : ℕ) (child : Child) (end : ℕ) → length children ≤ end → slice_get children i ≡ Some child → i < end
+at-most [] i child end past there = absurd (cc)
+at-most (first ∷ children) zero child end past there = omega (arith, past)
+at-most (first ∷ children) (suc i) child end past there = let rest = at-most children i child (end - 1) (omega (arith, past)) there in omega (arith, rest)
+
+-- all that hang under the Window have their places
+pub has-places : (old new : Widgets) (window : ℕ) → IsWidgets old → AreLaid most_levels old window new → HasPlaces new window
+has-places old new window valid laid = record { each = λ id root. by id (subst (λ (w : Widgets). root_id w id ≡ Some window) same root) }
+  where
+    same : new ≡ with_places new.places old
+    same = laid.replaced.same
+
+    by : (id : ℕ) → root_id old id ≡ Some window → place_at new id ≡ option_map (place_in (rows_of new)) (row_at new.entries id)
+    by id root =
+        let live = rooted-live old id window root in
+        laid.under id (below-root old window id valid live root)
+        ∙ ap Some (due-same old new id same)
+        ∙ sym (ap (option_map (place_in (rows_of new))) (live-there new id (live-same old new id same live)))

@@ -1,0 +1,87 @@
+//! Tables of rows, played on a tree.
+ghost use Rattle.std.specs.Prelude.{◌≡◌, true, false, OnOk};
+ghost use Rattle.widget_model.specs.Widgets.{is_joined, IsLive};
+
+use crate::changing::change;
+use crate::words::{rect, widget, word};
+use geom_core::Rect;
+use kind_core::Kind;
+use scene_core::place;
+use std::alloc::Global;
+use std::process::Abort;
+use std::str::SplitWhitespace;
+use std::test::Fail;
+use tree_core::{Id, Tree};
+
+/// The place of the widget from scratch, where its root is a Window.
+fn place_of(tree: &Tree, id: Id) -> Option<Rect>
+    requires { IsLive tree.now id.key }
+{
+    match tree.kind(tree.root(id)) {
+        Kind::Window => Some(place(tree, id)),
+        _ => None,
+    }
+}
+
+/// `at WIDGET X Y WIDTH HEIGHT`: that is its place, worked out from scratch, and the one that is kept of it.
+fn is_at(
+    rt: &impl Abort,
+    tree: &Tree,
+    words: &mut SplitWhitespace<'_>,
+    row: &str,
+) -> Result<(), Fail> {
+    let id = widget(tree, words)?;
+    let wanted = rect(words)?;
+    assert_eq!(rt; place_of(tree, id), Some(wanted), "from scratch, {row}");
+    assert_eq!(rt; tree.place_of(id), Some(wanted), "kept, {row}");
+    Ok(())
+}
+
+/// `none WIDGET`: no place is kept of it.
+fn is_nowhere(
+    rt: &impl Abort,
+    tree: &Tree,
+    words: &mut SplitWhitespace<'_>,
+    row: &str,
+) -> Result<(), Fail> {
+    let id = widget(tree, words)?;
+    assert_eq!(rt; tree.place_of(id), None, "{row}");
+    Ok(())
+}
+
+/// Makes the row's change, or tests what it says.
+fn play_row(rt: &impl Abort, alloc: Global, tree: &mut Tree, row: &str) -> Result<(), Fail>
+    requires { is_joined tree.old.clients 1 ≡ true }
+    ensures { is_joined tree.new.clients 1 ≡ true }
+{
+    let mut words = row.split_whitespace();
+    match word(&mut words)? {
+        "at" => is_at(rt, tree, &mut words, row),
+        "none" => is_nowhere(rt, tree, &mut words, row),
+        call => change(alloc, tree, call, &mut words),
+    }
+}
+
+/// Plays each row of the table on the tree. The table has a row at least.
+fn play(rt: &impl Abort, alloc: Global, tree: &mut Tree, table: &str) -> Result<(), Fail>
+    requires { is_joined tree.old.clients 1 ≡ true }
+    ensures { is_joined tree.new.clients 1 ≡ true }
+{
+    let table = table.trim();
+    if table.is_empty() {
+        return Err("a table has no rows".into());
+    }
+    for row in table.lines() {
+        play_row(rt, alloc, tree, row)?;
+    }
+    Ok(())
+}
+
+/// Plays the table on a new tree that client 1 alone joined.
+pub fn plays(rt: &impl Abort, alloc: Global, table: &str) -> Result<(), Fail> {
+    let mut tree = Tree::new(alloc);
+    match tree.join_client(1) {
+        Ok(()) => play(rt, alloc, &mut tree, table),
+        Err(_) => Err("there is no memory".into()),
+    }
+}
