@@ -1,11 +1,15 @@
 -- Kept places change as widgets are laid out; their rows stay.
 use Rattle.std.proofs.Common.{◌≡◌, ℕ, zero, suc, ◌+◌, ◌-◌, ◌<◌, ◌≤◌, true, false, List, [], ◌∷◌, length, map, get_or, slice_get, Option, Some, None, nat_eq, refl, sym, ap, ◌∙◌, arith, subst, inl, inr}
-use Rattle.std.proofs.lemmas.Bool.{cases_eq, cases_lt, ne_eqb}
-use Rattle.std.proofs.lemmas.List.Elements.{All-head, All-tail}
+use Rattle.std.proofs.lemmas.Bool.{cases_eq, cases_lt, ne_eqb, true≢false}
+use Rattle.std.proofs.lemmas.List.Elements.{All-head, All-tail, All-nil}
 use Rattle.std.specs.List.{All}
 use Rattle.std.specs.Option.{option_map}
 use Rattle.geom_core.specs.declared.rectangle.Rect.{Rect}
-use Rattle.widget_model.specs.Trees.{ends_within, most_levels}
+use Rattle.kind_core.specs.declared.kinds.Kind.{Kind}
+use Rattle.kind_core.specs.declared.kinds.Kind.TheVariants.{Window, Grid, Frame, Button, Label, Entry, Scale, Scrollbar, Variable, VScreen}
+use Rattle.tree_core.specs.Children.{cells_of}
+use Rattle.widget_model.specs.Rows.{Row}
+use Rattle.widget_model.specs.Trees.{ends_within, has_children, most_levels}
 use Rattle.widget_model.specs.Relatives.{parent_id, root_id}
 use Rattle.widget_model.specs.Widgets.{Widgets, rows_of, row_at, place_at, with_place, IsLive}
 use Rattle.widget_model.specs.Forest.{IsWidgets}
@@ -18,7 +22,8 @@ use Rattle.scene_core.specs.Children.{row_for, child_for, AreKnown, AreMeasured,
 use Rattle.scene_core.specs.Places.{HasPlaces}
 use Rattle.scene_core.specs.Sides.{IsSide}
 use Rattle.scene_core.specs.Laid.{with_places, due, IsBelow, AreReplaced, AreLaid}
-use Rattle.scene_core.proofs.Numbered.{live-there}
+use Rattle.scene_core.proofs.Numbered.{live-there, row_for-there}
+use Rattle.scene_core.proofs.ChildNumbers.{parent_id-found}
 use Rattle.scene_core.proofs.Tops.{root-child}
 use Rattle.scene_core.proofs.Roots.{root-alone, ends-some, ends-up, ends-live, parent-live, rooted-live}
 
@@ -258,3 +263,42 @@ has-places old new window valid laid = record { each = λ id root. by id (subst 
         laid.under id (below-root old window id valid live root)
         ∙ ap Some (due-same old new id same)
         ∙ sym (ap (option_map (place_in (rows_of new))) (live-there new id (live-same old new id same live)))
+
+-- a widget of a kind without children has none
+no-cells : (kind : Kind) → has_children kind ≡ false → cells_of kind ≡ 0
+no-cells Window none = absurd (true≢false none)
+no-cells Grid none = absurd (true≢false none)
+no-cells Frame none = absurd (true≢false none)
+no-cells Button none = refl
+no-cells Label none = refl
+no-cells Entry none = refl
+no-cells Scale none = refl
+no-cells Scrollbar none = refl
+no-cells Variable none = refl
+no-cells VScreen none = refl
+
+pub childless : (widgets : Widgets) (id : ℕ) → IsWidgets widgets → has_children (row_for widgets id).kind ≡ false → AreMeasured widgets id []
+childless widgets id valid none = record {
+  keys = [];
+  each = record {
+    each = All-nil (λ kid. parent_id widgets kid ≡ Some id);
+    all = λ kid parent.
+        let found = parent_id-found widgets id kid valid parent in
+        let upper = row_for-there widgets id found.upper found.upper_there in
+        let empty = no-cells found.upper.kind (ap (λ (row : Row). has_children row.kind) (sym upper) ∙ none) in
+        absurd (let within = found.cell_is.within in omega (arith, within, empty));
+  };
+  measured = refl;
+}
+
+-- so it alone is laid out
+pub laid-alone : (most : ℕ) (old new : Widgets) (id : ℕ) → IsWidgets old → AreReplaced old id new → place_at new id ≡ due old id → has_children (row_for old id).kind ≡ false → AreLaid most old id new
+laid-alone most old new id valid replaced own none = record {
+  replaced = replaced;
+  under = laid-under most old old new id [] refl (childless old id valid none) own (λ i child there. absurd (cc));
+}
+
+-- kinds stay
+pub kind-back : (old new : Widgets) (id : ℕ) → new ≡ with_places new.places old → has_children (row_for new id).kind ≡ false → has_children (row_for old id).kind ≡ false
+unfolding row_for
+kind-back old new id same none = subst (λ (w : Widgets). has_children (row_for w id).kind ≡ false) same none

@@ -9,6 +9,7 @@ ghost use Rattle.scene_core.specs.Children.{row_for, AreKnown, IsDeep};
 ghost use Rattle.scene_core.specs.Laid.{AreLaid};
 ghost use Rattle.scene_core.specs.Places.{HasPlaces};
 
+use crate::children::has_children;
 use crate::known::Known;
 use crate::least::{measured, most_levels};
 use crate::places::{child_place, sides_of, window_place};
@@ -26,6 +27,9 @@ fn lay(tree: &mut Tree, known: &mut Known, most: u32, id: Id, place: Rect)
     ensures known { AreKnown tree.old known.new.sizes }
 {
     tree.set_place(id, Some(place));
+    if !has_children(tree, id) {
+        return;
+    }
     let children = measured(tree, known, most, id);
     let sides = sides_of(tree, id, place, children.as_slice());
     for child in children.as_slice() {

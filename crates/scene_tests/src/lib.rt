@@ -5,6 +5,8 @@
 #[cfg(test)]
 mod changing;
 #[cfg(test)]
+mod nests;
+#[cfg(test)]
 mod places;
 #[cfg(test)]
 mod playing;

@@ -50,7 +50,7 @@ fn is_nowhere(
 }
 
 /// Makes the row's change, or tests what it says.
-fn play_row(rt: &impl Abort, alloc: Global, tree: &mut Tree, row: &str) -> Result<(), Fail>
+pub fn play_row(rt: &impl Abort, alloc: Global, tree: &mut Tree, row: &str) -> Result<(), Fail>
     requires { is_joined tree.old.clients 1 ≡ true }
     ensures { is_joined tree.new.clients 1 ≡ true }
 {
@@ -63,7 +63,7 @@ fn play_row(rt: &impl Abort, alloc: Global, tree: &mut Tree, row: &str) -> Resul
 }
 
 /// Plays each row of the table on the tree. The table has a row at least.
-fn play(rt: &impl Abort, alloc: Global, tree: &mut Tree, table: &str) -> Result<(), Fail>
+pub fn play(rt: &impl Abort, alloc: Global, tree: &mut Tree, table: &str) -> Result<(), Fail>
     requires { is_joined tree.old.clients 1 ≡ true }
     ensures { is_joined tree.new.clients 1 ≡ true }
 {

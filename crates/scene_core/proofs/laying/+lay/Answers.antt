@@ -1,13 +1,14 @@
-use Rattle.std.proofs.Common.{◌≡◌, ◌∙◌, ◌-◌, ℕ, List, Some, get_or, sym, ap, arith, subst}
+use Rattle.widget_model.specs.Trees.{has_children}
+use Rattle.std.proofs.Common.{◌≡◌, false, ◌∙◌, ◌-◌, ℕ, List, Some, get_or, sym, ap, arith, subst}
 use Rattle.geom_core.specs.declared.rectangle.Rect.{Rect}
 use Rattle.widget_model.specs.Widgets.{place_at}
 use Rattle.scene_model.specs.declared.axis.Axis.TheVariants.{Across, Down}
 use Rattle.scene_core.specs.declared.child.Child.{Child}
-use Rattle.scene_core.specs.Children.{AreMeasured}
+use Rattle.scene_core.specs.Children.{row_for, AreMeasured}
 use Rattle.scene_core.specs.Laid.{due, IsBelow}
 use Rattle.scene_core.proofs.LeastSteps.{child-live, deep-child}
 use Rattle.scene_core.proofs.Measures.{deep-some, deep-suc}
-use Rattle.scene_core.proofs.LaySteps.{live-same, deep-same, known-same, known-back, side-same, side-back, child-same-rows, parent-same, due-same, set-same, replaced-set, replaced-then, kept-then, under-then, measured-back, laid-under, there-at, under-more, at-most}
+use Rattle.scene_core.proofs.LaySteps.{live-same, deep-same, known-same, known-back, side-same, side-back, child-same-rows, parent-same, due-same, set-same, replaced-set, replaced-then, kept-then, under-then, measured-back, laid-under, laid-alone, there-at, under-more, at-most, kind-back}
 use Rattle.scene_core.proofs.laying.+lay.Goals as goal
 
 pub measured-children-requires-clause-deep : goal.measured-children-requires-clause-deep
@@ -117,3 +118,12 @@ returns-clause-laid t c =
       under = laid-under c.args.most c.args.tree.now c.set_place.new.self c.loop-child.tree c.args.id.key c.as_slice-child-items.result.now s0 are c.loop-child.invariant.own
           (λ i child there. c.loop-child.invariant.under i child (at-most c.as_slice-child-items.result.now i child c.loop-child.child-index c.loop-child-test.false there) there);
     }
+
+pub returns-then-not-has_children-clause-laid : goal.returns-then-not-has_children-clause-laid
+returns-then-not-has_children-clause-laid t c =
+    let s0 = set-same c.args.tree.now c.set_place.new.self c.args.id.key (Some c.args.place) c.set_place.ensures.place in
+    let none : has_children (row_for c.set_place.new.self c.args.id.key).kind ≡ false = sym c.has_children.ensures ∙ c.if-not-has_children.true in
+    laid-alone c.args.most c.args.tree.now c.set_place.new.self c.args.id.key c.requires.valid
+    (replaced-set c.args.tree.now c.set_place.new.self c.args.id.key c.args.place s0 c.set_place.ensures.valid c.requires.place c.set_place.ensures.now c.set_place.ensures.others)
+    (c.set_place.ensures.now ∙ ap (λ (place : Rect). Some place) c.requires.place)
+    (kind-back c.args.tree.now c.set_place.new.self c.args.id.key s0 none)
