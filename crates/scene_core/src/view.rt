@@ -5,6 +5,7 @@ use tree_core::{Pointer, Tree};
 /// What the screen shows: the widgets of all clients, the numbers of the open windows from top to bottom, the
 /// pointer, and the screen's width and height in pixels. Contracts see it as a scene. See docs/MACHINE.md,
 /// "Layout".
+#[derive(Clone, Copy)]
 pub struct View<'a> {
     pub tree: &'a Tree,
     pub stack: &'a Stack,
