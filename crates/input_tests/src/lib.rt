@@ -7,8 +7,6 @@ mod edits;
 #[cfg(test)]
 mod given;
 #[cfg(test)]
-mod keys;
-#[cfg(test)]
 mod pointing;
 #[cfg(test)]
 mod tables;
