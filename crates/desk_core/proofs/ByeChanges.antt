@@ -5,9 +5,8 @@ use Rattle.std.proofs.lemmas.List.Sums.{sum_by-cons}
 use Rattle.std.specs.List.{list_all, filter}
 use Rattle.std.specs.Str.{bytes_eq}
 use Rattle.widget_model.specs.Rows.{Row}
-use Rattle.widget_model.specs.Nodes.{any_kind}
+use Rattle.widget_model.specs.Kinds.{any_kind, is_window_kind}
 use Rattle.widget_model.specs.Named.{row_named, rows_of_others, rows_counted, is_kind_of}
-use Rattle.widget_model.specs.Kinds.{is_window_kind}
 
 module _ (client : ℕ) where
   count-cons : (row : Row) (rows : List Row) → rows_counted client any_kind (row ∷ rows) ≡ cond (nat_eq client row.client && true) 1 0 + rows_counted client any_kind rows

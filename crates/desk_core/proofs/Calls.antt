@@ -7,8 +7,9 @@ use Rattle.cmd_words.specs.declared.replies.Reply.{Reply}
 use Rattle.cmd_words.specs.declared.replies.Reply.TheVariants.{Done, Number}
 use Rattle.stack_core.specs.Stack.{IsStack}
 use Rattle.scene_model.specs.Shapes.{IsShape}
-use Rattle.widget_model.specs.Widgets.{Widgets, nodes, no_widgets, is_joined, joined, departed}
-use Rattle.widget_model.specs.Forest.{IsWidgets, is_client}
+use Rattle.widget_model.specs.Widgets.{Widgets, nodes, no_widgets, joined, departed, key_at}
+use Rattle.widget_model.specs.Clients.{is_joined, is_client}
+use Rattle.widget_model.specs.Forest.{IsWidgets}
 use Rattle.desk_model.specs.Desk.{Desk, opening_desk, is_connected}
 use Rattle.desk_model.specs.DeskFacts.{IsDesk}
 use Rattle.desk_model.specs.Refusals.{is_memory}
@@ -22,7 +23,6 @@ use Rattle.desk_core.specs.Parts.{Stage, stage_of, windows_at, desk_of, names_wi
 use Rattle.desk_core.specs.Pointer.{HoldsLive}
 use Rattle.desk_core.specs.Effects.{DidAll}
 use Rattle.kind_core.specs.declared.shapes.Shape.{Shape}
-use Rattle.widget_model.specs.Keys.{key_at}
 use Rattle.widget_model.specs.Pointer as model
 use Rattle.tree_core.specs.declared.pointer.Pointer.{Pointer}
 use Rattle.desk_model.proofs.Sound.{let_go-again}

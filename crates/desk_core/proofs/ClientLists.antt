@@ -9,8 +9,7 @@ use Rattle.stack_core.specs.Stack.{holds_key, AreDistinct}
 use Rattle.desk_model.specs.Clients.{free_from}
 use Rattle.desk_model.proofs.Clients.{AreConnectedOnce-push}
 use Rattle.desk_model.specs.DeskFacts.{AreConnectedOnce}
-use Rattle.widget_model.specs.Forest.{is_client}
-use Rattle.widget_model.specs.Widgets.{is_joined}
+use Rattle.widget_model.specs.Clients.{is_client, is_joined}
 use Rattle.desk_core.specs.ClientList.{IsJoined}
 use Rattle.desk_core.proofs.Counting.{no_longer, range_holds}
 

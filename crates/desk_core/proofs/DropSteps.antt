@@ -14,8 +14,8 @@ use Rattle.widget_model.specs.Rows.{Row}
 use Rattle.widget_model.specs.Nodes.{node_of, node_at}
 use Rattle.widget_model.specs.Named.{has_name, row_named, without_named}
 use Rattle.widget_model.specs.Trees.{hangs, is_used, parent_of, most_levels}
-use Rattle.widget_model.specs.Keys.{key_of, key_at}
-use Rattle.widget_model.specs.Widgets.{Widgets, nodes, rows_of, row_at, without_row, removed}
+use Rattle.widget_model.specs.Keys.{key_of}
+use Rattle.widget_model.specs.Widgets.{key_at, Widgets, nodes, rows_of, row_at, without_row, removed}
 use Rattle.widget_model.specs.Forest.{IsWidgets}
 use Rattle.desk_model.specs.Desk.{Desk, is_open}
 use Rattle.desk_model.specs.Refusals.{when, first_refusal, outcome, unless_there}

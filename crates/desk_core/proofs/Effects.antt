@@ -10,7 +10,7 @@ use Rattle.cmd_words.specs.declared.replies.Refusal.{Refusal}
 use Rattle.widget_model.specs.Rows.{Row}
 use Rattle.widget_model.specs.Nodes.{Node, node_of, node_at, id_named}
 use Rattle.widget_model.specs.Named.{with_named}
-use Rattle.widget_model.specs.Widgets.{Widgets, nodes, rows_of, row_at, edited}
+use Rattle.widget_model.specs.Widgets.{Widgets, nodes, rows_of, row_at, edited, key_at}
 use Rattle.widget_model.specs.Forest.{IsForest, IsWidgets}
 use Rattle.desk_model.specs.Desk.{Desk}
 use Rattle.widget_model.proofs.Naming.{id_named-row, row_named-found, row_named-parts, rows-with_row}
@@ -18,7 +18,7 @@ use Rattle.tree_core.proofs.Listed.{row_named-row}
 use Rattle.tree_core.proofs.ForestLemmas.{nodes-with_row, node_at-nodes}
 use Rattle.widget_model.specs.Kinds.{is_window_kind}
 use Rattle.desk_core.specs.Parts.{windows_at, desk_of, names_window, AreParts}
-use Rattle.widget_model.specs.Keys.{key_of, key_at}
+use Rattle.widget_model.specs.Keys.{key_of}
 use Rattle.desk_core.specs.Effects.{Did, DidAll, with_rows}
 use Rattle.desk_core.specs.Lookup.{IsFound}
 

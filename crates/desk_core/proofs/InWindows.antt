@@ -9,8 +9,8 @@ use Rattle.widget_model.specs.Rows.{Row}
 use Rattle.widget_model.specs.Nodes.{id_named}
 use Rattle.widget_model.specs.Trees.{parent_of, root_in, root_of}
 use Rattle.widget_model.specs.Relatives.{root_id}
-use Rattle.widget_model.specs.Widgets.{Widgets, nodes, rows_of, row_at}
-use Rattle.widget_model.specs.Keys.{key_of, key_at}
+use Rattle.widget_model.specs.Widgets.{Widgets, nodes, rows_of, row_at, key_at}
+use Rattle.widget_model.specs.Keys.{key_of}
 use Rattle.widget_model.specs.Pointer as model
 use Rattle.widget_model.specs.Pointer.{no_grab, on_widget, drags}
 use Rattle.desk_model.specs.LetGo.{is_in_window, grab_left, focus_left}

@@ -8,9 +8,8 @@ use Rattle.stack_core.specs.Stack.{without}
 use Rattle.stack_core.proofs.Keys.{AreDistinct-without}
 use Rattle.widget_model.specs.Rows.{Row}
 use Rattle.widget_model.specs.Nodes.{Node, node_of, node_at}
-use Rattle.widget_model.specs.Widgets.{nodes, row_at}
+use Rattle.widget_model.specs.Widgets.{nodes, row_at, key_at}
 use Rattle.tree_core.proofs.ForestLemmas.{node_at-nodes}
-use Rattle.widget_model.specs.Keys.{key_at}
 use Rattle.widget_model.proofs.Hanging.{all_at, all-filter}
 use Rattle.std.proofs.lemmas.Option.{same_Some}
 use Rattle.desk_core.proofs.Effects.{key_at-node, key_at-kept}

@@ -4,10 +4,10 @@ use Rattle.std.proofs.lemmas.Bool.{false≢true}
 use Rattle.std.specs.Prelude.{IfSome}
 use Rattle.std.specs.Option.{option_map, option_map_or, option_and_then}
 use Rattle.widget_model.specs.Rows.{Row}
-use Rattle.widget_model.specs.Keys.{key_of, key_at}
+use Rattle.widget_model.specs.Keys.{key_of}
+use Rattle.widget_model.specs.Widgets.{key_at, row_at}
 use Rattle.widget_model.specs.Pointer as model
 use Rattle.widget_model.specs.Pointer.{no_grab, on_widget, drags}
-use Rattle.widget_model.specs.Widgets.{row_at}
 use Rattle.tree_core.specs.declared.id.Id.{Id}
 use Rattle.tree_core.specs.declared.pointer.Grab.{Grab}
 use Rattle.tree_core.specs.declared.pointer.Grab.TheVariants.{Nothing, Widget, Drag}

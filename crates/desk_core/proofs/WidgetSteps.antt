@@ -13,7 +13,8 @@ use Rattle.tree_core.specs.declared.refusal.AddRefusal.{AddRefusal}
 use Rattle.tree_core.specs.declared.refusal.AddRefusal.TheVariants as add
 use Rattle.tree_core.specs.Refusals.{add_refusal, AnswersRefusal}
 use Rattle.widget_model.specs.Rows.{Row, new_row, attr_of}
-use Rattle.widget_model.specs.Nodes.{node_of, node_at, id_named, any_kind, counts_with}
+use Rattle.widget_model.specs.Nodes.{node_of, node_at, id_named}
+use Rattle.widget_model.specs.Kinds.{any_kind, counts_with}
 use Rattle.widget_model.specs.Named.{has_name, row_named, rows_counted}
 use Rattle.widget_model.specs.Widgets.{Widgets, nodes, rows_of, with_new}
 use Rattle.desk_model.specs.Desk.{Desk}

@@ -13,14 +13,15 @@ use Rattle.cmd_words.specs.declared.replies.Refusal.{Refusal}
 use Rattle.cmd_words.specs.declared.replies.Refusal.TheVariants.{AlreadyOpen}
 use Rattle.stack_core.specs.Stack.{holds_key, IsStack}
 use Rattle.widget_model.specs.Rows.{Row}
-use Rattle.widget_model.specs.Nodes.{Node, node_of, id_named, node_at, count_of, counts_with}
+use Rattle.widget_model.specs.Nodes.{Node, node_of, id_named, node_at, count_of}
+use Rattle.widget_model.specs.Kinds.{counts_with, is_window_kind}
 use Rattle.widget_model.specs.Named.{has_name, row_named}
-use Rattle.widget_model.specs.Widgets.{Widgets, nodes, row_at, is_joined}
-use Rattle.widget_model.specs.Forest.{HaveOwnNames, is_client}
+use Rattle.widget_model.specs.Widgets.{Widgets, nodes, row_at}
+use Rattle.widget_model.specs.Clients.{is_joined, is_client}
+use Rattle.widget_model.specs.Forest.{HaveOwnNames}
 use Rattle.desk_model.specs.Desk.{Desk, is_window, is_open}
 use Rattle.desk_model.specs.Refusals.{when, first_refusal, outcome, unless_there, unless_kind}
 use Rattle.desk_model.specs.Windows.{open_effect, step_open}
-use Rattle.widget_model.specs.Kinds.{is_window_kind}
 use Rattle.widget_model.proofs.Naming.{has_name-parts, has_name-own, id_named-row}
 use Rattle.tree_core.proofs.ForestLemmas.{node_at-nodes, joined_in_range}
 use Rattle.desk_core.specs.Parts.{title_at, windows_at, desk_of, names_window, AreParts}

@@ -3,8 +3,7 @@ use Rattle.std.specs.Prelude.{ℕ, ◌≡◌, ◌↔◌, IsTrue, Bool, true, is_
 use Rattle.cmd_words.specs.declared.replies.Reply.{Reply}
 use Rattle.widget_model.specs.Rows.{Row}
 use Rattle.widget_model.specs.Nodes.{node_at}
-use Rattle.widget_model.specs.Keys.{key_at}
-use Rattle.widget_model.specs.Widgets.{Widgets, nodes, rows_of}
+use Rattle.widget_model.specs.Widgets.{key_at, Widgets, nodes, rows_of}
 use Rattle.desk_model.specs.Desk.{Desk}
 use Rattle.desk_model.specs.LetGo.{is_in_window}
 use Rattle.desk_core.specs.Parts.{Stage, windows_at, desk_of, AreParts}

@@ -2,7 +2,7 @@ ghost use Rattle.std.specs.Prelude.{◌≡◌, ◌≤◌, ◌+◌, ◌∷◌, �
 ghost use Rattle.std.specs.List.{filter};
 ghost use Rattle.stack_core.specs.Stack.{holds_key};
 ghost use Rattle.desk_model.specs.Clients.{free_client};
-ghost use Rattle.widget_model.specs.Widgets.{is_joined};
+ghost use Rattle.widget_model.specs.Clients.{is_joined};
 
 use arrayvec::ArrayVec;
 use std::marker::Model;

@@ -3,7 +3,8 @@
 ghost use Rattle.std.specs.Prelude.{◌≡◌, true, IfSome};
 ghost use Rattle.std.specs.List.{list_all};
 ghost use Rattle.widget_model.specs.Fitting.{fits_rules};
-ghost use Rattle.widget_model.specs.Widgets.{is_joined, rows_of};
+ghost use Rattle.widget_model.specs.Widgets.{rows_of};
+ghost use Rattle.widget_model.specs.Clients.{is_joined};
 ghost use Rattle.desk_model.specs.Commands.{is_built, row_of};
 ghost use Rattle.desk_core.specs.Parts.{AreParts};
 ghost use Rattle.desk_model.specs.Refusals.{is_memory};

@@ -3,8 +3,7 @@
 ghost use Rattle.std.specs.Prelude.{◌≡◌, IsSome, IfSome};
 ghost use Rattle.std.specs.Option.{option_and_then};
 ghost use Rattle.kind_core.specs.declared.shapes.Shape.{Shape};
-ghost use Rattle.widget_model.specs.Keys.{key_at};
-ghost use Rattle.widget_model.specs.Widgets.{row_at};
+ghost use Rattle.widget_model.specs.Widgets.{key_at, row_at};
 ghost use Rattle.tree_core.specs.Holds.{grab_seen};
 ghost use Rattle.desk_model.specs.LetGo.{is_in_window, grab_left, focus_left, let_go};
 ghost use Rattle.desk_core.specs.Parts.{Stage, AreParts, desk_of, stage_of};

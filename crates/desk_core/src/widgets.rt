@@ -4,7 +4,8 @@ ghost use Rattle.std.specs.Prelude.{◌≡◌, ◌↔◌, ◌≤◌, true, false
 ghost use Rattle.desk_model.specs.AttrOptions.{attr_refusal, attrs_refusal, with_attrs, told};
 ghost use Rattle.desk_model.specs.WidgetCommands.{step_new, step_set, step_get, step_drop, reply_with};
 ghost use Rattle.std.specs.Option.{option_map};
-ghost use Rattle.widget_model.specs.Widgets.{is_joined, IsLive, row_at, row_kind, edited};
+ghost use Rattle.widget_model.specs.Widgets.{IsLive, row_at, row_kind, edited};
+ghost use Rattle.widget_model.specs.Clients.{is_joined};
 ghost use Rattle.widget_model.specs.Forest.{IsWidgets};
 ghost use Rattle.desk_model.specs.Refusals.{is_memory};
 ghost use Rattle.desk_core.specs.Parts.{AreParts};

@@ -5,8 +5,7 @@ use Rattle.std.proofs.lemmas.Bool.{and_from, or_parts, or_from, or_left, le-leb}
 use Rattle.std.proofs.lemmas.List.Folds.{list_all-append, list_any-append}
 use Rattle.std.specs.Cmp.{nat_eq_equiv}
 use Rattle.widget_model.specs.Rows.{Row}
-use Rattle.widget_model.specs.Widgets.{is_joined}
-use Rattle.widget_model.specs.Forest.{is_client}
+use Rattle.widget_model.specs.Clients.{is_joined, is_client}
 use Rattle.desk_model.specs.Desk.{Desk, is_connected}
 use Rattle.desk_model.specs.Clients.{with_client, free_from, free_client}
 use Rattle.desk_model.specs.DeskFacts.{AreConnectedOnce}

@@ -13,7 +13,7 @@ use Rattle.cmd_words.specs.declared.replies.Refusal.{Refusal}
 use Rattle.cmd_words.specs.declared.replies.Refusal.TheVariants.{Memory, Full, NotConnected, Connected}
 use Rattle.kind_core.specs.declared.shapes.Shape.{Shape}
 use Rattle.scene_model.specs.Shapes.{IsShape}
-use Rattle.widget_model.specs.Forest.{is_client}
+use Rattle.widget_model.specs.Clients.{is_client}
 use Rattle.desk_model.specs.Desk.{Desk, opening_desk, is_connected}
 use Rattle.desk_model.specs.Refusals.{when, first_refusal, outcome}
 use Rattle.desk_model.specs.LetGo.{let_go, event_end}

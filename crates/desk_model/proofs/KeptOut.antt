@@ -7,15 +7,14 @@ use Rattle.std.specs.Option.{option_map_or}
 use Rattle.std.specs.Str.{bytes_eq}
 use Rattle.kind_core.specs.declared.kinds.Kind.{Kind}
 use Rattle.widget_model.specs.Rows.{Row}
-use Rattle.widget_model.specs.Nodes.{any_kind, counts_with}
+use Rattle.widget_model.specs.Kinds.{any_kind, counts_with, is_variable_kind, is_window_kind}
 use Rattle.widget_model.specs.Named.{has_name, row_named, rows_counted, is_kind_of, without_named, rows_of_others}
 use Rattle.widget_model.specs.Trees.{hangs, is_child, links_to, is_used}
-use Rattle.widget_model.specs.Widgets.{is_joined}
+use Rattle.widget_model.specs.Clients.{is_joined}
 use Rattle.widget_model.specs.Planted.{IsPlanted}
 use Rattle.widget_model.specs.Fitting.{fits_table, fits_rules, has_slots}
 use Rattle.desk_model.specs.Desk.{Desk, is_window, is_open}
 use Rattle.desk_model.specs.Clients.{without_client}
-use Rattle.widget_model.specs.Kinds.{is_variable_kind, is_window_kind}
 use Rattle.desk_model.specs.DeskFacts.{AreConnectedOnce, AreOpenOnce, links_right, links_by_kind}
 use Rattle.widget_model.specs.Named.{AreNamedApart}
 use Rattle.widget_model.proofs.Hanging.{all_at, all_from, none_at, all-filter, IsNamed-row_named, row_named-filter}

@@ -6,12 +6,12 @@ use Rattle.kind_core.specs.declared.kinds.Kind.{Kind}
 use Rattle.kind_core.specs.declared.kinds.Attr.{Attr}
 use Rattle.kind_core.specs.declared.values.Value as value
 use Rattle.widget_model.specs.Rows.{Row, new_row}
-use Rattle.widget_model.specs.Nodes.{any_kind, counts_with}
+use Rattle.widget_model.specs.Kinds.{any_kind, counts_with}
 use Rattle.widget_model.specs.Named.{row_named, rows_counted}
 use Rattle.widget_model.specs.Trees.{is_used}
 use Rattle.widget_model.specs.Planted.{IsPlanted}
 use Rattle.widget_model.specs.Fitting.{fits_rules, has_slots}
-use Rattle.widget_model.specs.Widgets.{is_joined}
+use Rattle.widget_model.specs.Clients.{is_joined}
 use Rattle.desk_model.specs.Desk.{Desk, is_connected, is_open}
 use Rattle.desk_model.specs.AttrOptions.{attrs_refusal, with_attrs}
 use Rattle.desk_model.specs.WidgetCommands.{new_refusal, new_effect, set_refusal, set_effect, get_refusal, get_effect, drop_refusal, drop_effect, step_new, step_set, step_get, step_drop}

@@ -8,7 +8,7 @@ use Rattle.cmd_words.specs.declared.commands.Command.{Command}
 use Rattle.cmd_words.specs.declared.commands.Command.TheVariants.{New, Set, Get, Place, Lift, ColumnConfig, RowConfig, Link, Unlink, Bind, Unbind, OpenWindow, DropWidget}
 use Rattle.cmd_words.specs.declared.replies.Reply.{Reply}
 use Rattle.cmd_words.specs.declared.replies.Refusal.{Refusal}
-use Rattle.widget_model.specs.Nodes.{any_kind, counts_with}
+use Rattle.widget_model.specs.Kinds.{any_kind, counts_with}
 use Rattle.widget_model.specs.Trees.{most_levels}
 use Rattle.desk_model.specs.Desk.{Desk, is_open}
 use Rattle.desk_model.specs.Refusals.{outcome}

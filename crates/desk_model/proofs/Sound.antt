@@ -8,14 +8,12 @@ use Rattle.cmd_words.specs.declared.replies.Refusal.{Refusal}
 use Rattle.widget_model.specs.Pointer.{Grab, no_grab, on_widget, drags}
 use Rattle.scene_model.specs.Shapes.{IsShape}
 use Rattle.widget_model.specs.Rows.{Row}
-use Rattle.widget_model.specs.Nodes.{any_kind, counts_with}
+use Rattle.widget_model.specs.Kinds.{any_kind, counts_with, is_window_kind}
 use Rattle.widget_model.specs.Named.{row_named, rows_counted, is_kind_of}
-use Rattle.widget_model.specs.Widgets.{is_joined}
-use Rattle.widget_model.specs.Forest.{is_client}
+use Rattle.widget_model.specs.Clients.{is_joined, is_client}
 use Rattle.widget_model.specs.Planted.{IsPlanted}
 use Rattle.widget_model.specs.Fitting.{fits_table, fits_rules, has_slots}
 use Rattle.desk_model.specs.Desk.{Desk}
-use Rattle.widget_model.specs.Kinds.{is_window_kind}
 use Rattle.desk_model.specs.LetGo.{is_in_window, grab_left, focus_left, let_go}
 use Rattle.desk_model.specs.Refusals.{outcome}
 use Rattle.desk_model.specs.DeskFacts.{AreConnectedOnce, AreOpenOnce, links_right, links_by_kind, IsDesk}

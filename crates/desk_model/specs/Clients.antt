@@ -5,7 +5,7 @@ use Rattle.cmd_words.specs.declared.replies.Reply.{Reply}
 use Rattle.cmd_words.specs.declared.replies.Reply.TheVariants.{Done, Number, NoEvent}
 use Rattle.cmd_words.specs.declared.replies.Refusal.TheVariants.{Memory, Full, NotConnected, Connected}
 use Rattle.widget_model.specs.Named.{rows_of_others}
-use Rattle.widget_model.specs.Widgets.{is_joined}
+use Rattle.widget_model.specs.Clients.{is_joined}
 use Rattle.desk_model.specs.Desk.{Desk, is_connected}
 use Rattle.desk_model.specs.Refusals.{when, first_refusal, outcome}
 use Rattle.desk_model.specs.LetGo.{event_end}

@@ -5,14 +5,12 @@ use Rattle.std.specs.Option.{option_map_or}
 use Rattle.kind_core.specs.declared.kinds.Kind.{Kind}
 use Rattle.scene_model.specs.Shapes.{IsShape}
 use Rattle.widget_model.specs.Rows.{Row}
-use Rattle.widget_model.specs.Nodes.{any_kind, counts_with}
+use Rattle.widget_model.specs.Kinds.{any_kind, counts_with, can_link, is_variable_kind, is_window_kind}
 use Rattle.widget_model.specs.Named.{row_named, rows_counted, is_kind_of, AreNamedApart}
-use Rattle.widget_model.specs.Widgets.{is_joined}
-use Rattle.widget_model.specs.Forest.{is_client}
+use Rattle.widget_model.specs.Clients.{is_joined, is_client}
 use Rattle.widget_model.specs.Planted.{IsPlanted}
 use Rattle.widget_model.specs.Fitting.{fits_table, fits_rules, has_slots}
 use Rattle.desk_model.specs.Desk.{Desk, is_connected, is_window}
-use Rattle.widget_model.specs.Kinds.{can_link, is_variable_kind, is_window_kind}
 use Rattle.desk_model.specs.LetGo.{let_go}
 
 -- No client is connected twice.

@@ -7,7 +7,7 @@ use Rattle.cmd_words.specs.declared.replies.Reply.{Reply}
 use Rattle.cmd_words.specs.declared.replies.Reply.TheVariants.{Refused}
 use Rattle.cmd_words.specs.declared.replies.Refusal.{Refusal}
 use Rattle.scene_model.specs.Shapes.{IsShape}
-use Rattle.widget_model.specs.Forest.{is_client}
+use Rattle.widget_model.specs.Clients.{is_client}
 use Rattle.desk_model.specs.Desk.{Desk, opening_desk}
 use Rattle.desk_model.specs.DeskFacts.{IsDesk}
 use Rattle.desk_model.specs.Clients.{step_connect, step_hello, step_bye}

@@ -10,7 +10,7 @@ use Rattle.cmd_words.specs.declared.replies.Reply.TheVariants.{Done, Number, Wor
 use Rattle.cmd_words.specs.declared.replies.Refusal.{Refusal}
 use Rattle.cmd_words.specs.declared.replies.Refusal.TheVariants.{Memory, NameTaken, WrongKind, Full, InUse}
 use Rattle.widget_model.specs.Rows.{new_row, attr_of}
-use Rattle.widget_model.specs.Nodes.{any_kind, counts_with}
+use Rattle.widget_model.specs.Kinds.{any_kind, counts_with}
 use Rattle.widget_model.specs.Named.{row_named, with_named, without_named, rows_counted}
 use Rattle.widget_model.specs.Trees.{is_used}
 use Rattle.desk_model.specs.Desk.{Desk, is_open}

@@ -7,9 +7,9 @@ use Rattle.std.proofs.lemmas.Bool.{true≢false, eqb-true, eq-eqb, and_parts}
 use Rattle.std.proofs.lemmas.Slice.Eq.{bytes_eq-Decides}
 use Rattle.widget_model.specs.Rows.{Row}
 use Rattle.widget_model.specs.Nodes.{id_named}
-use Rattle.widget_model.specs.Widgets.{Widgets, row_at, rows_of, nodes}
+use Rattle.widget_model.specs.Widgets.{Widgets, row_at, rows_of, nodes, key_at}
 use Rattle.widget_model.specs.Forest.{IsWidgets}
-use Rattle.widget_model.specs.Keys.{key_of, same_key, row_of, root_key, key_at}
+use Rattle.widget_model.specs.Keys.{key_of, same_key, row_of, root_key}
 use Rattle.widget_model.specs.Trees.{root_of}
 use Rattle.widget_model.specs.Relatives.{root_id}
 use Rattle.widget_model.proofs.Naming.{row_named-found, row_named-parts, id_named-row}

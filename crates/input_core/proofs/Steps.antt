@@ -3,9 +3,9 @@ use Rattle.std.proofs.Common.{ℕ, ℤ, pos, ◌≡◌, Bool, true, false, cond,
 use Rattle.std.specs.Option.{option_map, option_map_or, option_and_then}
 use Rattle.geom_core.specs.declared.rectangle.Rect.{Rect}
 use Rattle.widget_model.specs.Rows.{Row}
-use Rattle.widget_model.specs.Widgets.{Widgets, row_at, rows_of}
+use Rattle.widget_model.specs.Widgets.{Widgets, row_at, rows_of, key_at}
 use Rattle.widget_model.specs.Forest.{IsWidgets}
-use Rattle.widget_model.specs.Keys.{key_of, key_at, row_of}
+use Rattle.widget_model.specs.Keys.{key_of, row_of}
 use Rattle.widget_model.specs.Pointer as model
 use Rattle.widget_model.specs.Pointer.{no_grab, on_widget, drags}
 use Rattle.tree_core.specs.declared.id.Id.{Id}

@@ -3,7 +3,7 @@ use Rattle.std.specs.Prelude.{ℕ, ℤ, List, [], map, Option, unwrap_or}
 use Rattle.std.specs.Option.{option_map}
 use Rattle.kind_core.specs.declared.kinds.EventKind.{EventKind}
 use Rattle.widget_model.specs.Rows.{Row}
-use Rattle.widget_model.specs.Keys.{key_at}
+use Rattle.widget_model.specs.Widgets.{key_at}
 use Rattle.tree_core.specs.declared.id.Id.{Id}
 use Rattle.tree_core.specs.Holds.{pointer_seen}
 use Rattle.desk_model.specs.InputEffects as model

@@ -1,9 +1,9 @@
 //! What a press of the pointer's button does.
 
 ghost use Rattle.std.specs.Prelude.{◌≡◌, ◌<◌, Some, None, IfSome, if◌then◌else◌};
-ghost use Rattle.widget_model.specs.Keys.{key_of, key_at};
+ghost use Rattle.widget_model.specs.Keys.{key_of};
+ghost use Rattle.widget_model.specs.Widgets.{key_at, IsLive, rows_of};
 ghost use Rattle.geom_core.specs.Rect.{IsInRange};
-ghost use Rattle.widget_model.specs.Widgets.{IsLive, rows_of};
 ghost use Rattle.widget_model.specs.Forest.{IsWidgets};
 ghost use Rattle.desk_model.specs.InputTable.{takes_keys, pressed, grabbed_title, press_on, on_press};
 ghost use Rattle.std.specs.Option.{option_map, option_and_then};

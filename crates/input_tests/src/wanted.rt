@@ -3,7 +3,7 @@
 //! `moved NAME X Y`, and at most two `post NAME EVENT A B`, in order. Bytes are written with `_` for a space, and `.`
 //! alone is the empty text.
 ghost use Rattle.std.specs.Prelude.{◌≡◌, false};
-ghost use Rattle.widget_model.specs.Widgets.{is_joined};
+ghost use Rattle.widget_model.specs.Clients.{is_joined};
 ghost use Rattle.widget_model.specs.Forest.{IsWidgets};
 
 use crate::given::{held, hit, input, pointer};

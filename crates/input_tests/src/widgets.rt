@@ -1,7 +1,7 @@
 //! Trees of widgets of client 1, made by a table: `add NAME KIND`, `into WINDOW CHILD`, `hang GRID CHILD COLUMN`,
 //! `set NAME ATTRIBUTE NUMBER`, `text NAME BYTES`, `link NAME VARIABLE` and `bind NAME EVENT`.
 ghost use Rattle.std.specs.Prelude.{◌≡◌, true, false, OnOk};
-ghost use Rattle.widget_model.specs.Widgets.{is_joined};
+ghost use Rattle.widget_model.specs.Clients.{is_joined};
 
 use crate::tables::{event, number, rows, widget, word};
 use kind_core::{Attr, Cell, Kind, Name, Value, name_from, text_from};

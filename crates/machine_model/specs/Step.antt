@@ -7,7 +7,7 @@ use Rattle.cmd_words.specs.declared.inputs.Drew.{Drew}
 use Rattle.cmd_words.specs.declared.replies.Reply.{Reply}
 use Rattle.cmd_words.specs.declared.replies.Reply.TheVariants.{Refused}
 use Rattle.cmd_words.specs.declared.replies.Refusal.TheVariants.{Syntax}
-use Rattle.widget_model.specs.Forest.{is_client}
+use Rattle.widget_model.specs.Clients.{is_client}
 use Rattle.desk_model.specs.Desk.{Desk}
 use Rattle.desk_model.specs.Seen.{colour}
 use Rattle.machine_model.specs.Reach.{IsTouched, in_reach}

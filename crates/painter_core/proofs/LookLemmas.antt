@@ -13,9 +13,9 @@ use Rattle.look_core.specs.Seen.{Seen, in_row}
 use Rattle.look_core.specs.Colour.{colour_of}
 use Rattle.look_core.specs.Drawable.{IsDrawable}
 use Rattle.widget_model.specs.Rows.{Row}
-use Rattle.widget_model.specs.Keys.{key_of, same_key, row_of, key_at}
+use Rattle.widget_model.specs.Keys.{key_of, same_key, row_of}
+use Rattle.widget_model.specs.Widgets.{key_at, Widgets, rows_of, row_at}
 use Rattle.widget_model.specs.Pointer.{no_grab, on_widget}
-use Rattle.widget_model.specs.Widgets.{Widgets, rows_of, row_at}
 use Rattle.widget_model.specs.Forest.{IsWidgets}
 use Rattle.scene_model.specs.Scene.{Scene}
 use Rattle.scene_model.specs.Fit.{AreFit}

@@ -8,7 +8,8 @@ use Rattle.std.specs.List.{filter}
 use Rattle.kind_core.specs.declared.kinds.Kind.{Kind}
 use Rattle.kind_core.specs.declared.kinds.Kind.TheVariants.{Window, VScreen}
 use Rattle.widget_model.specs.Rows.{Row}
-use Rattle.widget_model.specs.Nodes.{Node, node_of, node_at, count_of, any_kind, counts_with, counted}
+use Rattle.widget_model.specs.Nodes.{Node, node_of, node_at, count_of}
+use Rattle.widget_model.specs.Kinds.{any_kind, counts_with, counted}
 use Rattle.widget_model.specs.Widgets.{row_at, with_row, without_row, nodes}
 use Rattle.widget_model.specs.Forest.{HaveOwnNumbers}
 use Rattle.row_store.specs.declared.count.Count.{Count}

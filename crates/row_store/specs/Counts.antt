@@ -2,7 +2,8 @@
 use Rattle.std.specs.Prelude.{ℕ, ◌≡◌, ◌<◌, ◌+◌, ◌-◌, List, length, replicate, slice_index_or, slice_set, Option, Some, None}
 use Rattle.kind_core.specs.declared.kinds.Kind.{Kind}
 use Rattle.kind_core.specs.declared.kinds.Kind.TheVariants.{Window, VScreen}
-use Rattle.widget_model.specs.Nodes.{Node, count_of, any_kind, counts_with}
+use Rattle.widget_model.specs.Nodes.{Node, count_of}
+use Rattle.widget_model.specs.Kinds.{any_kind, counts_with}
 use Rattle.row_store.specs.declared.count.Count.{Count}
 
 abbrev pub no_count : Count

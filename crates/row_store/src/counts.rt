@@ -1,5 +1,5 @@
 ghost use Rattle.std.specs.Prelude.{◌≡◌, ◌<◌, Some, None, true};
-ghost use Rattle.widget_model.specs.Nodes.{counts_with};
+ghost use Rattle.widget_model.specs.Kinds.{counts_with};
 ghost use Rattle.row_store.specs.Counts.{no_count, no_counts, number_alike, one_more, one_less, count_in, gained, lost, forgotten};
 
 use crate::count::Count;

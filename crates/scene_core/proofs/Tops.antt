@@ -11,11 +11,11 @@ use Rattle.kind_core.specs.declared.shapes.Cell.{Cell}
 use Rattle.widget_model.specs.Rows.{Row}
 use Rattle.widget_model.specs.Named.{row_named}
 use Rattle.widget_model.specs.Nodes.{id_named}
-use Rattle.widget_model.specs.Keys.{key_of, key_at, row_of, same_key, parent_key, root_key}
+use Rattle.widget_model.specs.Keys.{key_of, row_of, same_key, parent_key, root_key}
+use Rattle.widget_model.specs.Widgets.{key_at, Widgets, rows_of, row_at, row_kind, nodes, place_at, IsLive}
 use Rattle.widget_model.specs.Trees.{can_be_child, is_child, parent_of, root_of, root_in, most_levels}
 use Rattle.widget_model.specs.Planted.{has_cell, hangs_right}
 use Rattle.widget_model.specs.Relatives.{parent_id, root_id}
-use Rattle.widget_model.specs.Widgets.{Widgets, rows_of, row_at, row_kind, nodes, place_at, IsLive}
 use Rattle.widget_model.specs.Forest.{IsWidgets}
 use Rattle.widget_model.proofs.Naming.{id_named-row}
 use Rattle.widget_model.proofs.Hanging.{all_at}

@@ -5,8 +5,7 @@ use Rattle.std.specs.List.{All, Contains}
 use Rattle.std.specs.Option.{option_map, option_map_or}
 use Rattle.kind_core.specs.declared.kinds.Kind.TheVariants.{Window}
 use Rattle.widget_model.specs.Rows.{Row}
-use Rattle.widget_model.specs.Keys.{key_at}
-use Rattle.widget_model.specs.Widgets.{Widgets, rows_of, row_at, row_kind, place_at}
+use Rattle.widget_model.specs.Widgets.{key_at, Widgets, rows_of, row_at, row_kind, place_at}
 use Rattle.widget_model.specs.Forest.{IsWidgets}
 use Rattle.widget_model.specs.Relatives.{root_id}
 use Rattle.tree_core.specs.declared.pointer.Pointer.{Pointer}

@@ -1,9 +1,9 @@
 //! The widget on top at a pixel.
 ghost use Rattle.std.specs.Prelude.{◌≡◌, true, Some, IfSome, Contains};
 ghost use Rattle.std.specs.Option.{option_map, option_and_then};
-ghost use Rattle.widget_model.specs.Keys.{key_of, key_at};
+ghost use Rattle.widget_model.specs.Keys.{key_of};
+ghost use Rattle.widget_model.specs.Widgets.{key_at, IsLive};
 ghost use Rattle.widget_model.specs.Relatives.{parent_id, root_id};
-ghost use Rattle.widget_model.specs.Widgets.{IsLive};
 ghost use Rattle.scene_model.specs.Showing.{shows_at, on_screen, child_at, lowest_in, top_of, window_at};
 ghost use Rattle.scene_core.specs.Children.{row_for};
 ghost use Rattle.scene_core.specs.View.{IsView, KeepsPlaces, IsUnderOpen, scene_of};

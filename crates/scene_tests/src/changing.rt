@@ -1,7 +1,7 @@
 //! Rows that change the tree.
 ghost use Rattle.std.specs.Prelude.{◌≡◌, true, IfSome};
 ghost use Rattle.widget_model.specs.Planted.{takes_cell};
-ghost use Rattle.widget_model.specs.Widgets.{is_joined};
+ghost use Rattle.widget_model.specs.Clients.{is_joined};
 
 use crate::words::{attr, grid, index, kind, name, number, widget, word};
 use kind_core::{Attr, Cell, Kind, Value, text_from};

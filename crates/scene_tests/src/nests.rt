@@ -1,6 +1,6 @@
 //! A client's 128 widgets on 12 levels: a Window, ten Grids in one another, and Labels in all of them.
 ghost use Rattle.std.specs.Prelude.{◌≡◌, true, false};
-ghost use Rattle.widget_model.specs.Widgets.{is_joined};
+ghost use Rattle.widget_model.specs.Clients.{is_joined};
 
 use crate::playing::{play, play_row};
 use std::alloc::Global;

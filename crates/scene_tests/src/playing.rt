@@ -1,6 +1,7 @@
 //! Tables of rows, played on a tree.
 ghost use Rattle.std.specs.Prelude.{◌≡◌, true, false, OnOk};
-ghost use Rattle.widget_model.specs.Widgets.{is_joined, IsLive};
+ghost use Rattle.widget_model.specs.Widgets.{IsLive};
+ghost use Rattle.widget_model.specs.Clients.{is_joined};
 
 use crate::changing::change;
 use crate::words::{rect, widget, word};

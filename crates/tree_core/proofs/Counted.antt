@@ -9,7 +9,8 @@ use Rattle.vscreen_core.specs.FilmState.{FilmState, IsFilm}
 use Rattle.widget_model.specs.Rows.{Row, new_row, with_link, with_attached, with_film}
 use Rattle.widget_model.specs.Nodes.{is_number_of}
 use Rattle.widget_model.specs.Links.{leads}
-use Rattle.widget_model.specs.Widgets.{Widgets, row_at, nodes, with_row, without_row, is_joined}
+use Rattle.widget_model.specs.Widgets.{Widgets, row_at, nodes, with_row, without_row}
+use Rattle.widget_model.specs.Clients.{is_joined}
 use Rattle.widget_model.specs.KeptPlaces.{placed, unplaced}
 use Rattle.widget_model.specs.Trees.{is_used}
 use Rattle.widget_model.specs.Fitting.{is_fit, IsFitFilm}

@@ -7,8 +7,9 @@ use Rattle.std.specs.Option.{option_map}
 use Rattle.widget_model.specs.Rows.{Row}
 use Rattle.widget_model.specs.Nodes.{Node, id_named, is_number_of, first_number}
 use Rattle.widget_model.specs.Planted.{IsPlanted}
-use Rattle.widget_model.specs.Widgets.{row_at, nodes, is_joined}
-use Rattle.widget_model.specs.Forest.{is_client, IsForest}
+use Rattle.widget_model.specs.Widgets.{row_at, nodes}
+use Rattle.widget_model.specs.Clients.{is_joined, is_client}
+use Rattle.widget_model.specs.Forest.{IsForest}
 use Rattle.widget_model.proofs.Hanging.{all_at, all-filter}
 use Rattle.widget_model.proofs.Naming.{rows-filter_others}
 use Rattle.widget_model.specs.Rows.{IsIndex}

@@ -13,9 +13,11 @@ use Rattle.kind_core.specs.declared.kinds.Kind.{Kind}
 use Rattle.kind_core.specs.declared.kinds.Kind.TheVariants.{Window, Variable, VScreen}
 use Rattle.widget_model.specs.Rows.{Row, with_link}
 use Rattle.widget_model.specs.Links.{Tie, ties, is_variable, leads, all_lead, name_at}
-use Rattle.widget_model.specs.Nodes.{Node, node_of, is_named, id_named, kind_named, node_at, count_of, any_kind, counts_with, first_number, is_number_of}
-use Rattle.widget_model.specs.Widgets.{row_at, row_kind, row_client, with_row, nodes, is_joined}
-use Rattle.widget_model.specs.Forest.{HaveOwnNumbers, HaveOwnNames, is_client, IsForest}
+use Rattle.widget_model.specs.Nodes.{Node, node_of, is_named, id_named, kind_named, node_at, count_of, first_number, is_number_of}
+use Rattle.widget_model.specs.Kinds.{any_kind, counts_with}
+use Rattle.widget_model.specs.Widgets.{row_at, row_kind, row_client, with_row, nodes}
+use Rattle.widget_model.specs.Clients.{is_joined, is_client}
+use Rattle.widget_model.specs.Forest.{HaveOwnNumbers, HaveOwnNames, IsForest}
 use Rattle.widget_model.proofs.Naming.{with_row-absent}
 use Rattle.row_store.proofs.Index.{id_named-push}
 pub use Rattle.row_store.proofs.Nodes.{node_at-nodes, nodes-with_row}

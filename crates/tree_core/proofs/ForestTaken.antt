@@ -5,10 +5,12 @@ use Rattle.std.proofs.lemmas.List.Sums.{sum_by-cons}
 use Rattle.std.specs.List.{list_all}
 use Rattle.kind_core.specs.declared.kinds.Kind.{Kind}
 use Rattle.widget_model.specs.Rows.{Row}
-use Rattle.widget_model.specs.Nodes.{Node, is_number_of, count_of, any_kind, counts_with}
-use Rattle.widget_model.specs.Widgets.{nodes, is_joined}
+use Rattle.widget_model.specs.Nodes.{Node, is_number_of, count_of}
+use Rattle.widget_model.specs.Kinds.{any_kind, counts_with}
+use Rattle.widget_model.specs.Widgets.{nodes}
+use Rattle.widget_model.specs.Clients.{is_joined, is_client}
 use Rattle.widget_model.proofs.Hanging.{all_at, all-filter}
-use Rattle.widget_model.specs.Forest.{IsForest, is_client}
+use Rattle.widget_model.specs.Forest.{IsForest}
 use Rattle.row_store.proofs.Taken.{kept, nodes-kept, own_numbers-kept, own_names-kept}
 
 pub list_all-kept : {X : Type 0} (p : ℕ × X → Bool) (test : ℕ → Bool) (es : List (ℕ × X)) → list_all p es ≡ true → list_all p (kept test es) ≡ true

@@ -10,7 +10,8 @@ use Rattle.geom_core.specs.declared.rectangle.Rect.{Rect}
 use Rattle.widget_model.specs.Rows.{Row}
 use Rattle.widget_model.specs.Nodes.{is_number_of, first_number}
 use Rattle.widget_model.specs.KeptPlaces.{most_numbers, no_places, place_in, placed, unplaced}
-use Rattle.widget_model.specs.Widgets.{row_at, nodes, with_row, without_row, is_joined}
+use Rattle.widget_model.specs.Widgets.{row_at, nodes, with_row, without_row}
+use Rattle.widget_model.specs.Clients.{is_joined}
 use Rattle.widget_model.specs.Forest.{IsForest, ArePlaces}
 use Rattle.widget_model.proofs.Slots.{most_numbers-is, emptied_slot, still_empty, length-unplaced, unplaced-none, unplaced-own}
 use Rattle.row_store.specs.KeptSlots.{Kept}

@@ -11,7 +11,8 @@ use Rattle.widget_model.specs.Nodes.{Node, node_of, node_at, is_number_of, first
 use Rattle.widget_model.specs.Planted.{IsPlanted}
 use Rattle.widget_model.specs.Fitting.{is_fit, IsFitFilm, HaveFitFilms}
 use Rattle.widget_model.specs.Links.{ties, leads, all_lead}
-use Rattle.widget_model.specs.Widgets.{Widgets, row_at, nodes, with_row, is_joined, row_kind, IsLive}
+use Rattle.widget_model.specs.Widgets.{Widgets, row_at, nodes, with_row, row_kind, IsLive}
+use Rattle.widget_model.specs.Clients.{is_joined}
 use Rattle.widget_model.specs.Forest.{IsForest, IsWidgets, ArePlaces}
 use Rattle.widget_model.specs.Rows.{IsIndex}
 use Rattle.row_store.specs.Places.{cell_place}

@@ -15,8 +15,8 @@ use Rattle.widget_model.specs.Planted.{IsPlanted}
 use Rattle.widget_model.specs.Fitting.{is_fit}
 use Rattle.widget_model.specs.Links.{ties, all_lead}
 use Rattle.widget_model.specs.Relatives.{child_id}
-use Rattle.widget_model.specs.Widgets.{row_at, nodes, without_row, is_joined}
-use Rattle.widget_model.specs.Forest.{is_client}
+use Rattle.widget_model.specs.Widgets.{row_at, nodes, without_row}
+use Rattle.widget_model.specs.Clients.{is_joined, is_client}
 use Rattle.widget_model.proofs.Naming.{rows-without_row, id_named-row}
 use Rattle.tree_core.specs.Children.{rows_in, widgets_in, HasChildren}
 use Rattle.row_store.specs.Index.{IsIndexed}

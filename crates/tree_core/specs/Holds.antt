@@ -3,7 +3,7 @@
 use Rattle.std.specs.Prelude.{ℕ, List, Option}
 use Rattle.std.specs.Option.{option_map_or, option_and_then}
 use Rattle.widget_model.specs.Rows.{Row}
-use Rattle.widget_model.specs.Keys.{key_at}
+use Rattle.widget_model.specs.Widgets.{key_at}
 use Rattle.widget_model.specs.Pointer as model
 use Rattle.widget_model.specs.Pointer.{no_grab, on_widget, drags}
 use Rattle.tree_core.specs.declared.pointer.Grab.{Grab}

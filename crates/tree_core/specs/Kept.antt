@@ -3,7 +3,8 @@
 use Rattle.std.specs.Prelude.{ℕ, ◌≡◌, ◌≤◌, ◌*◌, true, List, Option, length}
 use Rattle.std.specs.List.{list_all}
 use Rattle.widget_model.specs.Rows.{Row}
-use Rattle.widget_model.specs.Widgets.{nodes, is_joined}
+use Rattle.widget_model.specs.Widgets.{nodes}
+use Rattle.widget_model.specs.Clients.{is_joined}
 use Rattle.widget_model.specs.Links.{ties, all_lead}
 use Rattle.widget_model.specs.Forest.{HaveOwnNumbers, HaveOwnNames, IsForest, ArePlaces}
 use Rattle.widget_model.specs.Planted.{IsPlanted}

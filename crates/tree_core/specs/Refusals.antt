@@ -4,7 +4,8 @@ use Rattle.std.specs.Option.{option_map, option_and_then}
 use Rattle.kind_core.specs.declared.kinds.Kind.{Kind}
 use Rattle.kind_core.specs.declared.shapes.Cell.{Cell}
 use Rattle.widget_model.specs.Rows.{Row}
-use Rattle.widget_model.specs.Nodes.{Node, id_named, count_of, any_kind, counts_with}
+use Rattle.widget_model.specs.Nodes.{Node, id_named, count_of}
+use Rattle.widget_model.specs.Kinds.{any_kind, counts_with}
 use Rattle.widget_model.specs.Widgets.{Widgets, rows_of, row_at}
 use Rattle.widget_model.specs.Trees.{hangs, has_children, can_be_child, child_in, depth_of, height_of, is_above, most_levels}
 use Rattle.tree_core.specs.declared.refusal.AddRefusal.{AddRefusal}

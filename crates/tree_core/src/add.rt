@@ -1,7 +1,8 @@
 ghost use Rattle.std.specs.Prelude.{◌≡◌, ◌<◌, ◌≤◌, ◌++◌, ◌∷◌, [], None, true, is_ok, if◌then◌else◌};
 ghost use Rattle.std.specs.List.{list_all};
 ghost use Rattle.widget_model.specs.Rows.{new_row};
-ghost use Rattle.widget_model.specs.Nodes.{id_named, count_of, any_kind, counts_with, is_number_of};
+ghost use Rattle.widget_model.specs.Nodes.{id_named, count_of, is_number_of};
+ghost use Rattle.widget_model.specs.Kinds.{any_kind, counts_with};
 ghost use Rattle.widget_model.specs.Widgets.{row_at, nodes};
 ghost use Rattle.row_store.specs.Counts.{AreCounts};
 ghost use Rattle.row_store.specs.Index.{IsIndexed};

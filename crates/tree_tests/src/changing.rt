@@ -1,6 +1,6 @@
 //! Calls that change the tree. Each answers a word.
 ghost use Rattle.std.specs.Prelude.{◌≡◌, true};
-ghost use Rattle.widget_model.specs.Widgets.{is_joined};
+ghost use Rattle.widget_model.specs.Clients.{is_joined};
 
 use crate::tables::{index, kind, name, number, place, widget};
 use kind_core::{Attr, AttrRefusal, Cell, EventKind, Kind, Value};

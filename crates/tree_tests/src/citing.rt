@@ -6,7 +6,8 @@ ghost use Rattle.widget_model.specs.Forest.{HaveOwnNumbers, HaveOwnNames};
 ghost use Rattle.widget_model.specs.Links.{all_lead, ties};
 ghost use Rattle.widget_model.specs.Planted.{hangs_right, HaveOwnCells};
 ghost use Rattle.widget_model.specs.Trees.{ends_within, most_levels};
-ghost use Rattle.widget_model.specs.Widgets.{IsLive, is_joined, nodes, rows_of};
+ghost use Rattle.widget_model.specs.Widgets.{IsLive, nodes, rows_of};
+ghost use Rattle.widget_model.specs.Clients.{is_joined};
 
 use crate::playing::begin;
 use kind_core::{Name, name_from};

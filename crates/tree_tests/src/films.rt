@@ -1,7 +1,8 @@
 //! The film of a VScreen: none at first, put in, taken out, changed and put back. An admitted VScreen stays.
 ghost use Rattle.std.specs.Prelude.{◌≡◌, Some, true, false, IfOk};
 ghost use Rattle.kind_core.specs.declared.kinds.Kind.TheVariants.{VScreen};
-ghost use Rattle.widget_model.specs.Widgets.{is_joined, row_kind};
+ghost use Rattle.widget_model.specs.Widgets.{row_kind};
+ghost use Rattle.widget_model.specs.Clients.{is_joined};
 
 use crate::playing::{begin, play};
 use kind_core::{Kind, name_from};

@@ -1,7 +1,7 @@
 //! Tables of calls, played on a tree. A row is `CALL WORDS | ANSWER` for a call that changes the tree, and
 //! `has CALL WORDS | yes` or `| no` for what the tree then has.
 ghost use Rattle.std.specs.Prelude.{◌≡◌, true, false, OnOk};
-ghost use Rattle.widget_model.specs.Widgets.{is_joined};
+ghost use Rattle.widget_model.specs.Clients.{is_joined};
 
 use crate::asking::has;
 use crate::changing::change;

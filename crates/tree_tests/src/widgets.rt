@@ -1,6 +1,6 @@
 //! What each call of the tree answers. The names `nobody` and `none` are no widget's.
 ghost use Rattle.std.specs.Prelude.{◌≡◌, true, false};
-ghost use Rattle.widget_model.specs.Widgets.{is_joined};
+ghost use Rattle.widget_model.specs.Clients.{is_joined};
 
 use crate::playing::{begin, join, play, plays};
 use kind_core::{Kind, Name, name_from};

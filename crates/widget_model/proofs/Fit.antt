@@ -1,5 +1,5 @@
 -- Rows stay fit: a new one is, and one is whose value, rule or tag is changed within its range.
-use Rattle.std.proofs.Common.{◌≡◌, ◌≤◌, ◌-◌, ℕ, zero, suc, true, ◌&&◌, nat_eq, nat_le, length, List, [], ◌∷◌, slice_set, Option, Ok, refl, ap, ◌∙◌}
+use Rattle.std.proofs.Common.{◌≡◌, ◌≤◌, ◌-◌, ℕ, zero, suc, true, ◌&&◌, nat_eq, length, List, [], ◌∷◌, slice_set, Option, Ok, refl, ap, ◌∙◌}
 use Rattle.std.proofs.Math.ListN.{length-set}
 use Rattle.std.proofs.lemmas.Bool.{le-leb, and_parts, and_from}
 use Rattle.std.specs.List.{list_all}

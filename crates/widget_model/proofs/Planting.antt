@@ -9,7 +9,7 @@ use Rattle.std.specs.Str.{bytes_eq}
 use Rattle.kind_core.specs.declared.shapes.Cell.{Cell}
 use Rattle.widget_model.specs.Rows.{Row, with_attached}
 use Rattle.widget_model.specs.Named.{has_name, row_named, with_named, without_named, rows_of_others}
-use Rattle.widget_model.specs.Trees.{hangs, parent_of, is_child, depth_of, height_of, ends_within, root_in, is_used, links_to, most_levels}
+use Rattle.widget_model.specs.Trees.{hangs, parent_of, is_child, depth_of, height_of, ends_within, root_in, is_used, most_levels}
 use Rattle.widget_model.specs.Planted.{hangs_right, IsPlanted}
 use Rattle.widget_model.specs.Named.{AreNamedApart}
 use Rattle.widget_model.proofs.Hanging.{find-element, all_at, all_from, none_at, all-filter, IsNamed-row_named, LeavesNames, changed, row_named-map, row_named-only, row_named-changed_other, row_named-filter, LeavesNames-changed, parent_in, parent_in-loose, parent_in-same, HangsIn-from, IsHungRight, hangs_right-at, hangs_right-from}

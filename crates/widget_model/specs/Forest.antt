@@ -1,12 +1,14 @@
 -- What holds of the widgets at every moment.
-use Rattle.std.specs.Prelude.{ℕ, ◌≡◌, ◌≤◌, Bool, true, ◌&&◌, nat_le, List, [], ◌∷◌, length, Option, None}
+use Rattle.std.specs.Prelude.{ℕ, ◌≡◌, ◌≤◌, true, List, [], ◌∷◌, length, Option, None}
 use Rattle.std.specs.List.{list_all}
 use Rattle.geom_core.specs.declared.rectangle.Rect.{Rect}
 use Rattle.kind_core.specs.declared.kinds.Kind.{Kind}
-use Rattle.widget_model.specs.Nodes.{Node, id_named, node_at, count_of, any_kind, counts_with, is_number_of}
+use Rattle.widget_model.specs.Nodes.{Node, id_named, node_at, count_of, is_number_of}
+use Rattle.widget_model.specs.Kinds.{any_kind, counts_with}
 use Rattle.widget_model.specs.Rows.{Row}
 use Rattle.widget_model.specs.KeptPlaces.{most_numbers, place_in}
-use Rattle.widget_model.specs.Widgets.{Widgets, nodes, rows_of, row_at, is_joined}
+use Rattle.widget_model.specs.Widgets.{Widgets, nodes, rows_of, row_at}
+use Rattle.widget_model.specs.Clients.{is_client, is_joined}
 use Rattle.widget_model.specs.Links.{ties, all_lead}
 use Rattle.widget_model.specs.Planted.{IsPlanted}
 use Rattle.widget_model.specs.Fitting.{is_fit, HaveFitFilms}
@@ -20,9 +22,6 @@ HaveOwnNumbers (entry ∷ entries) = (node_at entries entry.0 ≡ None) × HaveO
 abbrev pub HaveOwnNames : List (ℕ × Node) → Type 0
 HaveOwnNames [] = Unit {0}
 HaveOwnNames (entry ∷ entries) = (id_named entries entry.1.client entry.1.name ≡ None) × HaveOwnNames entries
-
-abbrev pub is_client : ℕ → Bool
-is_client client = nat_le 1 client && nat_le client 16
 
 -- Numbers and names are each node's own, each number is one of its client's, each client is joined and is
 -- 1 to 16, and the counts are within their limits: 128 widgets, 8 Windows and 8 VScreens of a client.

@@ -5,7 +5,6 @@ use Rattle.std.specs.Str.{bytes_eq}
 use Rattle.widget_model.specs.Rows.{Row}
 use Rattle.widget_model.specs.Named.{row_named}
 use Rattle.widget_model.specs.Trees.{parent_of, root_of}
-use Rattle.widget_model.specs.Widgets.{row_at}
 
 abbrev pub key_of : Row → ℕ × List ℕ
 key_of row = (row.client, row.name)
@@ -24,7 +23,3 @@ parent_key rows key = option_map (λ name. (key.0, name)) (parent_of rows key.0 
 -- the key of the widget without a parent that is above it, or its own
 abbrev pub root_key : List Row → ℕ × List ℕ → ℕ × List ℕ
 root_key rows key = (key.0, root_of rows key.0 key.1)
-
--- the key of the numbered row
-abbrev pub key_at : List (ℕ × Row) → ℕ → Option (ℕ × List ℕ)
-key_at entries id = option_map key_of (row_at entries id)

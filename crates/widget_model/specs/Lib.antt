@@ -1,4 +1,5 @@
 pub mod Kinds
+pub mod Clients
 pub mod Rows
 pub mod Nodes
 pub mod KeptPlaces

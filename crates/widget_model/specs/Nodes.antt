@@ -1,9 +1,8 @@
 -- The node of a row is what names it: its client, name and kind. No call changes the node of a row.
-use Rattle.std.specs.Prelude.{ℕ, ◌+◌, ◌-◌, ◌*◌, Bool, true, false, ◌&&◌, nat_eq, nat_lt, nat_le, List, [], ◌∷◌, Option, Some, None, if◌then◌else◌}
+use Rattle.std.specs.Prelude.{ℕ, ◌+◌, ◌-◌, ◌*◌, Bool, ◌&&◌, nat_eq, nat_lt, nat_le, List, [], ◌∷◌, Option, Some, None, if◌then◌else◌}
 use Rattle.std.specs.List.{count_by}
 use Rattle.std.specs.Str.{bytes_eq}
 use Rattle.kind_core.specs.declared.kinds.Kind.{Kind}
-use Rattle.kind_core.specs.declared.kinds.Kind.TheVariants.{Window, VScreen}
 use Rattle.widget_model.specs.Rows.{Row}
 
 pub record Node : Type 0 where
@@ -36,20 +35,6 @@ node_at (entry ∷ entries) id = if nat_eq id entry.0 then Some entry.1 else nod
 -- how many nodes of the client have a kind that passes the test
 abbrev pub count_of : ℕ → (Kind → Bool) → List (ℕ × Node) → ℕ
 count_of client test entries = count_by (λ entry. nat_eq client entry.1.client && test entry.1.kind) entries
-
-abbrev pub any_kind : Kind → Bool
-any_kind kind = true
-
--- Windows are counted together, and so are VScreens.
-abbrev pub counts_with : Kind → Kind → Bool
-counts_with Window Window = true
-counts_with VScreen VScreen = true
-counts_with _ _ = false
-
--- All kinds are counted, or those that are counted with the given one.
-abbrev pub counted : Option Kind → Kind → Bool
-counted None kind = true
-counted (Some kind) other = counts_with kind other
 
 -- The numbers of a client are 128 of its own, so that all numbers are below 2,048.
 abbrev pub first_number : ℕ → ℕ

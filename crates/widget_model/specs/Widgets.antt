@@ -1,14 +1,15 @@
 -- The widgets of a desk: the joined clients in the order of joining, the rows in the order of making, each with
 -- its number, and the places that are kept of the widgets. A row is named by its client and name; a number names
 -- its row until that row is removed.
-use Rattle.std.specs.Prelude.{ℕ, ◌≡◌, Bool, not, nat_eq, List, [], ◌∷◌, ◌++◌, map, Option, Some, None, IsSome, if◌then◌else◌}
-use Rattle.std.specs.List.{list_any, filter}
+use Rattle.std.specs.Prelude.{ℕ, ◌≡◌, not, nat_eq, List, [], ◌∷◌, ◌++◌, map, Option, Some, None, IsSome, if◌then◌else◌}
+use Rattle.std.specs.List.{filter}
 use Rattle.std.specs.Option.{option_map}
 use Rattle.geom_core.specs.declared.rectangle.Rect.{Rect}
 use Rattle.kind_core.specs.declared.kinds.Kind.{Kind}
 use Rattle.kind_core.specs.declared.kinds.Kind.TheVariants.{Grid}
 use Rattle.widget_model.specs.Rows.{Row}
 use Rattle.widget_model.specs.Nodes.{Node, node_of}
+use Rattle.widget_model.specs.Keys.{key_of}
 use Rattle.widget_model.specs.KeptPlaces.{no_places, place_in, placed, unplaced}
 
 pub record Widgets : Type 0 where
@@ -19,9 +20,6 @@ pub record Widgets : Type 0 where
 -- At first there are none.
 abbrev pub no_widgets : Widgets
 no_widgets = record { clients = []; entries = []; places = no_places }
-
-abbrev pub is_joined : List ℕ → ℕ → Bool
-is_joined clients client = list_any (nat_eq client) clients
 
 -- the rows in the order of making
 abbrev pub rows_of : Widgets → List Row
@@ -51,6 +49,10 @@ row_kind entries id = option_map (λ row. row.kind) (row_at entries id)
 
 abbrev pub row_client : List (ℕ × Row) → ℕ → Option ℕ
 row_client entries id = option_map (λ row. row.client) (row_at entries id)
+
+-- the key of the numbered row
+abbrev pub key_at : List (ℕ × Row) → ℕ → Option (ℕ × List ℕ)
+key_at entries id = option_map key_of (row_at entries id)
 
 -- the number names a Grid
 abbrev pub IsGrid : Widgets → ℕ → Type 0

@@ -1,6 +1,6 @@
 use Rattle.std.proofs.Common.{true, false, sym, ap, ◌∙◌}
 use Rattle.std.specs.Option.{option_and_then}
-use Rattle.widget_model.specs.Keys.{key_at}
+use Rattle.widget_model.specs.Widgets.{key_at}
 use Rattle.desk_model.specs.LetGo.{is_in_window, focus_left}
 use Rattle.desk_core.specs.Parts.{desk_of}
 use Rattle.desk_core.proofs.InWindows.{focus-left}

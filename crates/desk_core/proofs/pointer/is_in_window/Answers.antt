@@ -1,4 +1,4 @@
-use Rattle.widget_model.specs.Keys.{key_at}
+use Rattle.widget_model.specs.Widgets.{key_at}
 use Rattle.desk_core.proofs.InWindows.{in_window-live, if_some-same}
 use Rattle.desk_core.proofs.pointer.is_in_window.Goals as goal
 

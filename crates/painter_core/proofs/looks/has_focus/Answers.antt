@@ -4,7 +4,8 @@ use Rattle.scene_core.specs.Children.{row_for}
 use Rattle.scene_core.proofs.Numbered.{live-there}
 use Rattle.std.specs.Option.{option_map_or, option_and_then}
 use Rattle.tree_core.specs.declared.id.Id.{Id}
-use Rattle.widget_model.specs.Keys.{key_of, key_at, same_key}
+use Rattle.widget_model.specs.Keys.{key_of, same_key}
+use Rattle.widget_model.specs.Widgets.{key_at}
 use Rattle.painter_core.proofs.LookLemmas.{same_number}
 use Rattle.painter_core.proofs.looks.has_focus.Goals as goal
 

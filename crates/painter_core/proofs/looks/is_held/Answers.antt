@@ -3,7 +3,8 @@ use Rattle.scene_core.specs.Children.{row_for}
 use Rattle.scene_core.proofs.Numbered.{live-there}
 use Rattle.tree_core.specs.declared.pointer.Grab.{Grab}
 use Rattle.tree_core.specs.Holds.{grab_seen}
-use Rattle.widget_model.specs.Keys.{key_of, key_at}
+use Rattle.widget_model.specs.Keys.{key_of}
+use Rattle.widget_model.specs.Widgets.{key_at}
 use Rattle.scene_model.specs.LookOf.{grabs}
 use Rattle.painter_core.proofs.LookLemmas.{same_number, grabs-widget}
 use Rattle.painter_core.proofs.looks.is_held.Goals as goal

@@ -1,6 +1,7 @@
 use Rattle.std.proofs.Common.{◌≡◌, ◌<◌, false, None, Some, is_some, refl, sym, ap, ◌∙◌, arith}
 use Rattle.std.proofs.lemmas.Bool.{lt-leb}
-use Rattle.widget_model.specs.Nodes.{id_named, count_of, any_kind, counts_with}
+use Rattle.widget_model.specs.Nodes.{id_named, count_of}
+use Rattle.widget_model.specs.Kinds.{any_kind, counts_with}
 use Rattle.widget_model.specs.Widgets.{nodes}
 use Rattle.row_store.proofs.CountsLemmas.{number_alike-count_of}
 use Rattle.tree_core.proofs.add.add_refusal.Goals as goal

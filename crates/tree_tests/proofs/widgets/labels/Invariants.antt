@@ -1,6 +1,6 @@
 -- the client is joined
 use Rattle.std.proofs.Common.{◌≡◌, true}
-use Rattle.widget_model.specs.Widgets.{is_joined}
+use Rattle.widget_model.specs.Clients.{is_joined}
 use Rattle.tree_tests.proofs.widgets.labels.Given as goal
 
 abbrev pub invariant-loop-i : goal.invariant-loop-i

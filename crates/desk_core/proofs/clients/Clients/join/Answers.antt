@@ -1,5 +1,5 @@
 use Rattle.std.proofs.Common.{ℕ, List, sym, ap, ◌∙◌, subst, lit<}
-use Rattle.widget_model.specs.Widgets.{is_joined}
+use Rattle.widget_model.specs.Clients.{is_joined}
 use Rattle.desk_core.specs.ClientList.{IsJoined}
 use Rattle.desk_core.proofs.ClientLists.{room_for_one, IsJoined-push}
 use Rattle.desk_core.proofs.clients.Clients.join.Goals as goal

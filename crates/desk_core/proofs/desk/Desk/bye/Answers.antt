@@ -1,7 +1,7 @@
 use Rattle.std.proofs.Common.{◌≡◌, ◌↔◌, IsTrue, nat_lt, true, false, sym, ap, ◌∙◌, subst, arith}
 use Rattle.std.proofs.lemmas.Bool.{ltb-true, lt-ltb}
 use Rattle.cmd_words.specs.declared.replies.Reply.{Reply}
-use Rattle.widget_model.specs.Nodes.{any_kind}
+use Rattle.widget_model.specs.Kinds.{any_kind}
 use Rattle.widget_model.specs.Named.{rows_counted}
 use Rattle.desk_model.specs.DeskFacts.{IsDesk}
 use Rattle.desk_model.specs.Desk.{Desk}

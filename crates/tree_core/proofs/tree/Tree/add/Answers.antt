@@ -1,6 +1,7 @@
 use Rattle.std.proofs.Common.{◌≡◌, ◌∷◌, ◌++◌, [], ℕ, List, is_ok, is_some, true, sym, ap, ◌∙◌, subst, arith}
 use Rattle.widget_model.specs.Rows.{Row, new_row}
-use Rattle.widget_model.specs.Widgets.{Widgets, nodes, is_joined, row_at}
+use Rattle.widget_model.specs.Widgets.{Widgets, nodes, row_at}
+use Rattle.widget_model.specs.Clients.{is_joined}
 use Rattle.row_store.specs.Index.{IsIndexed}
 use Rattle.row_store.specs.Counts.{AreCounts}
 use Rattle.tree_core.specs.Kept.{IsCounted}

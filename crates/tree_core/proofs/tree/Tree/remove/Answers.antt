@@ -2,7 +2,7 @@ use Rattle.std.proofs.Common.{◌≡◌, ℕ, List, Bool, true, false, cond, Som
 use Rattle.std.specs.Cmp.{nat_eq_equiv}
 use Rattle.std.specs.Option.{option_map}
 use Rattle.widget_model.specs.Rows.{Row}
-use Rattle.widget_model.specs.Nodes.{counts_with}
+use Rattle.widget_model.specs.Kinds.{counts_with}
 use Rattle.widget_model.specs.Trees.{is_used}
 use Rattle.widget_model.specs.Widgets.{Widgets, row_at, nodes, without_row}
 use Rattle.tree_core.specs.Children.{rows_in}
