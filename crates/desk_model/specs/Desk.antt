@@ -1,10 +1,10 @@
 -- The desk: what the sequential server keeps. Widgets are named by client and name. No frame is admitted and no
 -- event is kept yet, so the roster and the rings are empty.
-use Rattle.std.specs.Prelude.{ℕ, ℤ, Bool, false, ◌&&◌, nat_eq, List, [], None}
+use Rattle.std.specs.Prelude.{ℕ, Bool, false, ◌&&◌, nat_eq, List, [], None}
 use Rattle.std.specs.List.{list_any}
 use Rattle.std.specs.Str.{bytes_eq}
-use Rattle.kind_core.specs.declared.kinds.EventKind.{EventKind}
 use Rattle.kind_core.specs.declared.shapes.Shape.{Shape}
+use Rattle.bind_core.specs.Ring.{RingState}
 use Rattle.widget_model.specs.Rows.{Row}
 use Rattle.widget_model.specs.Pointer.{Pointer, no_grab}
 
@@ -14,12 +14,11 @@ pub record Admission : Type 0 where
   pub name : List ℕ
   pub share : ℕ
 
--- the events kept for a client, the oldest first, each with its tag and two numbers, which may be negative (a
--- release can be left of its widget or above it), and how many were lost
+-- the events kept for a client, each with its tag and two numbers, which may be negative (a release can be left of its
+-- widget or above it), and how many were lost
 pub record Ring : Type 0 where
   pub client : ℕ
-  pub kept : List (List ℕ × EventKind × ℤ × ℤ)
-  pub lost : ℕ
+  pub events : RingState
 
 pub record Desk : Type 0 where
   pub shape : Shape
@@ -32,6 +31,7 @@ pub record Desk : Type 0 where
   pub pointer : Pointer
   -- in the order of admission
   pub roster : List Admission
+  -- one for each connected client, in the order of connecting
   pub rings : List Ring
 
 -- At opening the pointer is at the upper left corner, up, with nothing grabbed and no focus.
@@ -51,3 +51,7 @@ is_window client name window = nat_eq client window.0 && bytes_eq name window.1
 
 abbrev pub is_open : Desk → ℕ → List ℕ → Bool
 is_open desk client name = list_any (is_window client name) desk.windows
+
+-- whether the admission is of the VScreen with this client and name
+abbrev pub is_admission : ℕ → List ℕ → Admission → Bool
+is_admission client name admission = nat_eq client admission.client && bytes_eq name admission.name

@@ -12,6 +12,8 @@ pub mod Tracks
 pub mod Links
 pub mod Bindings
 pub mod Windows
+pub mod Screens
+pub mod Polling
 pub mod Clients
 pub mod Commands
 pub mod DeskFacts
@@ -22,3 +24,4 @@ pub mod InputEdits
 pub mod InputValues
 pub mod InputTable
 pub mod Inputs
+pub mod Feeding
