@@ -1,9 +1,8 @@
 -- What the pointer lets go of where a client leaves: the same as where the client's windows close.
-use Rattle.std.proofs.Common.{◌≡◌, ℕ, Bool, true, false, cond, not, ◌&&◌, nat_eq, List, [], ◌∷◌, Option, Some, None, refl, sym, ap, ◌∙◌}
+use Rattle.std.proofs.Common.{◌≡◌, ℕ, Bool, true, false, cond, not, nat_eq, List, [], ◌∷◌, Option, Some, None, refl, sym, ap, ◌∙◌}
 use Rattle.std.proofs.lemmas.Bool.{true≢false, eqb-true}
-use Rattle.std.specs.List.{filter, list_any}
-use Rattle.std.specs.Str.{bytes_eq}
-use Rattle.widget_model.specs.Pointer.{Pointer, Grab, no_grab, on_widget, drags}
+use Rattle.std.specs.List.{list_any}
+use Rattle.widget_model.specs.Pointer.{Grab, no_grab, on_widget, drags}
 use Rattle.widget_model.specs.Trees.{root_of}
 use Rattle.desk_model.specs.Desk.{Desk, is_window}
 use Rattle.desk_model.specs.Clients.{without_client}

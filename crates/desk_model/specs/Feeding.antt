@@ -13,8 +13,7 @@ use Rattle.bind_core.specs.Posting.{after_post}
 use Rattle.widget_model.specs.Rows.{Row, with_attr, binding_of}
 use Rattle.widget_model.specs.Named.{with_named}
 use Rattle.widget_model.specs.Keys.{row_of}
-use Rattle.widget_model.specs.Pointer.{Pointer, Grab, no_grab, on_widget, drags}
-use Rattle.scene_model.specs.Scene.{Scene}
+use Rattle.widget_model.specs.Pointer.{Grab, no_grab, on_widget, drags}
 use Rattle.scene_model.specs.Showing.{place_of, top_of}
 use Rattle.desk_model.specs.Desk.{Desk, Ring}
 use Rattle.desk_model.specs.Seen.{scene_of}

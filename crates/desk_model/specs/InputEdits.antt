@@ -1,5 +1,5 @@
 -- The edits that a key makes in an Entry, and where a press puts its caret. A caret stands behind that many bytes.
-use Rattle.std.specs.Prelude.{ℕ, ℤ, pos, ◌+◌, ◌-◌, ◌/◌, ◌-ℤ◌, min, Bool, ◌&&◌, nat_eq, nat_lt, int_lt, unsigned_abs, List, length, Option, Some, None, if◌then◌else◌}
+use Rattle.std.specs.Prelude.{ℕ, ℤ, pos, ◌+◌, ◌-◌, ◌/◌, ◌-ℤ◌, min, ◌&&◌, nat_eq, nat_lt, int_lt, unsigned_abs, List, length, Option, Some, None, if◌then◌else◌}
 use Rattle.std.specs.List.{insert, remove}
 use Rattle.kind_core.specs.Bytes.{is_printable}
 

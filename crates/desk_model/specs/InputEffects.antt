@@ -1,6 +1,6 @@
 -- What an input asks of the desk. A place is the rectangle of a widget on the screen; a local pixel is the pointer's
 -- pixel less the left and upper side of a place, and may be negative.
-use Rattle.std.specs.Prelude.{ℕ, ℤ, pos, ◌-ℤ◌, List, [], ◌∷◌, Option, Some, None, is_some, if◌then◌else◌}
+use Rattle.std.specs.Prelude.{ℕ, ℤ, pos, ◌-ℤ◌, List, [], ◌∷◌, Option, None, is_some, if◌then◌else◌}
 use Rattle.std.specs.Option.{option_map_or}
 use Rattle.kind_core.specs.declared.kinds.EventKind.{EventKind}
 use Rattle.geom_core.specs.declared.rectangle.Rect.{Rect}

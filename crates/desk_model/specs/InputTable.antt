@@ -1,6 +1,6 @@
 -- The table of inputs: what the pointer's motion, press and release and a key do, each by a definition with its cases
 -- in order. `held` is the place of the widget that is grabbed.
-use Rattle.std.specs.Prelude.{ℕ, ℤ, pos, ◌-◌, ◌-ℤ◌, ◌++◌, min, Bool, true, false, ◌&&◌, not, int_lt, length, unsigned_abs, List, [], Option, Some, None, if◌then◌else◌}
+use Rattle.std.specs.Prelude.{ℕ, pos, ◌-◌, ◌-ℤ◌, ◌++◌, min, Bool, true, false, ◌&&◌, not, int_lt, length, unsigned_abs, List, [], Option, Some, None, if◌then◌else◌}
 use Rattle.std.specs.Option.{option_map, option_map_or, option_and_then}
 use Rattle.std.specs.Ordering.{int_eq}
 use Rattle.kind_core.specs.declared.kinds.Kind.{Kind}
@@ -15,7 +15,7 @@ use Rattle.widget_model.specs.Keys.{key_of, same_key, row_of, root_key}
 use Rattle.widget_model.specs.Pointer.{Pointer, Grab, no_grab, on_widget, drags}
 use Rattle.scene_model.specs.Values.{number_of, text_of, caret_of}
 use Rattle.desk_model.specs.InputEffects.{Hit, Effects, only_pointer, posted, posted_at, local_x, local_y, at_widget}
-use Rattle.desk_model.specs.InputEdits.{Edit, edit_of, caret_at}
+use Rattle.desk_model.specs.InputEdits.{edit_of, caret_at}
 use Rattle.desk_model.specs.InputValues.{valued}
 
 -- MOTION. A Window that is dragged keeps its pixel (dx, dy) under the pointer, as far as its range lets it. Where it

@@ -1,5 +1,5 @@
 -- The value that a Scale or Scrollbar takes from the pointer: the one at which its knob's middle is nearest to it.
-use Rattle.std.specs.Prelude.{ℕ, ℤ, pos, ◌-◌, ◌*◌, ◌/◌, ◌-ℤ◌, Bool, nat_le, unsigned_abs, List, Option, Some, if◌then◌else◌}
+use Rattle.std.specs.Prelude.{ℕ, ℤ, pos, ◌-◌, ◌*◌, ◌/◌, ◌-ℤ◌, nat_le, unsigned_abs, List, Some, if◌then◌else◌}
 use Rattle.std.specs.Option.{option_map_or}
 use Rattle.std.specs.Ordering.{int_eq}
 use Rattle.kind_core.specs.declared.kinds.Kind.{Kind}

@@ -1,12 +1,11 @@
 -- The events that clients haven't polled yet, and the command that polls one.
-use Rattle.std.specs.Prelude.{ℕ, Bool, nat_eq, List, map, Option, if◌then◌else◌}
+use Rattle.std.specs.Prelude.{ℕ, nat_eq, List, map, if◌then◌else◌}
 use Rattle.std.specs.List.{find}
 use Rattle.std.specs.Option.{option_map_or}
 use Rattle.cmd_words.specs.declared.replies.Reply as reply
 use Rattle.cmd_words.specs.declared.replies.Reply.{Reply}
 use Rattle.bind_core.specs.declared.polled.Polled.{Polled}
 use Rattle.bind_core.specs.declared.polled.Polled.TheVariants as polled
-use Rattle.bind_core.specs.declared.posted.Posted.{Posted}
 use Rattle.bind_core.specs.Ring.{RingState, new_ring}
 use Rattle.bind_core.specs.Polling.{poll_answer, after_poll}
 use Rattle.desk_model.specs.Desk.{Desk, Ring}

@@ -1,6 +1,6 @@
 -- The commands on VScreens: `mode`, `admit`, `leave` and `frame`. A VScreen shows the frames of its film; while it is
 -- admitted with a period, a part of the budget is set aside for it.
-use Rattle.std.specs.Prelude.{ℕ, ℤ, pos, ◌+◌, ◌-◌, Bool, true, false, not, nat_lt, nat_eq, List, [], ◌∷◌, ◌++◌, length, Option, Some, None, is_none, unsigned_abs, if◌then◌else◌}
+use Rattle.std.specs.Prelude.{ℕ, ℤ, pos, ◌+◌, ◌-◌, Bool, true, false, not, nat_lt, nat_eq, List, [], ◌∷◌, ◌++◌, length, Option, Some, is_none, unsigned_abs, if◌then◌else◌}
 use Rattle.std.specs.List.{filter, sum_by}
 use Rattle.std.specs.Option.{option_map, option_map_or, option_and_then}
 use Rattle.kind_core.specs.declared.kinds.Kind.{Kind}
@@ -81,11 +81,13 @@ admission_of desk client name period =
     record { client = client; name = name; share = option_map_or (λ film. share_wanted film period) (film_named desk.rows client name) 0 }
 
 abbrev pub admit_effect : Desk → ℕ → List ℕ → ℤ → Reply × Desk
-admit_effect desk client name period =
-    (Done, record desk {
-      rows = with_named client name (with_film_changed (λ film. begun film (unsigned_abs period))) desk.rows;
-      roster = other_admissions client name desk.roster ++ admission_of desk client name period ∷ [];
-    })
+admit_effect desk client name period = (
+  Done,
+  record desk {
+    rows = with_named client name (with_film_changed (λ film. begun film (unsigned_abs period))) desk.rows;
+    roster = other_admissions client name desk.roster ++ admission_of desk client name period ∷ [];
+  },
+)
 
 unfoldable pub step_admit : Desk → ℕ → List ℕ → ℤ → Reply × Desk
 step_admit desk client name period = outcome desk (admit_refusal desk client name period) (admit_effect desk client name period)
@@ -97,11 +99,13 @@ leave_refusal desk client name =
     first_refusal (unless_there row ∷ unless_kind is_screen row ∷ when (not (option_map_or is_admitted row false)) NotAdmitted ∷ [])
 
 abbrev pub leave_effect : Desk → ℕ → List ℕ → Reply × Desk
-leave_effect desk client name =
-    (Done, record desk {
-      rows = with_named client name (with_film_changed settled) desk.rows;
-      roster = other_admissions client name desk.roster;
-    })
+leave_effect desk client name = (
+  Done,
+  record desk {
+    rows = with_named client name (with_film_changed settled) desk.rows;
+    roster = other_admissions client name desk.roster;
+  },
+)
 
 unfoldable pub step_leave : Desk → ℕ → List ℕ → Reply × Desk
 step_leave desk client name = outcome desk (leave_refusal desk client name) (leave_effect desk client name)
