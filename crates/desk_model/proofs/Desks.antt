@@ -6,7 +6,7 @@ use Rattle.std.proofs.lemmas.Option.{same_Some}
 use Rattle.std.specs.Prelude.{IfSome}
 use Rattle.std.specs.Option.{option_map}
 use Rattle.cmd_words.specs.declared.commands.Command.{Command}
-use Rattle.cmd_words.specs.declared.commands.Command.TheVariants.{New, Set, Get, Place, Lift, ColumnConfig, RowConfig, Link, Unlink, Bind, Unbind, OpenWindow, DropWidget}
+use Rattle.cmd_words.specs.declared.commands.Command.TheVariants.{New, Set, Get, Place, Lift, ColumnConfig, RowConfig, Link, Unlink, Bind, Unbind, OpenWindow, CloseWindow, TopWindow, DropWidget}
 use Rattle.cmd_words.specs.declared.replies.Reply.{Reply}
 use Rattle.cmd_words.specs.declared.replies.Reply.TheVariants.{Done}
 use Rattle.cmd_words.specs.declared.replies.Refusal.{Refusal}
@@ -28,7 +28,8 @@ use Rattle.desk_model.proofs.KeptOut.{IsSound-without_client}
 use Rattle.desk_model.proofs.KeptWidgets.{IsSound-new, IsSound-set, IsSound-get, IsSound-drop}
 use Rattle.desk_model.proofs.KeptPlacement.{IsSound-place, IsSound-lift}
 use Rattle.desk_model.proofs.KeptTracks.{IsSound-track}
-use Rattle.desk_model.proofs.KeptLinks.{IsSound-link, IsSound-unlink, IsSound-bind, IsSound-open}
+use Rattle.desk_model.proofs.KeptLinks.{IsSound-link, IsSound-unlink, IsSound-bind}
+use Rattle.desk_model.proofs.KeptWindows.{IsSound-open, IsSound-close, IsSound-top}
 
 IsSound-opening : (shape : Shape) → IsShape shape → IsSound (opening_desk shape)
 IsSound-opening shape is =
@@ -106,6 +107,8 @@ IsSound-row desk client (Unlink name) short sound joined = IsSound-unlink desk c
 IsSound-row desk client (Bind name event tag) short sound joined = IsSound-bind desk client name event (Some tag) sound
 IsSound-row desk client (Unbind name event) short sound joined = IsSound-bind desk client name event None sound
 IsSound-row desk client (OpenWindow name) short sound joined = IsSound-open desk client name sound
+IsSound-row desk client (CloseWindow name) short sound joined = IsSound-close desk client name sound
+IsSound-row desk client (TopWindow name) short sound joined = IsSound-top desk client name sound
 IsSound-row desk client (DropWidget name) short sound joined = IsSound-drop desk client name sound
 IsSound-row desk client _ short sound joined = tt
 

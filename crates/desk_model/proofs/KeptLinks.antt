@@ -1,24 +1,22 @@
--- Linking a widget to a Variable, binding its events and opening a window leave a sound desk.
+-- Linking a widget to a Variable and binding its events leave a sound desk.
 use Rattle.std.proofs.Common.{◌≡◌, ℕ, Bool, true, not, ◌&&◌, List, [], ◌∷◌, Option, Some, None, refl, sym, ap, ◌∙◌}
-use Rattle.std.proofs.lemmas.Bool.{and_parts, and_from, not-false}
+use Rattle.std.proofs.lemmas.Bool.{and_parts, not-false}
 use Rattle.kind_core.specs.declared.kinds.EventKind.{EventKind}
-use Rattle.cmd_words.specs.declared.replies.Refusal.{Refusal}
-use Rattle.cmd_words.specs.declared.replies.Refusal.TheVariants.{WrongKind, AlreadyOpen}
+use Rattle.cmd_words.specs.declared.replies.Refusal.TheVariants.{WrongKind}
 use Rattle.widget_model.specs.Rows.{Row, with_link, with_binding}
 use Rattle.widget_model.specs.Named.{row_named, is_kind_of}
 use Rattle.widget_model.specs.Planted.{IsPlanted}
-use Rattle.desk_model.specs.Desk.{Desk, is_open}
-use Rattle.desk_model.specs.Refusals.{when, unless_there, unless_kind}
+use Rattle.desk_model.specs.Desk.{Desk}
+use Rattle.desk_model.specs.Refusals.{when, unless_there}
 use Rattle.desk_model.specs.Links.{link_refusal, link_effect, unlink_refusal, unlink_effect, step_link, step_unlink}
 use Rattle.desk_model.specs.Bindings.{bind_refusal, bind_effect, step_bind}
-use Rattle.desk_model.specs.Windows.{open_refusal, open_effect, step_open}
-use Rattle.widget_model.specs.Kinds.{can_link, is_variable_kind, is_window_kind}
+use Rattle.widget_model.specs.Kinds.{can_link, is_variable_kind}
 use Rattle.desk_model.specs.DeskFacts.{links_right, links_by_kind}
 use Rattle.widget_model.proofs.Hanging.{IsNamed-row_named}
 use Rattle.widget_model.proofs.Planting.{IsPlanted-change}
 use Rattle.desk_model.proofs.Sound.{IsSound, IsSound-outcome}
 use Rattle.desk_model.proofs.KeptRows.{Suits, Suits-change, IsSound-with_named}
-use Rattle.desk_model.proofs.Refusals.{passed, when-none, unless_there-none, unless_kind-none}
+use Rattle.desk_model.proofs.Refusals.{passed, when-none, unless_there-none}
 use Rattle.desk_model.proofs.Tracks.{has_slots-with_binding}
 
 Suits-with_link : (rows : List Row) (client : ℕ) (name : List ℕ) (row : Row) (link : Option (List ℕ)) → IsPlanted rows → links_right rows (with_link link row) ≡ true → links_by_kind (with_link link row) ≡ true → Suits rows client name row (with_link link)
@@ -73,24 +71,3 @@ IsSound-bind desk client name event tag sound = IsSound-outcome desk (bind_refus
         IsSound-with_named desk client name found.0 (with_binding event tag) sound found.1
         (Suits-change desk.rows client name found.0 (with_binding event tag) (record { leaves = record { client = λ row. refl; name = λ row. refl; kind = λ row. refl }; attached = λ row. refl }) (λ row. refl) sound.rows.planted
         (λ h. h) (λ h. h) (λ h. has_slots-with_binding event tag found.0 ∙ h))
-
-pub IsSound-open : (desk : Desk) (client : ℕ) (name : List ℕ) → IsSound desk → IsSound (step_open desk client name).1
-unfolding step_open
-IsSound-open desk client name sound = IsSound-outcome desk (open_refusal desk client name) (open_effect desk client name) sound done
-  where
-    done : open_refusal desk client name ≡ None → IsSound (open_effect desk client name).1
-    done none =
-        let last : Option Refusal = when (is_open desk client name) AlreadyOpen in
-        let one = passed (unless_there (row_named desk.rows client name)) (unless_kind is_window_kind (row_named desk.rows client name) ∷ last ∷ []) none in
-        let two = passed (unless_kind is_window_kind (row_named desk.rows client name)) (last ∷ []) one.1 in
-        let three = passed last [] two.1 in
-        record {
-          shape = sound.shape;
-          clients = sound.clients;
-          connected_once = sound.connected_once;
-          rows = sound.rows;
-          windows = record {
-            there = and_from _ _ (unless_kind-none is_window_kind (row_named desk.rows client name) two.0) sound.windows.there;
-            once = (when-none (is_open desk client name) AlreadyOpen three.0, sound.windows.once);
-          };
-        }

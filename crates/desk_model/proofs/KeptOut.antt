@@ -23,7 +23,7 @@ use Rattle.widget_model.proofs.Planting.{IsPlanted-remove, IsPlanted-others}
 use Rattle.desk_model.proofs.Sound.{AreRows, names_window, IsSound}
 
 -- what holds of all or of none holds so of those that are kept
-all-kept : {X : Type 0} (p q : X → Bool) (xs : List X) → list_all p xs ≡ true → list_all p (filter q xs) ≡ true
+pub all-kept : {X : Type 0} (p q : X → Bool) (xs : List X) → list_all p xs ≡ true → list_all p (filter q xs) ≡ true
 all-kept p q xs all = all-filter p q xs (λ i x there kept. all_at p xs i x all there)
 
 none-kept : {X : Type 0} (p q : X → Bool) (xs : List X) → list_any p xs ≡ false → list_any p (filter q xs) ≡ false
@@ -45,7 +45,7 @@ AreNamedApart-filter q (row ∷ rows) apart = by (AreNamedApart-filter q rows ap
     by rest true = (none-kept (has_name row.client row.name) q rows apart.0, rest)
     by rest false = rest
 
-AreOpenOnce-filter : (q : ℕ × List ℕ → Bool) (windows : List (ℕ × List ℕ)) → AreOpenOnce windows → AreOpenOnce (filter q windows)
+pub AreOpenOnce-filter : (q : ℕ × List ℕ → Bool) (windows : List (ℕ × List ℕ)) → AreOpenOnce windows → AreOpenOnce (filter q windows)
 AreOpenOnce-filter q [] once = tt
 AreOpenOnce-filter q (window ∷ windows) once = by (AreOpenOnce-filter q windows once.1) (q window)
   where

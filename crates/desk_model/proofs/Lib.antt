@@ -17,5 +17,6 @@ pub mod KeptWidgets
 pub mod KeptPlacement
 pub mod KeptTracks
 pub mod KeptLinks
+pub mod KeptWindows
 pub mod Desks
 pub mod ByePointer

@@ -14,6 +14,8 @@ use Rattle.kind_core.specs.declared.values.Value as value
 use Rattle.widget_model.specs.Rows.{Row, new_row, with_attr}
 use Rattle.widget_model.specs.Named.{with_named, without_named, rows_of_others}
 use Rattle.desk_model.specs.AttrOptions.{with_attrs}
+use Rattle.desk_model.specs.Desk.{is_window}
+use Rattle.desk_model.specs.Windows.{without_window}
 use Rattle.desk_model.specs.OwnPart.{windows_of_others}
 
 -- What a filter keeps, it keeps again.
@@ -73,6 +75,16 @@ client-with_attrs (option ∷ options) row = client-with_attrs options (with_att
 
 pub windows_of_others-cons : (client : ℕ) (name : List ℕ) (windows : List (ℕ × List ℕ)) → windows_of_others client ((client, name) ∷ windows) ≡ windows_of_others client windows
 windows_of_others-cons client name windows = rw (eq-eqb client client refl) refl
+
+pub windows_of_others-without : (client : ℕ) (name : List ℕ) (windows : List (ℕ × List ℕ)) → windows_of_others client (without_window client name windows) ≡ windows_of_others client windows
+windows_of_others-without client name windows = filter-within (λ window. not (is_window client name window)) (λ window. not (nat_eq client window.0)) wider windows
+  where
+    wider : (window : ℕ × List ℕ) → not (nat_eq client window.0) ≡ true → not (is_window client name window) ≡ true
+    wider window other = by (nat_eq client window.0) other
+      where
+        by : (b : Bool) → not b ≡ true → not (b && bytes_eq name window.1) ≡ true
+        by false e = refl
+        by true e = absurd (true≢false (sym e))
 
 -- whether another client is among those connected
 pub list_any-push_other : (client other : ℕ) (clients : List ℕ) → nat_eq client other ≡ false → list_any (nat_eq other) (clients ++ client ∷ []) ≡ list_any (nat_eq other) clients

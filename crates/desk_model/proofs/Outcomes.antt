@@ -13,7 +13,7 @@ use Rattle.kind_core.specs.declared.values.AttrRefusal.{AttrRefusal}
 use Rattle.kind_core.specs.declared.values.AttrRefusal.TheVariants.{NotOfKind, OutOfRange}
 use Rattle.kind_core.specs.Attributes.{domain_of, judged}
 use Rattle.cmd_words.specs.declared.commands.Command.{Command}
-use Rattle.cmd_words.specs.declared.commands.Command.TheVariants.{New, Set, Get, Place, Lift, ColumnConfig, RowConfig, Link, Unlink, Bind, Unbind, OpenWindow, DropWidget}
+use Rattle.cmd_words.specs.declared.commands.Command.TheVariants.{New, Set, Get, Place, Lift, ColumnConfig, RowConfig, Link, Unlink, Bind, Unbind, OpenWindow, CloseWindow, TopWindow, DropWidget}
 use Rattle.cmd_words.specs.declared.commands.PlaceOption.{PlaceOption}
 use Rattle.cmd_words.specs.declared.commands.PlaceOption.TheVariants.{Column, Row as line, Pad}
 use Rattle.cmd_words.specs.declared.commands.ConfigOption.{ConfigOption}
@@ -37,7 +37,7 @@ use Rattle.desk_model.specs.Placement.{place_refusal, place_effect, lift_refusal
 use Rattle.desk_model.specs.Tracks.{track_refusal, track_effect, step_track}
 use Rattle.desk_model.specs.Links.{link_refusal, link_effect, unlink_refusal, unlink_effect, step_link, step_unlink}
 use Rattle.desk_model.specs.Bindings.{bind_refusal, bind_effect, step_bind}
-use Rattle.desk_model.specs.Windows.{open_refusal, open_effect, step_open}
+use Rattle.desk_model.specs.Windows.{open_refusal, open_effect, step_open, unless_open, close_effect, step_close, top_effect, step_top}
 use Rattle.desk_model.specs.Clients.{with_client, without_client, free_client, hello_effect}
 use Rattle.desk_model.specs.Commands.{row_of, asked}
 
@@ -117,7 +117,7 @@ ends-bind desk client name event tag short = ends-outcome desk short (bind_refus
 
 -- each row
 ends-row : (desk : Desk) (client : ℕ) (command : Command) (short : Bool) → IfSome (row_of command) (λ row. Ends desk short (row desk client short))
-unfolding step_new step_set step_get step_drop step_place step_lift step_link step_unlink step_open
+unfolding step_new step_set step_get step_drop step_place step_lift step_link step_unlink step_open step_close step_top
 ends-row desk client (New name kind) short = ends-outcome desk short (new_refusal desk client name kind short) (new_effect desk client name kind) (search (then, want-when, want-memory)) refl
 ends-row desk client (Set name options) short =
     ends-outcome desk short (set_refusal desk client name options) (set_effect desk client name options)
@@ -135,6 +135,8 @@ ends-row desk client (Unlink name) short = ends-outcome desk short (unlink_refus
 ends-row desk client (Bind name event tag) short = ends-bind desk client name event (Some tag) short
 ends-row desk client (Unbind name event) short = ends-bind desk client name event None short
 ends-row desk client (OpenWindow name) short = ends-outcome desk short (open_refusal desk client name) (open_effect desk client name) (search (then, want-when)) refl
+ends-row desk client (CloseWindow name) short = ends-outcome desk short (unless_open desk client name) (close_effect desk client name) (search (then, want-when)) refl
+ends-row desk client (TopWindow name) short = ends-outcome desk short (unless_open desk client name) (top_effect desk client name) (search (then, want-when)) refl
 ends-row desk client (DropWidget name) short = ends-outcome desk short (drop_refusal desk client name) (drop_effect desk client name) (search (then, want-when)) refl
 ends-row desk client _ short = tt
 

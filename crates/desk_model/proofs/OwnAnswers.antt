@@ -5,7 +5,7 @@ use Rattle.std.specs.Str.{bytes_eq}
 use Rattle.kind_core.specs.declared.kinds.EventKind.{EventKind}
 use Rattle.cmd_words.specs.declared.commands.ConfigOption.{ConfigOption}
 use Rattle.cmd_words.specs.declared.commands.Command.{Command}
-use Rattle.cmd_words.specs.declared.commands.Command.TheVariants.{New, Set, Get, Place, Lift, ColumnConfig, RowConfig, Link, Unlink, Bind, Unbind, OpenWindow, DropWidget}
+use Rattle.cmd_words.specs.declared.commands.Command.TheVariants.{New, Set, Get, Place, Lift, ColumnConfig, RowConfig, Link, Unlink, Bind, Unbind, OpenWindow, CloseWindow, TopWindow, DropWidget}
 use Rattle.cmd_words.specs.declared.replies.Reply.{Reply}
 use Rattle.cmd_words.specs.declared.replies.Refusal.{Refusal}
 use Rattle.widget_model.specs.Kinds.{any_kind, counts_with}
@@ -18,7 +18,7 @@ use Rattle.desk_model.specs.Placement.{place_refusal, place_effect, lift_refusal
 use Rattle.desk_model.specs.Tracks.{track_refusal, track_effect, step_track}
 use Rattle.desk_model.specs.Links.{link_refusal, link_effect, unlink_refusal, unlink_effect, step_link, step_unlink}
 use Rattle.desk_model.specs.Bindings.{bind_refusal, bind_effect, step_bind}
-use Rattle.desk_model.specs.Windows.{open_refusal, open_effect, step_open}
+use Rattle.desk_model.specs.Windows.{open_refusal, open_effect, step_open, unless_open, close_effect, step_close, top_effect, step_top}
 use Rattle.scene_model.specs.declared.axis.Axis.{Axis}
 use Rattle.scene_model.specs.declared.axis.Axis.TheVariants.{Across, Down}
 use Rattle.desk_model.specs.Commands.{row_of}
@@ -50,7 +50,7 @@ answer-bind one two client name event tag agree =
 
 -- each row
 pub answer-row : (one two : Desk) (client : ℕ) (command : Command) (short : Bool) → AgreeOn client one two → option_map (λ row. (row one client short).0) (row_of command) ≡ option_map (λ row. (row two client short).0) (row_of command)
-unfolding step_new step_set step_get step_drop step_place step_lift step_link step_unlink step_open
+unfolding step_new step_set step_get step_drop step_place step_lift step_link step_unlink step_open step_close step_top
 answer-row one two client (New name kind) short agree =
     ap Some (answer-outcome one two (new_refusal one client name kind short) (new_refusal two client name kind short) (new_effect one client name kind) (new_effect two client name kind)
     (rw (row_named-agree client name one.rows two.rows agree.rows, rows_counted-agree client any_kind one.rows two.rows agree.rows, rows_counted-agree client (counts_with kind) one.rows two.rows agree.rows) refl) refl)
@@ -85,6 +85,12 @@ answer-row one two client (Bind name event tag) short agree = ap Some (answer-bi
 answer-row one two client (Unbind name event) short agree = ap Some (answer-bind one two client name event None agree)
 answer-row one two client (OpenWindow name) short agree =
     ap Some (answer-outcome one two (open_refusal one client name) (open_refusal two client name) (open_effect one client name) (open_effect two client name)
+    (rw (row_named-agree client name one.rows two.rows agree.rows, is_open-agree client name one two agree) refl) refl)
+answer-row one two client (CloseWindow name) short agree =
+    ap Some (answer-outcome one two (unless_open one client name) (unless_open two client name) (close_effect one client name) (close_effect two client name)
+    (rw (row_named-agree client name one.rows two.rows agree.rows, is_open-agree client name one two agree) refl) refl)
+answer-row one two client (TopWindow name) short agree =
+    ap Some (answer-outcome one two (unless_open one client name) (unless_open two client name) (top_effect one client name) (top_effect two client name)
     (rw (row_named-agree client name one.rows two.rows agree.rows, is_open-agree client name one two agree) refl) refl)
 answer-row one two client (DropWidget name) short agree =
     ap Some (answer-outcome one two (drop_refusal one client name) (drop_refusal two client name) (drop_effect one client name) (drop_effect two client name)

@@ -9,7 +9,7 @@ use Rattle.std.specs.Str.{bytes_eq}
 use Rattle.kind_core.specs.declared.kinds.EventKind.{EventKind}
 use Rattle.cmd_words.specs.declared.commands.ConfigOption.{ConfigOption}
 use Rattle.cmd_words.specs.declared.commands.Command.{Command}
-use Rattle.cmd_words.specs.declared.commands.Command.TheVariants.{New, Set, Get, Place, Lift, ColumnConfig, RowConfig, Link, Unlink, Bind, Unbind, OpenWindow, DropWidget}
+use Rattle.cmd_words.specs.declared.commands.Command.TheVariants.{New, Set, Get, Place, Lift, ColumnConfig, RowConfig, Link, Unlink, Bind, Unbind, OpenWindow, CloseWindow, TopWindow, DropWidget}
 use Rattle.cmd_words.specs.declared.replies.Reply.{Reply}
 use Rattle.cmd_words.specs.declared.replies.Reply.TheVariants.{Done}
 use Rattle.cmd_words.specs.declared.replies.Refusal.{Refusal}
@@ -26,7 +26,7 @@ use Rattle.desk_model.specs.Placement.{place_refusal, place_effect, lift_refusal
 use Rattle.desk_model.specs.Tracks.{with_track, track_refusal, track_effect, step_track}
 use Rattle.desk_model.specs.Links.{link_refusal, link_effect, unlink_refusal, unlink_effect, step_link, step_unlink}
 use Rattle.desk_model.specs.Bindings.{bind_refusal, bind_effect, step_bind}
-use Rattle.desk_model.specs.Windows.{open_refusal, open_effect, step_open}
+use Rattle.desk_model.specs.Windows.{open_refusal, open_effect, step_open, unless_open, close_effect, step_close, top_effect, step_top, without_window, with_top}
 use Rattle.scene_model.specs.declared.axis.Axis.{Axis}
 use Rattle.scene_model.specs.declared.axis.Axis.TheVariants.{Across, Down}
 use Rattle.desk_model.specs.Clients.{step_connect, step_hello, step_bye, with_client, without_client, free_client, hello_effect}
@@ -35,7 +35,7 @@ use Rattle.desk_model.specs.LetGo.{is_in_window, grab_left, focus_left, let_go, 
 use Rattle.widget_model.specs.Trees.{root_of, most_levels}
 use Rattle.desk_model.specs.OwnPart.{own_windows, windows_of_others, IsGrabOf, IsFocusOf, LeavesPointer, reply_of, LeavesOthers, CommandsLeaveOthers, ConnectsLeaveOthers, HellosLeaveOthers, ByesLeaveOthers, AnswersDependOnOwnPart, ConnectsDependOnOwnPart, ByesDependOnOwnPart}
 use Rattle.widget_model.specs.Named.{own_rows}
-use Rattle.desk_model.proofs.OthersRows.{filter-filter, filter-within, rows_of_others-with_named, rows_of_others-without_named, rows_of_others-push, client-new_row, client-with_attrs, windows_of_others-cons, list_any-push_other, list_any-without_other}
+use Rattle.desk_model.proofs.OthersRows.{filter-filter, filter-within, rows_of_others-with_named, rows_of_others-without_named, rows_of_others-push, client-new_row, client-with_attrs, windows_of_others-cons, windows_of_others-without, list_any-push_other, list_any-without_other}
 use Rattle.widget_model.proofs.OwnRows.{list_any-agree, root_in-agree}
 use Rattle.desk_model.proofs.OwnAnswers.{answer-outcome, answer-row}
 
@@ -60,6 +60,10 @@ LeavesApart-rows client desk rows kept = record {
   roster = refl;
   rings = refl;
 }
+
+-- other windows, where the others' are the same
+LeavesApart-windows : (client : ℕ) (desk : Desk) (windows : List (ℕ × List ℕ)) → windows_of_others client windows ≡ windows_of_others client desk.windows → LeavesApart client desk (record desk { windows = windows })
+LeavesApart-windows client desk windows same = record { shape = refl; clients = λ other differ. refl; rows = refl; windows = same; pointer = refl; roster = refl; rings = refl }
 
 -- a desk that stays
 pub LeavesApart-same : (client : ℕ) (desk : Desk) → LeavesApart client desk desk
@@ -91,7 +95,7 @@ LeavesApart-bind desk client name event tag =
 
 -- each row
 LeavesApart-row : (desk : Desk) (client : ℕ) (command : Command) (short : Bool) → IfSome (row_of command) (λ row. LeavesApart client desk (row desk client short).1)
-unfolding step_new step_set step_get step_drop step_place step_lift step_link step_unlink step_open
+unfolding step_new step_set step_get step_drop step_place step_lift step_link step_unlink step_open step_close step_top
 LeavesApart-row desk client (New name kind) short =
     LeavesApart-outcome client desk (new_refusal desk client name kind short) (new_effect desk client name kind)
     (LeavesApart-rows client desk (desk.rows ++ new_row client name kind ∷ []) (rows_of_others-push client desk.rows (new_row client name kind) (client-new_row client name kind)))
@@ -113,7 +117,13 @@ LeavesApart-row desk client (Bind name event tag) short = LeavesApart-bind desk 
 LeavesApart-row desk client (Unbind name event) short = LeavesApart-bind desk client name event None
 LeavesApart-row desk client (OpenWindow name) short =
     LeavesApart-outcome client desk (open_refusal desk client name) (open_effect desk client name)
-    (record { shape = refl; clients = λ other differ. refl; rows = refl; windows = windows_of_others-cons client name desk.windows; pointer = refl; roster = refl; rings = refl })
+    (LeavesApart-windows client desk ((client, name) ∷ desk.windows) (windows_of_others-cons client name desk.windows))
+LeavesApart-row desk client (CloseWindow name) short =
+    LeavesApart-outcome client desk (unless_open desk client name) (close_effect desk client name)
+    (LeavesApart-windows client desk (without_window client name desk.windows) (windows_of_others-without client name desk.windows))
+LeavesApart-row desk client (TopWindow name) short =
+    LeavesApart-outcome client desk (unless_open desk client name) (top_effect desk client name)
+    (LeavesApart-windows client desk (with_top client name desk.windows) (windows_of_others-cons client name (without_window client name desk.windows) ∙ windows_of_others-without client name desk.windows))
 LeavesApart-row desk client (DropWidget name) short =
     LeavesApart-outcome client desk (drop_refusal desk client name) (drop_effect desk client name) (LeavesApart-rows client desk (without_named client name desk.rows) (rows_of_others-without_named client name desk.rows))
 LeavesApart-row desk client _ short = tt

@@ -16,7 +16,7 @@ use Rattle.desk_model.specs.Placement.{step_place, step_lift}
 use Rattle.desk_model.specs.Tracks.{step_track}
 use Rattle.desk_model.specs.Links.{step_link, step_unlink}
 use Rattle.desk_model.specs.Bindings.{step_bind}
-use Rattle.desk_model.specs.Windows.{step_open}
+use Rattle.desk_model.specs.Windows.{step_open, step_close, step_top}
 
 -- The row of each command. `short`: there is no memory for it.
 abbrev pub row_of : Command → Option (Desk → ℕ → Bool → Reply × Desk)
@@ -32,8 +32,8 @@ row_of (Unlink name) = Some (λ desk client short. step_unlink desk client name)
 row_of (Bind name event tag) = Some (λ desk client short. step_bind desk client name event (Some tag))
 row_of (Unbind name event) = Some (λ desk client short. step_bind desk client name event None)
 row_of (OpenWindow name) = Some (λ desk client short. step_open desk client name)
-row_of (CloseWindow name) = None
-row_of (TopWindow name) = None
+row_of (CloseWindow name) = Some (λ desk client short. step_close desk client name)
+row_of (TopWindow name) = Some (λ desk client short. step_top desk client name)
 row_of (Mode name w h) = None
 row_of (Admit name period) = None
 row_of (Leave name) = None
