@@ -11,6 +11,7 @@ pub mod AttrSteps
 pub mod WidgetSteps
 pub mod TrackSteps
 pub mod WindowSteps
+pub mod WindowOrder
 pub mod CommandSteps
 pub mod Changes
 pub mod LinkChanges

@@ -144,7 +144,7 @@ room_to_open clients w keys key kept window new =
     omega (arith, few, length-window_numbers w.clients ns kept.tree.forest.clients_in_range kept.tree.forest.owners, count_in-le 16 1 ns (λ client. kept.tree.forest.most_alike client Window))
 
 -- an open window has the client and name of the one that was found exactly where it has its number
-same_window : (w : Widgets) (client : ℕ) (name : List ℕ) (key : ℕ) (kind : Kind) (k : ℕ) → HaveOwnNames (nodes w.entries) → IsFound w client name key kind → names_window (nodes w.entries) k ≡ true → is_window client name (title_at (nodes w.entries) k) ≡ nat_eq k key
+pub same_window : (w : Widgets) (client : ℕ) (name : List ℕ) (key : ℕ) (kind : Kind) (k : ℕ) → HaveOwnNames (nodes w.entries) → IsFound w client name key kind → names_window (nodes w.entries) k ≡ true → is_window client name (title_at (nodes w.entries) k) ≡ nat_eq k key
 same_window w client name key kind k own found window = by (row_at w.entries k) refl (node_at-nodes w.entries k) window
   where
     parts : (found.row.client ≡ client) × (found.row.name ≡ name)
@@ -184,7 +184,7 @@ found-window w client name key kind found window =
     let there : node_at (nodes w.entries) key ≡ Some (node_of found.row) = node_at-nodes w.entries key ∙ ap (option_map node_of) found.there in
     rw there (ap is_window_kind found.has ∙ window)
 
-found-title : (w : Widgets) (client : ℕ) (name : List ℕ) (key : ℕ) (kind : Kind) → IsFound w client name key kind → title_at (nodes w.entries) key ≡ (client, name)
+pub found-title : (w : Widgets) (client : ℕ) (name : List ℕ) (key : ℕ) (kind : Kind) → IsFound w client name key kind → title_at (nodes w.entries) key ≡ (client, name)
 found-title w client name key kind found =
     let there : node_at (nodes w.entries) key ≡ Some (node_of found.row) = node_at-nodes w.entries key ∙ ap (option_map node_of) found.there in
     let parts = found-parts w client name key kind found in

@@ -16,7 +16,7 @@ use crate::links::{link, unlink};
 use crate::placement::{lift, place};
 use crate::tracks::rule_track;
 use crate::widgets::{drop_widget, get, make, set};
-use crate::windows::open_window;
+use crate::windows::{close_window, open_window, top_window};
 use cmd_words::Command;
 use scene_model::Axis;
 use stack_core::Stack;
@@ -57,10 +57,10 @@ pub(crate) fn obey(tree: &mut Tree, windows: &mut Stack, client: u32, command: &
         Command::Bind { name, event, tag } => bind(tree, client, name, *event, Some(*tag)),
         Command::Unbind { name, event } => bind(tree, client, name, *event, None),
         Command::OpenWindow { name } => open_window(tree, windows, client, name),
+        Command::CloseWindow { name } => close_window(tree, windows, client, name),
+        Command::TopWindow { name } => top_window(tree, windows, client, name),
         Command::DropWidget { name } => drop_widget(tree, windows, client, name),
-        Command::CloseWindow { .. }
-        | Command::TopWindow { .. }
-        | Command::Mode { .. }
+        Command::Mode { .. }
         | Command::Admit { .. }
         | Command::Leave { .. }
         | Command::SendFrame { .. }

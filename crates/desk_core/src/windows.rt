@@ -1,9 +1,9 @@
-//! The command that opens a window.
+//! The commands that open, close and raise a window.
 
-ghost use Rattle.std.specs.Prelude.{◌≡◌, Some, true, false, MatchOption};
+ghost use Rattle.std.specs.Prelude.{◌≡◌, ◌↔◌, IsTrue, Some, true, false, MatchOption, slice_get};
 ghost use Rattle.std.specs.List.{list_all, filter};
 ghost use Rattle.stack_core.specs.Stack.{holds_key, IsStack};
-ghost use Rattle.desk_model.specs.Windows.{step_open};
+ghost use Rattle.desk_model.specs.Windows.{step_open, step_close, step_top};
 ghost use Rattle.widget_model.specs.Widgets.{IsLive, row_at, nodes};
 ghost use Rattle.scene_model.specs.OpenWindows.{place_of_row};
 ghost use Rattle.scene_model.specs.Values.{number_in};
@@ -54,6 +54,55 @@ pub(crate) fn open_window(tree: &Tree, windows: &mut Stack, client: u32, name: &
     match windows.push_top(found.id.key) {
         Ok(()) => Answer::done(true),
         Err(_) => unreachable!(),
+    }
+}
+
+/// `w.close()`
+pub(crate) fn close_window(tree: &Tree, windows: &mut Stack, client: u32, name: &Name) -> Answer
+    requires { AreParts tree.now.clients tree.now windows.old }
+    ensures tells { TellsAll tree.now tree.now windows.old windows.new result.changed }
+    ensures did { DidAll (λ desk. step_close desk client name.now) tree.now tree.now windows.old windows.new result.reply }
+{
+    let found = match find(tree, client, name) {
+        Some(found) => found,
+        None => return Answer::refused(Refusal::NoSuchName),
+    };
+    if !is_window(found.kind) {
+        return Answer::refused(Refusal::WrongKind);
+    }
+    if !windows.remove(found.id.key) {
+        return Answer::refused(Refusal::NotOpen);
+    }
+    Answer::done(true)
+}
+
+/// `w.top()`
+pub(crate) fn top_window(tree: &Tree, windows: &mut Stack, client: u32, name: &Name) -> Answer
+    requires { AreParts tree.now.clients tree.now windows.old }
+    ensures tells { TellsAll tree.now tree.now windows.old windows.new result.changed }
+    ensures did { DidAll (λ desk. step_top desk client name.now) tree.now tree.now windows.old windows.new result.reply }
+{
+    let found = match find(tree, client, name) {
+        Some(found) => found,
+        None => return Answer::refused(Refusal::NoSuchName),
+    };
+    if !is_window(found.kind) {
+        return Answer::refused(Refusal::WrongKind);
+    }
+    let on_top = is_on_top(windows, found.id.key);
+    if !windows.raise(found.id.key) {
+        return Answer::refused(Refusal::NotOpen);
+    }
+    Answer::done(!on_top)
+}
+
+/// Whether the window with that number is the top one.
+fn is_on_top(windows: &Stack, key: u32) -> bool
+    ensures { IsTrue result ↔ (slice_get windows.now 0 ≡ Some key) }
+{
+    match windows.at(0) {
+        Some(top) => top == key,
+        None => false,
     }
 }
 

@@ -9,9 +9,7 @@ pub fn is_built(command: &Command) -> bool
     ensures { result ≡ is_built command.now }
 {
     match command {
-        Command::CloseWindow { .. }
-        | Command::TopWindow { .. }
-        | Command::Mode { .. }
+        Command::Mode { .. }
         | Command::Admit { .. }
         | Command::Leave { .. }
         | Command::SendFrame { .. }
@@ -28,6 +26,8 @@ pub fn is_built(command: &Command) -> bool
         | Command::Bind { .. }
         | Command::Unbind { .. }
         | Command::OpenWindow { .. }
+        | Command::CloseWindow { .. }
+        | Command::TopWindow { .. }
         | Command::DropWidget { .. } => true,
     }
 }

@@ -11,7 +11,7 @@ use Rattle.scene_model.specs.declared.axis.Axis.TheVariants.{Across, Down}
 use Rattle.desk_model.specs.Tracks.{step_track}
 use Rattle.desk_model.specs.Links.{step_link, step_unlink}
 use Rattle.desk_model.specs.Bindings.{step_bind}
-use Rattle.desk_model.specs.Windows.{step_open}
+use Rattle.desk_model.specs.Windows.{step_open, step_close, step_top}
 use Rattle.desk_model.specs.Refusals.{is_memory}
 use Rattle.desk_core.specs.Effects.{Did}
 use Rattle.desk_core.proofs.CommandSteps.{row_did, obeyed}
@@ -95,6 +95,18 @@ returns-in-OpenWindow-clause-did c =
     row_did c.args.client (row_of c.args.command.now) (λ desk client short. step_open desk client c.in-OpenWindow.name) (λ desk. step_open desk c.args.client c.in-OpenWindow.name) c.args.tree.now c.args.tree.now c.args.windows.now c.open_window.new.windows c.open_window.result.reply
     (ap row_of c.in-OpenWindow.is) (λ desk. refl)
     c.open_window.ensures.did
+
+pub returns-in-CloseWindow-clause-did : goal.returns-in-CloseWindow-clause-did
+returns-in-CloseWindow-clause-did c =
+    row_did c.args.client (row_of c.args.command.now) (λ desk client short. step_close desk client c.in-CloseWindow.name) (λ desk. step_close desk c.args.client c.in-CloseWindow.name) c.args.tree.now c.args.tree.now c.args.windows.now c.close_window.new.windows c.close_window.result.reply
+    (ap row_of c.in-CloseWindow.is) (λ desk. refl)
+    c.close_window.ensures.did
+
+pub returns-in-TopWindow-clause-did : goal.returns-in-TopWindow-clause-did
+returns-in-TopWindow-clause-did c =
+    row_did c.args.client (row_of c.args.command.now) (λ desk client short. step_top desk client c.in-TopWindow.name) (λ desk. step_top desk c.args.client c.in-TopWindow.name) c.args.tree.now c.args.tree.now c.args.windows.now c.top_window.new.windows c.top_window.result.reply
+    (ap row_of c.in-TopWindow.is) (λ desk. refl)
+    c.top_window.ensures.did
 
 pub returns-in-DropWidget-clause-did : goal.returns-in-DropWidget-clause-did
 returns-in-DropWidget-clause-did c =
