@@ -48,6 +48,8 @@ const STRANGERS: &str = "
 9 no.bind(press, t) | error 20
 9 no.unbind(press) | error 20
 9 no.open() | error 20
+9 no.close() | error 20
+9 no.top() | error 20
 9 no.drop() | error 20
 9 bye | error 20
 ";
@@ -163,6 +165,15 @@ const LINKS: &str = "
 1 no.open() | error 4
 1 g.open() | error 5
 1 w.open() | error 12
+1 no.close() | error 4
+1 g.close() | error 5
+1 no.top() | error 4
+1 g.top() | error 5
+1 w.close() | ok
+1 w.close() | error 13
+1 w.top() | error 13
+1 w.open() | ok
+1 w.top() | ok
 ";
 
 #[test]

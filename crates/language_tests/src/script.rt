@@ -71,7 +71,7 @@ pixel 1 |none|0|0|
 pixel 10000 1|none|0|0|
 pixel 1 10000|none|0|0|
 pixel 1  1|none|0|0|
-1 w.close()|none|0|0|
+1 v.admit(4)|none|0|0|
 1 v.frame(10)|none|0|0|
 1 v.frame(|none|0|0|
 1 poll()|none|0|0|

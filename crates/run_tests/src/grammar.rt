@@ -121,8 +121,8 @@ connect 1/1/ | bad script at line 2 | 1 ok/
 connect 1/01 w = new Window()/ | bad script at line 2 | 1 ok/
 connect 1/17 w = new Window()/ | bad script at line 2 | 1 ok/
 connect 1/1 poll()/ | bad script at line 2 | 1 ok/
-connect 1/1 w = new Window()/1 w.close()/ | bad script at line 3 | 1 ok/1 ok/
-connect 1/1 w = new Window()/1 w.top()/ | bad script at line 3 | 1 ok/1 ok/
+connect 1/1 v = new VScreen()/1 v.admit(4)/ | bad script at line 3 | 1 ok/1 ok/
+connect 1/1 v = new VScreen()/1 v.leave()/ | bad script at line 3 | 1 ok/1 ok/
 connect 1/1 v = new VScreen()/1 v.mode(8, 8)/ | bad script at line 3 | 1 ok/1 ok/
 connect 1/1 v = new VScreen()/1 v.frame(4)/AAAA | bad script at line 3 | 1 ok/1 ok/
 connect 1/1 v.frame(70000)/ | bad script at line 2 | 1 ok/
