@@ -22,6 +22,7 @@ use Rattle.scene_core.specs.Laid.{with_places}
 use Rattle.scene_core.specs.Places.{HasPlaces}
 use Rattle.scene_core.proofs.LaySteps.{set-same}
 use Rattle.desk_core.specs.View.{HaveDuePlaces}
+use Rattle.desk_core.specs.Stays.{IsSettled}
 use Rattle.desk_core.specs.Laid.{is_window_at, ChangesPlacesOf, AreEmptied, place_below, AreLaidTo, AreLaidOut}
 
 -- a live number is one of its client's
@@ -252,3 +253,14 @@ laid-due client old new low is others = record {
     by : (id : ℕ) (row : Row) → row_at old.entries id ≡ Some row → row_at new.entries id ≡ Some row → (b : Bool) → nat_eq client row.client ≡ b → place_at new id ≡ due_place (rows_of old) row
     by id row there now true q = is.own id row there (sym (eqb-true client row.client q))
     by id row there now false q = is.changed.others id (number-client client row.client id low (own-number new id row is.changed.valid now) ∙ q) ∙ others id row there q
+
+-- nothing is laid out where nothing may have moved
+pub settled-none : (client : ℕ) (moves : Bool) (w : Widgets) → IsWidgets w → moves ≡ false → IsSettled client moves w w
+settled-none client moves w valid still = record {
+  changed = record { same = refl; valid = valid; others = λ id apart. refl };
+  laid = λ h. absurd (true≢false (sym h ∙ still));
+  still = λ h. refl;
+}
+
+pub settled-laid : (client : ℕ) (moves : Bool) (old new : Widgets) → moves ≡ true → AreLaidOut client old new → IsSettled client moves old new
+settled-laid client moves old new moved is = record { changed = is.changed; laid = λ h. is; still = λ h. absurd (true≢false (sym moved ∙ h)) }
