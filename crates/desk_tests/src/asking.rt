@@ -83,10 +83,14 @@ fn place(text: &str) -> Result<Option<(i32, i32, u32, u32)>, Fail> {
 
 /// The kept place of the widget that is written `CLIENT NAME`.
 fn kept_place(desk: &Desk, said: &str) -> Result<Option<(i32, i32, u32, u32)>, Fail> {
-    let (client, name) = said.split_once(' ').ok_or("a widget has a client and a name")?;
+    let (client, name) = said
+        .split_once(' ')
+        .ok_or("a widget has a client and a name")?;
     let name = name_from(name.as_bytes()).ok_or("it is no name")?;
     let tree = desk.view().tree;
-    let id = tree.find(client.parse()?, &name).ok_or("no widget has the name")?;
+    let id = tree
+        .find(client.parse()?, &name)
+        .ok_or("no widget has the name")?;
     match tree.place_of(id) {
         Some(place) => Ok(Some((place.x, place.y, place.w, place.h))),
         None => Ok(None),
