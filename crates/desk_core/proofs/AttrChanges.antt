@@ -28,7 +28,7 @@ option_Decides E each (Some a) None = (λ h. absurd (true≢false (sym h)), λ h
 option_Decides E each (Some a) (Some b) = (λ h. ap Some ((each a b).0 h), λ h. (each a b).1 (let same : a ≡ b = cc in same))
 
 -- stage changes values alone, and keeps their number
-same_but_values : (options : List (Attr × value.Value)) (row : Row) → with_attrs options row ≡ record row { values = (with_attrs options row).values }
+pub same_but_values : (options : List (Attr × value.Value)) (row : Row) → with_attrs options row ≡ record row { values = (with_attrs options row).values }
 same_but_values [] row = refl
 same_but_values (o ∷ os) row = same_but_values os (with_attr o.0 o.1 row)
 

@@ -1,6 +1,7 @@
 -- What each call of the desk makes of its parts: the desk of its event's step, and parts that keep what they kept.
-use Rattle.std.proofs.Common.{◌≡◌, ◌≤◌, ℕ, Bool, true, false, not, nat_eq, List, [], ◌∷◌, ◌++◌, Option, Some, None, refl, sym, ap, ap₂, ◌∙◌, subst}
+use Rattle.std.proofs.Common.{◌≡◌, ◌≤◌, ℕ, Bool, true, false, not, ◌&&◌, nat_eq, is_some, List, [], ◌∷◌, ◌++◌, Option, Some, None, refl, sym, ap, ap₂, ◌∙◌, subst}
 use Rattle.std.specs.Prelude.{IfSome, pos}
+use Rattle.std.proofs.lemmas.Bool.{false≢true}
 use Rattle.std.specs.List.{filter}
 use Rattle.cmd_words.specs.declared.commands.Command.{Command}
 use Rattle.cmd_words.specs.declared.replies.Reply.{Reply}
@@ -22,8 +23,8 @@ use Rattle.desk_model.proofs.Desks.{IsDesk-opening, IsDesk-connect, IsDesk-hello
 use Rattle.desk_core.specs.Parts.{Stage, stage_of, windows_at, desk_of, names_window, is_others, AreParts, IsKept}
 use Rattle.desk_core.specs.Pointer.{HoldsLive}
 use Rattle.desk_core.specs.View.{HaveDuePlaces, KeepsNumbers}
-use Rattle.desk_core.specs.Laid.{AreLaidOut}
-use Rattle.desk_core.specs.Effects.{DidAll}
+use Rattle.desk_core.specs.Stays.{MoveNothing, may_move, IsSettled}
+use Rattle.desk_core.specs.Effects.{DidAll, TellsAll}
 use Rattle.kind_core.specs.declared.shapes.Shape.{Shape}
 use Rattle.widget_model.specs.Pointer as model
 use Rattle.tree_core.specs.declared.pointer.Pointer.{Pointer}
@@ -34,6 +35,8 @@ use Rattle.desk_model.proofs.OwnPart.{commands_leave_others}
 use Rattle.desk_core.proofs.KeyNumbers.{others-due}
 use Rattle.desk_core.proofs.Layouts.{laid-due}
 use Rattle.desk_core.proofs.LeftPlaces.{departed-due}
+use Rattle.desk_core.proofs.Unmoved.{unmoved-untold, unmoved-due}
+use Rattle.desk_core.proofs.StillCommands.{unmoved-command}
 use Rattle.desk_core.proofs.PointerKept.{Holds, pointer-holds}
 use Rattle.desk_core.proofs.Departures.{desk_of-departed, AreParts-departed}
 use Rattle.desk_core.proofs.CallSteps.{connect-joined, hello-joined, bye-gone, step-obeyed}
@@ -131,7 +134,19 @@ module _ (shape : Shape) (pointer : Pointer) (clients : List ℕ) (w new : Widge
   pub obeyed-tree : IsWidgets new
   obeyed-tree = did-row.parts.tree
 
-  module _ (laid : Widgets) (is : AreLaidOut client new laid) where
+  -- where nothing is laid out, nothing has moved
+  obeyed-still : (changed : Bool) → TellsAll w new keys keys' changed → (changed && may_move (rows_of w) client command) ≡ false → MoveNothing (rows_of w) (rows_of new)
+  obeyed-still changed tells still = told changed refl
+    where
+      by : (row : Option (Desk → ℕ → Bool → Reply × Desk)) → IfSome row (λ row. DidAll (λ desk. row desk client (is_memory reply)) w new keys keys' reply) → IfSome row (λ row. MoveNothing (rows_of w) (row (desk_of (stage_of shape w pointer) w keys) client (is_memory reply)).1.rows) → is_some row ≡ true → MoveNothing (rows_of w) (rows_of new)
+      by None did unmoved some = absurd (false≢true some)
+      by (Some row) did unmoved some = subst (λ (rows : List Row). MoveNothing (rows_of w) rows) (sym (ap (λ (done : Reply × Desk). done.1.rows) (did.answer (stage_of shape w pointer)))) unmoved
+
+      told : (b : Bool) → changed ≡ b → MoveNothing (rows_of w) (rows_of new)
+      told true q = by (row_of command) did (unmoved-command command (desk_of (stage_of shape w pointer) w keys) client (is_memory reply) kept.desk (ap (λ (b : Bool). b && may_move (rows_of w) client command) (sym q) ∙ still)) built
+      told false q = unmoved-untold (rows_of w) (rows_of new) (windows_at (nodes new.entries) keys' ≡ windows_at (nodes w.entries) keys) changed tells q
+
+  module _ (moves : Bool) (laid : Widgets) (is : IsSettled client moves new laid) where
     pub obeyed-parts : AreParts laid.clients laid keys'
     obeyed-parts =
         let P : Widgets → Type 0 = λ v. IsWidgets v → AreParts v.clients v keys' in
@@ -163,13 +178,17 @@ module _ (shape : Shape) (pointer : Pointer) (clients : List ℕ) (w new : Widge
           ap (λ (v : Widgets). rows_of_others client (rows_of v)) (sym is.changed.same)
           ∙ (commands_leave_others (desk_of (stage_of shape w pointer) w keys) client command (is_memory reply) reply (desk_of (stage_of shape laid after) laid keys') kept.desk obeyed-step).rows
 
-      pub obeyed-kept : 1 ≤ client → HoldsLive laid.entries after → IsKept shape after clients laid keys'
-      obeyed-kept low held =
+      placed-by : 1 ≤ client → (moves ≡ false → MoveNothing (rows_of w) (rows_of new)) → (b : Bool) → moves ≡ b → HaveDuePlaces laid
+      placed-by low unmoved true q = laid-due client new laid low (is.laid q) (others-due client w new kept.parts.tree obeyed-tree kept.placed did-row.numbers did-row.places others)
+      placed-by low unmoved false q = subst HaveDuePlaces (sym (is.still q)) (unmoved-due w new kept.parts.tree obeyed-tree kept.placed did-row.numbers did-row.places (unmoved q))
+
+      pub obeyed-kept : (changed : Bool) → TellsAll w new keys keys' changed → moves ≡ (changed && may_move (rows_of w) client command) → 1 ≤ client → HoldsLive laid.entries after → IsKept shape after clients laid keys'
+      obeyed-kept changed tells moved low held =
           record {
             parts = subst (λ (cs : List ℕ). AreParts cs laid keys') (ap (λ (v : Widgets). v.clients) is.changed.same ∙ did-row.clients_same ∙ sym kept.parts.clients) obeyed-parts;
             held = held;
             desk = IsDesk-command (desk_of (stage_of shape w pointer) w keys) client command (is_memory reply) reply (desk_of (stage_of shape laid after) laid keys') kept.desk obeyed-step;
-            placed = laid-due client new laid low is (others-due client w new kept.parts.tree obeyed-tree kept.placed did-row.numbers did-row.places others);
+            placed = placed-by low (λ h. obeyed-still changed tells (sym moved ∙ h)) moves refl;
           }
 
 -- `bye`: the client's windows close, the pointer lets go, and then the client's widgets go

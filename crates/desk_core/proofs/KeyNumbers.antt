@@ -73,7 +73,7 @@ own_rows-others client other a b differ same =
     ∙ filter-within (λ (row : Row). not (nat_eq client row.client)) (λ (row : Row). nat_eq other row.client) others b
 
 -- the number of a named row
-number-named : (w : Widgets) (row : Row) → IsWidgets w → row_named (rows_of w) row.client row.name ≡ Some row → (id : ℕ) × (row_at w.entries id ≡ Some row)
+pub number-named : (w : Widgets) (row : Row) → IsWidgets w → row_named (rows_of w) row.client row.name ≡ Some row → (id : ℕ) × (row_at w.entries id ≡ Some row)
 number-named w row valid named =
     let place = find-element (has_name row.client row.name) (rows_of w) row named in
     listed_number w.entries place.0 row valid.forest.own_numbers place.1

@@ -1,7 +1,8 @@
 -- A client's widgets as they are laid out: its slots are emptied, and then one Window after the other is laid out.
-use Rattle.std.proofs.Common.{◌≡◌, ◌≢◌, ◌+◌, ◌<◌, ◌≤◌, ℕ, Bool, true, false, cond, ◌&&◌, nat_eq, nat_lt, nat_le, List, Option, Some, None, is_some, refl, sym, ap, ap₂, ◌∙◌, subst, arith, inl, inr}
-use Rattle.std.proofs.lemmas.Bool.{true≢false, false≢true, cases_eq, eqb-true, ne_eqb, and_parts, and_from, le-leb, lt-ltb, leb-true, ltb-true, ltb-false, le-ltb}
+use Rattle.std.proofs.Common.{◌≡◌, ◌≢◌, ◌+◌, ◌-◌, ◌*◌, ◌<◌, ◌≤◌, ℕ, Bool, true, false, cond, ◌&&◌, nat_eq, nat_lt, nat_le, List, Option, Some, None, is_some, refl, sym, ap, ap₂, ◌∙◌, subst, arith, inl, inr}
+use Rattle.std.proofs.lemmas.Bool.{true≢false, false≢true, cases_eq, eqb-true, eqb-false, eq-eqb, ne_eqb, and_parts, and_from, le-leb, lt-ltb, leb-true, ltb-true, ltb-false, le-ltb}
 use Rattle.std.specs.Option.{option_map, option_map_or, option_and_then}
+use Rattle.geom_core.specs.declared.rectangle.Rect.{Rect}
 use Rattle.widget_model.specs.Rows.{Row}
 use Rattle.widget_model.specs.Named.{row_named, is_kind_of}
 use Rattle.widget_model.specs.Nodes.{Node, id_named, first_number, is_number_of}
@@ -21,7 +22,8 @@ use Rattle.scene_core.specs.Laid.{with_places}
 use Rattle.scene_core.specs.Places.{HasPlaces}
 use Rattle.scene_core.proofs.LaySteps.{set-same}
 use Rattle.desk_core.specs.View.{HaveDuePlaces}
-use Rattle.desk_core.specs.Laid.{is_window_at, AreEmptied, place_below, AreLaidTo, AreLaidOut}
+use Rattle.desk_core.specs.Stays.{IsSettled}
+use Rattle.desk_core.specs.Laid.{is_window_at, ChangesPlacesOf, AreEmptied, place_below, AreLaidTo, AreLaidOut}
 
 -- a live number is one of its client's
 pub own-number : (w : Widgets) (id : ℕ) (row : Row) → IsWidgets w → row_at w.entries id ≡ Some row → is_number_of row.client id ≡ true
@@ -251,3 +253,14 @@ laid-due client old new low is others = record {
     by : (id : ℕ) (row : Row) → row_at old.entries id ≡ Some row → row_at new.entries id ≡ Some row → (b : Bool) → nat_eq client row.client ≡ b → place_at new id ≡ due_place (rows_of old) row
     by id row there now true q = is.own id row there (sym (eqb-true client row.client q))
     by id row there now false q = is.changed.others id (number-client client row.client id low (own-number new id row is.changed.valid now) ∙ q) ∙ others id row there q
+
+-- nothing is laid out where nothing may have moved
+pub settled-none : (client : ℕ) (moves : Bool) (w : Widgets) → IsWidgets w → moves ≡ false → IsSettled client moves w w
+settled-none client moves w valid still = record {
+  changed = record { same = refl; valid = valid; others = λ id apart. refl };
+  laid = λ h. absurd (true≢false (sym h ∙ still));
+  still = λ h. refl;
+}
+
+pub settled-laid : (client : ℕ) (moves : Bool) (old new : Widgets) → moves ≡ true → AreLaidOut client old new → IsSettled client moves old new
+settled-laid client moves old new moved is = record { changed = is.changed; laid = λ h. is; still = λ h. absurd (true≢false (sym moved ∙ h)) }

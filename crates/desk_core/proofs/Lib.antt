@@ -5,6 +5,8 @@ pub mod KeyNumbers
 pub mod Layouts
 pub mod Wholes
 pub mod LeftPlaces
+mod Unmoved
+mod StillCommands
 pub mod LinkSteps
 pub mod Edits
 pub mod AttrSteps

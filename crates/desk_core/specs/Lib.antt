@@ -3,6 +3,7 @@ pub mod Pointer
 pub mod View
 pub mod Parts
 pub mod Laid
+pub mod Stays
 pub mod Effects
 pub mod Lookup
 pub mod TreeRefusals

@@ -14,7 +14,8 @@ ghost use Rattle.desk_model.specs.Refusals.{is_memory};
 
 use crate::clients::Clients;
 use crate::commands::obey;
-use crate::laying::lay_out;
+use crate::laying::settle;
+use crate::moves::may_move;
 use crate::pointer::let_go;
 use crate::windows::{close_windows, place_of};
 use cmd_words::{Command, Refusal, Reply};
@@ -152,8 +153,9 @@ impl Desk {
         if !self.clients.has(client) {
             return Reply::Refused(Refusal::NotConnected);
         }
+        let moves = may_move(&self.tree, client, command);
         let answer = obey(&mut self.tree, &mut self.windows, client, command);
-        lay_out(&mut self.tree, client);
+        settle(&mut self.tree, client, answer.changed, moves);
         let_go(&self.tree, &self.windows, &mut self.pointer);
         self.changed = answer.changed;
         answer.reply

@@ -5,6 +5,7 @@ ghost use Rattle.widget_model.specs.Trees.{has_children, can_be_child};
 ghost use Rattle.widget_model.specs.Kinds.{can_link, is_variable_kind, is_window_kind};
 ghost use Rattle.desk_model.specs.Tracks.{is_grid};
 ghost use Rattle.desk_model.specs.PlaceOptions.{last_cell};
+ghost use Rattle.desk_core.specs.Stays.{is_entry};
 
 use kind_core::Kind;
 
@@ -13,6 +14,13 @@ pub(crate) fn is_window(kind: Kind) -> bool
     ensures { result ≡ is_window_kind kind }
 {
     matches!(kind, Kind::Window)
+}
+
+/// Whether the kind is Entry.
+pub(crate) fn is_entry(kind: Kind) -> bool
+    ensures { result ≡ is_entry kind }
+{
+    matches!(kind, Kind::Entry)
 }
 
 /// Whether the kind is Grid, which has tracks.
@@ -64,7 +72,7 @@ pub(crate) fn can_link(kind: Kind) -> bool
 }
 
 /// Whether the kind is Variable.
-fn is_variable(kind: Kind) -> bool
+pub(crate) fn is_variable(kind: Kind) -> bool
     ensures { result ≡ is_variable_kind kind }
 {
     matches!(kind, Kind::Variable)

@@ -1,9 +1,10 @@
 //! The layout of a client's widgets: the kept places of its Windows and of what hangs under them.
 
-ghost use Rattle.std.specs.Prelude.{◌≡◌, ◌≤◌};
+ghost use Rattle.std.specs.Prelude.{◌≡◌, ◌≤◌, ◌&&◌};
 ghost use Rattle.widget_model.specs.Forest.{IsWidgets};
 ghost use Rattle.widget_model.specs.Nodes.{first_number};
 ghost use Rattle.desk_core.specs.Laid.{is_window_at, AreEmptied, AreLaidTo, AreLaidOut};
+ghost use Rattle.desk_core.specs.Stays.{IsSettled};
 
 use crate::kinds::is_window;
 use scene_core::relayout;
@@ -68,7 +69,7 @@ fn lay_windows(tree: &mut Tree, client: u32)
 
 /// Makes the kept places of the client's widgets the ones that they are due: those of its Windows and of what hangs under
 /// them are their places, its other widgets have none.
-pub(crate) fn lay_out(tree: &mut Tree, client: u32)
+fn lay_out(tree: &mut Tree, client: u32)
     requires valid { IsWidgets tree.old }
     requires low { 1 ≤ client }
     requires high { client ≤ 16 }
@@ -76,4 +77,20 @@ pub(crate) fn lay_out(tree: &mut Tree, client: u32)
 {
     empty_places(tree, client);
     lay_windows(tree, client);
+}
+
+/// Lays out the client's widgets where a command has changed something and may have moved one.
+pub(crate) fn settle(tree: &mut Tree, client: u32, changed: bool, moves: bool)
+    requires valid { IsWidgets tree.old }
+    requires low { 1 ≤ client }
+    requires high { client ≤ 16 }
+    ensures { IsSettled client (changed && moves) tree.old tree.new }
+{
+    if !changed {
+        return;
+    }
+    if !moves {
+        return;
+    }
+    lay_out(tree, client);
 }

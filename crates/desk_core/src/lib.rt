@@ -11,6 +11,7 @@ pub mod laws;
 mod laying;
 mod links;
 mod lookup;
+mod moves;
 mod place_options;
 mod placement;
 mod pointer;

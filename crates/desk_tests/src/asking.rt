@@ -1,12 +1,13 @@
 //! A desk that is asked by lines of text. A row of a table is `CLIENT LINE | TEXT`, where the line is a command, or
 //! `connect`, `bye` or `hello`; or it tells of the desk: `desk live | NUMBER`, `desk changed | BOOL`,
-//! `desk window PLACE | X Y W H` or `| none`.
+//! `desk window PLACE | X Y W H` or `| none`, and the same of the kept place of a client's widget, by
+//! `desk place CLIENT NAME`.
 ghost use Rattle.std.specs.Prelude.{◌≤◌};
 
 use arrayvec::ArrayString;
 use cmd_text::{Reply, parse, print_reply};
 use desk_core::Desk;
-use kind_core::Shape;
+use kind_core::{Shape, name_from};
 use script_lines::is_built;
 use std::alloc::Global;
 use std::process::Abort;
@@ -80,8 +81,28 @@ fn place(text: &str) -> Result<Option<(i32, i32, u32, u32)>, Fail> {
     Ok(Some((x, y, w.max(0) as u32, h.max(0) as u32)))
 }
 
+/// The kept place of the widget that is written `CLIENT NAME`.
+fn kept_place(desk: &Desk, said: &str) -> Result<Option<(i32, i32, u32, u32)>, Fail> {
+    let (client, name) = said
+        .split_once(' ')
+        .ok_or("a widget has a client and a name")?;
+    let name = name_from(name.as_bytes()).ok_or("it is no name")?;
+    let tree = desk.view().tree;
+    let id = tree
+        .find(client.parse()?, &name)
+        .ok_or("no widget has the name")?;
+    match tree.place_of(id) {
+        Some(place) => Ok(Some((place.x, place.y, place.w, place.h))),
+        None => Ok(None),
+    }
+}
+
 /// Whether the desk is as the row says.
 fn is_so(desk: &Desk, said: &str, wanted: &str) -> Result<bool, Fail> {
+    match said.split_once(' ') {
+        Some(("place", widget)) => return Ok(kept_place(desk, widget)? == place(wanted)?),
+        _ => {}
+    }
     match said {
         "live" => Ok(desk.live() == wanted.parse::<u32>()?),
         "changed" => Ok(desk.changed() == (wanted == "true")),

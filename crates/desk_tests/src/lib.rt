@@ -8,6 +8,8 @@ mod clients;
 #[cfg(test)]
 mod placement;
 #[cfg(test)]
+mod places;
+#[cfg(test)]
 mod refusals;
 #[cfg(test)]
 mod widgets;
