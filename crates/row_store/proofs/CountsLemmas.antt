@@ -14,9 +14,9 @@ use Rattle.widget_model.specs.Widgets.{row_at, with_row, without_row, nodes}
 use Rattle.widget_model.specs.Forest.{HaveOwnNumbers}
 use Rattle.row_store.specs.declared.count.Count.{Count}
 use Rattle.row_store.specs.Counts.{no_count, no_counts, number_alike, one_more, one_less, count_in, gained, lost, forgotten, AreCounts}
-use Rattle.row_store.proofs.Nodes.{count-push, nodes-with_row}
+use Rattle.row_store.proofs.UnderNumbers.{count-cons, count-push, count_of-without_row, count_of-others}
 
--- the places of a list that has one changed
+-- the counts of a list that has one changed
 count_in-set : (counts : List Count) (at client : ℕ) (c : Count) → at < length counts → count_in (set counts at c) client ≡ cond (nat_eq client at) c (count_in counts client)
 count_in-set counts at client c within = by (nat_eq client at) refl
   where
@@ -55,77 +55,13 @@ one_less-screens Window c = omega arith
 one_less-screens VScreen c = refl
 one_less-screens _ c = omega arith
 
-count_of-cons : (client : ℕ) (test : Kind → Bool) (e : ℕ × Node) (es : List (ℕ × Node)) → count_of client test (e ∷ es) ≡ cond (nat_eq client e.1.client && test e.1.kind) 1 0 + count_of client test es
-count_of-cons client test e es = sum_by-cons (λ (x : ℕ × Node). cond (nat_eq client x.1.client && test x.1.kind) 1 0) e es
-
 -- nodes of kinds that don't pass aren't counted
 count_of-none_pass : (client : ℕ) (test : Kind → Bool) → ((kind : Kind) → test kind ≡ false) → (es : List (ℕ × Node)) → count_of client test es ≡ 0
 count_of-none_pass client test none [] = refl
 count_of-none_pass client test none (e ∷ es) =
-    let here : (nat_eq client e.1.client && test e.1.kind) ≡ false = by (nat_eq client e.1.client) in
-    count_of-cons client test e es ∙ rw (here, count_of-none_pass client test none es) refl
-  where
-    by : (b : Bool) → (b && test e.1.kind) ≡ false
-    by true = none e.1.kind
-    by false = refl
-
-without_row-absent : (es : List (ℕ × Row)) (id : ℕ) → node_at (nodes es) id ≡ None → without_row id es ≡ es
-without_row-absent [] id absent = refl
-without_row-absent (e ∷ es) id absent = by (without_row-absent es id) (nat_eq id e.0) absent
-  where
-    by : (node_at (nodes es) id ≡ None → without_row id es ≡ es) → (b : Bool) → cond b (Some (node_of e.1)) (node_at (nodes es) id) ≡ None → cond b (without_row id es) (e ∷ without_row id es) ≡ e ∷ es
-    by rest true h = absurd (cc)
-    by rest false h = rw (rest h) refl
-
--- what a row that is taken out counted for
-pub count_of-without_row : (client : ℕ) (test : Kind → Bool) (es : List (ℕ × Row)) (id : ℕ) (row : Row) → HaveOwnNumbers (nodes es) → row_at es id ≡ Some row → count_of client test (nodes es) ≡ cond (nat_eq client row.client && test row.kind) 1 0 + count_of client test (nodes (without_row id es))
-count_of-without_row client test [] id row own there = absurd (cc)
-count_of-without_row client test (e ∷ es) id row own there = by (count_of-without_row client test es id row own.1) (nat_eq id e.0) refl there
-  where
-    by : (row_at es id ≡ Some row → count_of client test (nodes es) ≡ cond (nat_eq client row.client && test row.kind) 1 0 + count_of client test (nodes (without_row id es))) → (b : Bool) → nat_eq id e.0 ≡ b → cond b (Some e.1) (row_at es id) ≡ Some row → count_of client test (nodes (e ∷ es)) ≡ cond (nat_eq client row.client && test row.kind) 1 0 + count_of client test (nodes (cond b (without_row id es) (e ∷ without_row id es)))
-    by rest true q h =
-        let same : e.1 ≡ row = cc in
-        let absent : node_at (nodes es) id ≡ None = rw (eqb-true id e.0 q) own.0 in
-        rw (without_row-absent es id absent, ← same) (count_of-cons client test (e.0, node_of e.1) (nodes es))
-    by rest false q h =
-        omega (arith, rest h, count_of-cons client test (e.0, node_of e.1) (nodes es), count_of-cons client test (e.0, node_of e.1) (nodes (without_row id es)))
-
--- the rows of all clients but one
-abbrev others : ℕ → List (ℕ × Row) → List (ℕ × Row)
-others gone es = filter (λ e. not (nat_eq gone e.1.client)) es
-
--- with the rows of one client taken out, the others have as many as before
-pub count_of-filter : (client : ℕ) (test : Kind → Bool) (es : List (ℕ × Row)) (gone : ℕ) → count_of client test (nodes (filter (λ e. not (nat_eq gone e.1.client)) es)) ≡ cond (nat_eq client gone) 0 (count_of client test (nodes es))
-count_of-filter client test [] gone = by (nat_eq client gone)
-  where
-    none : ℕ
-    none = 0
-
-    by : (d : Bool) → none ≡ cond d none none
-    by true = refl
-    by false = refl
-count_of-filter client test (e ∷ es) gone = by (nat_eq client gone) refl (nat_eq gone e.1.client) refl (count_of-filter client test es gone)
-  where
-    whole : count_of client test (nodes (e ∷ es)) ≡ cond (nat_eq client e.1.client && test e.1.kind) 1 0 + count_of client test (nodes es)
-    whole = count_of-cons client test (e.0, node_of e.1) (nodes es)
-
-    rest_with : count_of client test (nodes (e ∷ others gone es)) ≡ cond (nat_eq client e.1.client && test e.1.kind) 1 0 + count_of client test (nodes (others gone es))
-    rest_with = count_of-cons client test (e.0, node_of e.1) (nodes (others gone es))
-
-    by : (d : Bool) → nat_eq client gone ≡ d → (b : Bool) → nat_eq gone e.1.client ≡ b → count_of client test (nodes (others gone es)) ≡ cond (nat_eq client gone) 0 (count_of client test (nodes es)) → count_of client test (nodes (cond (not b) (e ∷ others gone es) (others gone es))) ≡ cond d 0 (count_of client test (nodes (e ∷ es)))
-    by true q true p rest = rest ∙ rw q refl
-    by true q false p rest =
-        let apart : nat_eq client e.1.client ≡ false = ap (λ (c : ℕ). nat_eq c e.1.client) (eqb-true client gone q) ∙ p in
-        rest_with ∙ rw (apart, rest, q) refl
-    by false q true p rest =
-        let apart : nat_eq client e.1.client ≡ false = ap (nat_eq client) (sym (eqb-true gone e.1.client p)) ∙ q in
-        let none : count_of client test (nodes (e ∷ es)) ≡ 0 + count_of client test (nodes es) = whole ∙ rw apart refl in
-        let fewer : count_of client test (nodes (others gone es)) ≡ count_of client test (nodes es) = rest ∙ rw q refl in
-        let same : count_of client test (nodes (others gone es)) ≡ count_of client test (nodes (e ∷ es)) = omega (arith, none, fewer) in
-        same
-    by false q false p rest =
-        let fewer : count_of client test (nodes (others gone es)) ≡ count_of client test (nodes es) = rest ∙ rw q refl in
-        rest_with ∙ ap (λ (n : ℕ). cond (nat_eq client e.1.client && test e.1.kind) 1 0 + n) fewer ∙ sym whole
+    let here = none e.1.kind in
+    let rest = count_of-none_pass client test none es in
+    grind (arith, here, rest, count-cons client test e es)
 
 -- one of a client's numbers and how many of its nodes pass a test stay the same together
 module _ (number : Count → ℕ) (test : Kind → Bool) (client : ℕ) where
@@ -151,7 +87,7 @@ module _ (number : Count → ℕ) (test : Kind → Bool) (client : ℕ) where
 
   number-forgotten : number no_count ≡ 0 → (counts : List Count) (es : List (ℕ × Row)) (gone : ℕ) → gone < length counts → number (count_in counts client) ≡ count_of client test (nodes es) → number (count_in (forgotten gone counts) client) ≡ count_of client test (nodes (filter (λ e. not (nat_eq gone e.1.client)) es))
   number-forgotten none counts es gone within same =
-      ap number (count_in-set counts gone client no_count within) ∙ by (nat_eq client gone) ∙ sym (count_of-filter client test es gone)
+      ap number (count_in-set counts gone client no_count within) ∙ by (nat_eq client gone) ∙ sym (count_of-others client test es gone)
     where
       by : (b : Bool) → number (cond b no_count (count_in counts client)) ≡ cond b 0 (count_of client test (nodes es))
       by true = none
@@ -161,7 +97,7 @@ module _ (number : Count → ℕ) (test : Kind → Bool) (client : ℕ) where
 pub AreCounts-none : AreCounts no_counts []
 AreCounts-none =
     record {
-      places = length-replicate 17 no_count;
+      slots = length-replicate 17 no_count;
       widgets = λ client within. rw (get_or-replicate 17 client no_count no_count within) refl;
       windows = λ client within. rw (get_or-replicate 17 client no_count no_count within) refl;
       screens = λ client within. rw (get_or-replicate 17 client no_count no_count within) refl;
@@ -169,9 +105,9 @@ AreCounts-none =
 
 pub AreCounts-gain : (counts : List Count) (es : List (ℕ × Node)) (id : ℕ) (node : Node) → node.client < 17 → AreCounts counts es → AreCounts (gained node.client node.kind counts) (es ++ (id, node) ∷ [])
 AreCounts-gain counts es id node within right =
-    let inside : node.client < length counts = omega (arith, right.places) in
+    let inside : node.client < length counts = omega (arith, right.slots) in
     record {
-      places = length-set counts node.client (one_more node.kind (count_in counts node.client)) ∙ right.places;
+      slots = length-set counts node.client (one_more node.kind (count_in counts node.client)) ∙ right.slots;
       widgets = λ client w. number-gained (λ c. c.widgets) any_kind client one_more-widgets counts es id node inside (right.widgets client w);
       windows = λ client w. number-gained (λ c. c.windows) (counts_with Window) client one_more-windows counts es id node inside (right.windows client w);
       screens = λ client w. number-gained (λ c. c.screens) (counts_with VScreen) client one_more-screens counts es id node inside (right.screens client w);
@@ -179,9 +115,9 @@ AreCounts-gain counts es id node within right =
 
 pub AreCounts-lose : (counts : List Count) (es : List (ℕ × Row)) (id : ℕ) (row : Row) → row.client < 17 → HaveOwnNumbers (nodes es) → row_at es id ≡ Some row → AreCounts counts (nodes es) → AreCounts (lost row.client row.kind counts) (nodes (without_row id es))
 AreCounts-lose counts es id row within own there right =
-    let inside : row.client < length counts = omega (arith, right.places) in
+    let inside : row.client < length counts = omega (arith, right.slots) in
     record {
-      places = length-set counts row.client (one_less row.kind (count_in counts row.client)) ∙ right.places;
+      slots = length-set counts row.client (one_less row.kind (count_in counts row.client)) ∙ right.slots;
       widgets = λ client w. number-lost (λ c. c.widgets) any_kind client one_less-widgets counts es id row inside own there (right.widgets client w);
       windows = λ client w. number-lost (λ c. c.windows) (counts_with Window) client one_less-windows counts es id row inside own there (right.windows client w);
       screens = λ client w. number-lost (λ c. c.screens) (counts_with VScreen) client one_less-screens counts es id row inside own there (right.screens client w);
@@ -189,17 +125,13 @@ AreCounts-lose counts es id row within own there right =
 
 pub AreCounts-forget : (counts : List Count) (es : List (ℕ × Row)) (client : ℕ) → client < 17 → AreCounts counts (nodes es) → AreCounts (forgotten client counts) (nodes (filter (λ e. not (nat_eq client e.1.client)) es))
 AreCounts-forget counts es gone within right =
-    let inside : gone < length counts = omega (arith, right.places) in
+    let inside : gone < length counts = omega (arith, right.slots) in
     record {
-      places = length-set counts gone no_count ∙ right.places;
+      slots = length-set counts gone no_count ∙ right.slots;
       widgets = λ client w. number-forgotten (λ c. c.widgets) any_kind client refl counts es gone inside (right.widgets client w);
       windows = λ client w. number-forgotten (λ c. c.windows) (counts_with Window) client refl counts es gone inside (right.windows client w);
       screens = λ client w. number-forgotten (λ c. c.screens) (counts_with VScreen) client refl counts es gone inside (right.screens client w);
     }
-
--- a change that leaves a row's node leaves the counts
-pub AreCounts-with_row : (counts : List Count) (es : List (ℕ × Row)) (id : ℕ) (change : Row → Row) → ((row : Row) → node_of (change row) ≡ node_of row) → AreCounts counts (nodes es) → AreCounts counts (nodes (with_row id change es))
-AreCounts-with_row counts es id change same right = rw (nodes-with_row es id change same) right
 
 -- what `has` answers is how many nodes are counted
 pub number_alike-count_of : (counts : List Count) (es : List (ℕ × Node)) (client : ℕ) (alike : Option Kind) → client < 17 → AreCounts counts es → number_alike alike (count_in counts client) ≡ count_of client (counted alike) es

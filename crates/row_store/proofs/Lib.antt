@@ -1,8 +1,6 @@
 pub mod Options
 pub mod ShownLemmas
-pub mod Nodes
-pub mod Index
-pub mod Taken
-pub mod TakenInTurn
+pub mod UnderNumbers
+pub mod UnderNames
 pub mod CountsLemmas
 pub mod FilledUp

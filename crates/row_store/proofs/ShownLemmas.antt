@@ -1,5 +1,5 @@
 -- What the numbered rows are after a row is put under a new key, changed, or taken out.
-use Rattle.std.proofs.Common.{◌≡◌, ◌≢◌, ℕ, zero, suc, true, false, cond, nat_eq, List, [], ◌∷◌, ◌++◌, length, Option, Some, None, is_some, refl, sym, ap, ◌∙◌, inl, inr, slice_get}
+use Rattle.std.proofs.Common.{◌≡◌, ◌≢◌, ℕ, zero, suc, true, false, cond, nat_eq, List, [], ◌∷◌, ◌++◌, length, Option, Some, None, is_some, refl, sym, ap, ◌∙◌, inl, inr, slice_get, arith}
 use Rattle.std.proofs.lemmas.Bool.{true≢false, eqb-true, eq-eqb, ne_eqb, eqb-false, cases_Bool}
 use Rattle.std.specs.Option.{option_and_then}
 use Rattle.std.specs.Map.{lookup, remove_entry}
@@ -19,47 +19,31 @@ nat_eq_symm a b h = ne_eqb b a (λ e. eqb-false a b h (sym e))
 module _ (at : ℕ → Option Row) where
   pub length-shown : (es : List (ℕ × ℕ)) → IsShown at es → length (shown at es) ≡ length es
   length-shown [] h = refl
-  length-shown (e ∷ es) h =
-      let (row, there) = none_or_some (at e.1) h.0 in
-      rw there (ap suc (length-shown es h.2))
+  length-shown (e ∷ es) h = let rest = length-shown es h.2 in let there = h.0 in grind (arith, rest, there)
 
   -- a number finds what its key has
   pub row_at-shown : (es : List (ℕ × ℕ)) (id : ℕ) → IsShown at es → row_at (shown at es) id ≡ option_and_then at (lookup (nat_eq id) es)
   row_at-shown [] id h = refl
-  row_at-shown (e ∷ es) id h =
-      let p = none_or_some (at e.1) h.0 in
-      elim (cases_Bool (nat_eq id e.0)) [
-        | inl hit ↦ rw (p.1, hit) (sym p.1)
-        | inr miss ↦ rw (p.1, miss) (row_at-shown es id h.2)
-      ]
+  row_at-shown (e ∷ es) id h = let rest = row_at-shown es id h.2 in let there = h.0 in grind (arith, rest, there)
 
-  -- the key at a place has a row
+  -- the key at an index has a row
   pub slice_get-live : (es : List (ℕ × ℕ)) (i id key : ℕ) → IsShown at es → slice_get es i ≡ Some (id, key) → is_some (at key) ≡ true
   slice_get-live [] i id key h there = absurd (cc)
   slice_get-live (e ∷ es) zero id key h there = let same : e ≡ (id, key) = cc in rw same at h.0
   slice_get-live (e ∷ es) (suc i) id key h there = slice_get-live es i id key h.2 there
 
-  -- the row at a place is the one under the key there
+  -- the row at an index is the one under the key there
   pub slice_get-shown : (es : List (ℕ × ℕ)) (i id key : ℕ) (row : Row) → IsShown at es → slice_get es i ≡ Some (id, key) → at key ≡ Some row → slice_get (shown at es) i ≡ Some (id, row)
   slice_get-shown [] i id key row h there found = absurd (cc)
   slice_get-shown (e ∷ es) zero id key row h there found =
       let same : e ≡ (id, key) = cc in
       rw (same, found) refl
-  slice_get-shown (e ∷ es) (suc i) id key row h there found =
-      let p = none_or_some (at e.1) h.0 in
-      rw p.1 (slice_get-shown es i id key row h.2 there found)
+  slice_get-shown (e ∷ es) (suc i) id key row h there found = let rest = slice_get-shown es i id key row h.2 there found in let some = h.0 in grind (arith, rest, some)
 
   -- the key of a listed number has a row
   pub lookup-live : (es : List (ℕ × ℕ)) (id key : ℕ) → IsShown at es → lookup (nat_eq id) es ≡ Some key → is_some (at key) ≡ true
   lookup-live [] id key h found = absurd (cc)
-  lookup-live (e ∷ es) id key h found =
-      elim (cases_Bool (nat_eq id e.0)) [
-        | inl hit ↦ let same : e.1 ≡ key = by hit found in rw (← same) h.0
-        | inr miss ↦ lookup-live es id key h.2 (rw miss at found)
-      ]
-    where
-      by : nat_eq id e.0 ≡ true → cond (nat_eq id e.0) (Some e.1) (lookup (nat_eq id) es) ≡ Some key → e.1 ≡ key
-      by hit found = let g = rw hit at found in cc
+  lookup-live (e ∷ es) id key h found = let here = h.0 in grind (arith, here, lookup-live es id key h.2)
 
   -- a number with a row is listed, and one without isn't
   pub listed : (es : List (ℕ × ℕ)) (id : ℕ) → IsShown at es → is_some (row_at (shown at es) id) ≡ true → is_some (lookup (nat_eq id) es) ≡ true
@@ -116,34 +100,23 @@ module _ (at at' : ℕ → Option Row) (key : ℕ) (others : (other : ℕ) → o
   -- a list without the number is changed nowhere
   with_row_absent : (es : List (ℕ × ℕ)) (id : ℕ) (change : Row → Row) → IsShown at es → IsApart (id, key) es → with_row id change (shown at es) ≡ shown at es
   with_row_absent [] id change h apart = refl
-  with_row_absent (e ∷ es) id change h apart =
-      let p = none_or_some (at e.1) h.0 in
-      rw (p.1, apart.0, with_row_absent es id change h.2 apart.2) refl
+  with_row_absent (e ∷ es) id change h apart = let rest = with_row_absent es id change h.2 apart.2 in let there = h.0 in let other = apart.0 in grind (arith, rest, there, other)
 
   without_row_absent : (es : List (ℕ × ℕ)) (id : ℕ) → IsShown at es → IsApart (id, key) es → without_row id (shown at es) ≡ shown at es
   without_row_absent [] id h apart = refl
-  without_row_absent (e ∷ es) id h apart =
-      let p = none_or_some (at e.1) h.0 in
-      rw (p.1, apart.0, without_row_absent es id h.2 apart.2) refl
+  without_row_absent (e ∷ es) id h apart = let rest = without_row_absent es id h.2 apart.2 in let there = h.0 in let other = apart.0 in grind (arith, rest, there, other)
 
   -- an entry that is apart from a list has another key than a number of the list
   apart_key : (es : List (ℕ × ℕ)) (e : ℕ × ℕ) (id : ℕ) → IsApart e es → lookup (nat_eq id) es ≡ Some key → nat_eq e.1 key ≡ false
   apart_key [] e id apart found = absurd (cc)
-  apart_key (f ∷ fs) e id apart found =
-      elim (cases_Bool (nat_eq id f.0)) [
-        | inl hit ↦ let same : f.1 ≡ key = by hit found in rw (← same) apart.1
-        | inr miss ↦ apart_key fs e id apart.2 (rw miss at found)
-      ]
-    where
-      by : nat_eq id f.0 ≡ true → cond (nat_eq id f.0) (Some f.1) (lookup (nat_eq id) fs) ≡ Some key → f.1 ≡ key
-      by hit found = let g = rw hit at found in cc
+  apart_key (f ∷ fs) e id apart found = let other = apart.1 in grind (arith, other, apart_key fs e id apart.2)
 
   -- the first entry with the number is the one that was found
   first_found : (e : ℕ × ℕ) (es : List (ℕ × ℕ)) (id : ℕ) → nat_eq id e.0 ≡ true → lookup (nat_eq id) (e ∷ es) ≡ Some key → e ≡ (id, key)
   first_found e es id hit found =
       let g = rw hit at found in
-      let place : e.1 ≡ key = cc in
-      λ i. (sym (eqb-true id e.0 hit) i, place i)
+      let number : e.1 ≡ key = cc in
+      λ i. (sym (eqb-true id e.0 hit) i, number i)
 
   -- the row under a listed key is shown changed, where its number stands
   pub shown-change : (es : List (ℕ × ℕ)) (id : ℕ) (row : Row) (change : Row → Row) → IsShown at es → lookup (nat_eq id) es ≡ Some key → at key ≡ Some row → at' key ≡ Some (change row) → (shown at' es ≡ with_row id change (shown at es)) × IsShown at' es

@@ -1,4 +1,4 @@
--- How many widgets each client has: a list has a place for each client, 1 to 16, at its number.
+-- How many widgets each client has: a list has a slot for each client, 1 to 16, at its number.
 use Rattle.std.specs.Prelude.{ℕ, ◌≡◌, ◌<◌, ◌+◌, ◌-◌, List, length, replicate, slice_index_or, slice_set, Option, Some, None}
 use Rattle.kind_core.specs.declared.kinds.Kind.{Kind}
 use Rattle.kind_core.specs.declared.kinds.Kind.TheVariants.{Window, VScreen}
@@ -45,9 +45,9 @@ abbrev pub forgotten : ℕ → List Count → List Count
 forgotten client counts = slice_set counts client no_count
 
 -- Each client's count says how many nodes it has, how many of them are Windows and how many are VScreens.
--- There are places 0 to 16.
+-- There are slots 0 to 16.
 pub record AreCounts (counts : List Count) (entries : List (ℕ × Node)) : Type 0 where
-  pub places : length counts ≡ 17
+  pub slots : length counts ≡ 17
   pub widgets : (client : ℕ) → client < 17 → (count_in counts client).widgets ≡ count_of client any_kind entries
   pub windows : (client : ℕ) → client < 17 → (count_in counts client).windows ≡ count_of client (counts_with Window) entries
   pub screens : (client : ℕ) → client < 17 → (count_in counts client).screens ≡ count_of client (counts_with VScreen) entries

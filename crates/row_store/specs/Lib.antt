@@ -1,6 +1,6 @@
 pub mod Changes
 pub mod Shown
-pub mod Places
+pub mod CellTable
 pub mod Counts
 pub mod Index
 pub mod KeptSlots

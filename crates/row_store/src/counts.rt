@@ -7,7 +7,7 @@ use kind_core::Kind;
 use std::marker::Model;
 
 /// How many widgets each client, 1 to 16, has, and where the search for its next number begins. Contracts see
-/// the list of the counts alone, with places 0 to 16. See docs/MACHINE.md, "Widgets".
+/// the list of the counts alone, with slots 0 to 16. See docs/MACHINE.md, "Widgets".
 pub struct Counts {
     counts: [Count; 17],
     starts: [u32; 17],
@@ -121,9 +121,9 @@ impl Counts {
         requires alike { number_alike (Some kind) (count_in self.old client) < 8 }
         ensures { self.new ≡ gained client kind self.old }
     {
-        let place = client as usize;
-        self.counts[place] = one_more(self.counts[place], kind);
-        self.starts[place] = id % 128 + 1;
+        let slot = client as usize;
+        self.counts[slot] = one_more(self.counts[slot], kind);
+        self.starts[slot] = id % 128 + 1;
     }
 
     /// Counts a widget of the client no more.
@@ -133,8 +133,8 @@ impl Counts {
         requires alike { counts_with kind kind ≡ true → 0 < number_alike (Some kind) (count_in self.old client) }
         ensures { self.new ≡ lost client kind self.old }
     {
-        let place = client as usize;
-        self.counts[place] = one_less(self.counts[place], kind);
+        let slot = client as usize;
+        self.counts[slot] = one_less(self.counts[slot], kind);
     }
 
     /// Counts no widget of the client.
@@ -142,8 +142,8 @@ impl Counts {
         requires { client < 17 }
         ensures { self.new ≡ forgotten client self.old }
     {
-        let place = client as usize;
-        self.counts[place] = no_count();
-        self.starts[place] = 0;
+        let slot = client as usize;
+        self.counts[slot] = no_count();
+        self.starts[slot] = 0;
     }
 }

@@ -8,8 +8,8 @@ mod count;
 mod counts;
 mod kept_places;
 mod names;
-mod places;
 mod row;
+mod slots;
 mod store;
 
 pub use cells::Cells;

@@ -4,13 +4,13 @@ ghost use Rattle.widget_model.specs.Rows.{new_row, first_values, default_at, att
 ghost use Rattle.row_store.specs.Changes.{changed_by, CanBeMade};
 
 use crate::change::Change;
-use crate::places::{attr_slot, event_slot};
+use crate::slots::{attr_slot, event_slot};
 use kind_core::{Attr, Cell, EventKind, Kind, Name, Value, default_of};
 use std::marker::Model;
 use std::mem;
 use vscreen_core::Film;
 
-/// One widget of a client, which contracts see as the record `Row` of desk_model. See docs/MACHINE.md,
+/// One widget of a client, which contracts see as the record `Row` of widget_model. See docs/MACHINE.md,
 /// "Widgets".
 #[derive(Drop)]
 pub struct Row {

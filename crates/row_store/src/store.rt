@@ -60,7 +60,7 @@ impl Store {
         self.keys.len()
     }
 
-    /// The number and the row at the place, from 0.
+    /// The number and the row at the index, from 0.
     pub fn at(&self, index: usize) -> (u32, &Row)
         requires { index < length self.now }
         ensures { slice_get self.now index ≡ Some (result.0, result.1.now) }
@@ -135,7 +135,7 @@ pub fn drop_rows(store: &mut Store, client: u32)
     }
 }
 
-/// The number and the row at the place.
+/// The number and the row at the index.
 fn entry_at<'a>(keys: &'a IndexMap<u32, usize>, rows: &'a Slab<Row>, index: usize) -> (u32, &'a Row)
     requires kept { IsShown (slab_get rows.now) keys.now.entries }
     requires within { index < length (shown (slab_get rows.now) keys.now.entries) }

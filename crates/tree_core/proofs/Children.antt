@@ -1,6 +1,7 @@
 -- Which widget hangs in which cell of which, said of the numbered rows.
 use Rattle.std.proofs.Common.{◌≡◌, ℕ, ◌+◌, ◌-◌, ◌*◌, ◌<◌, true, false, ◌&&◌, nat_eq, nat_le, List, Option, Some, None, refl, sym, ap, ◌∙◌, arith}
-use Rattle.std.proofs.lemmas.Bool.{true≢false, eqb-true, and_parts, leb-true}
+use Rattle.std.proofs.lemmas.Bool.{true≢false, and_parts}
+use Rattle.std.proofs.lemmas.Bool.Decides.{nat_tests}
 use Rattle.std.specs.Option.{option_map_or, option_and_then}
 use Rattle.kind_core.specs.declared.kinds.Kind.{Kind}
 use Rattle.kind_core.specs.declared.kinds.Kind.TheVariants.{Window, Grid, Frame}
@@ -107,19 +108,10 @@ pub record IsCellOf (kind : Kind) (cell : Cell) : Type 0 where
   pub within : (cell.column - 1) * 16 + (cell.row - 1) < cells_of kind
 
 is_cell-index : (cell : Cell) → is_cell cell ≡ true → IsIndex cell.column × IsIndex cell.row
-is_cell-index cell h =
-    let a = and_parts (nat_le 1 cell.column && nat_le cell.column 16) ((nat_le 1 cell.row && nat_le cell.row 16) && nat_le cell.pad 16) h in
-    let c = and_parts (nat_le 1 cell.column) (nat_le cell.column 16) a.0 in
-    let b = and_parts (nat_le 1 cell.row && nat_le cell.row 16) (nat_le cell.pad 16) a.1 in
-    let r = and_parts (nat_le 1 cell.row) (nat_le cell.row 16) b.0 in
-    ((leb-true 1 cell.column c.0, leb-true cell.column 16 c.1), (leb-true 1 cell.row r.0, leb-true cell.row 16 r.1))
+is_cell-index cell h = ((grind (arith, nat_tests), grind (arith, nat_tests)), (grind (arith, nat_tests), grind (arith, nat_tests)))
 
 one_cell : (cell : Cell) → (is_cell cell && (nat_eq cell.column 1 && nat_eq cell.row 1)) ≡ true → IsIndex cell.column × IsIndex cell.row × ((cell.column - 1) * 16 + (cell.row - 1) < 1)
-one_cell cell h =
-    let a = and_parts (is_cell cell) (nat_eq cell.column 1 && nat_eq cell.row 1) h in
-    let b = and_parts (nat_eq cell.column 1) (nat_eq cell.row 1) a.1 in
-    let i = is_cell-index cell a.0 in
-    (i.0, i.1, omega (arith, eqb-true cell.column 1 b.0, eqb-true cell.row 1 b.1))
+one_cell cell h = ((grind (arith, nat_tests), grind (arith, nat_tests)), (grind (arith, nat_tests), grind (arith, nat_tests)), grind (arith, nat_tests))
 
 pub has_cell-IsCellOf : (kind : Kind) (cell : Cell) → has_cell kind cell ≡ true → IsCellOf kind cell
 has_cell-IsCellOf Window cell h = let i = one_cell cell h in record { column = i.0; line = i.1; within = i.2 }

@@ -14,7 +14,7 @@ use Rattle.widget_model.specs.Trees.{is_child, height_in, greatest_child}
 use Rattle.widget_model.specs.Relatives.{child_id}
 use Rattle.widget_model.specs.Widgets.{row_at}
 use Rattle.tree_core.specs.Children.{cells_of, rows_in, widgets_in, HasChildren}
-use Rattle.row_store.specs.Places.{cell_place}
+use Rattle.row_store.specs.CellTable.{cell_offset}
 use Rattle.widget_model.specs.Rows.{IsIndex}
 use Rattle.tree_core.specs.Kept.{IsGrove}
 use Rattle.tree_core.proofs.Listed.{listed_number, numbered_place, any_at, any_place}
@@ -37,7 +37,7 @@ cell-child es cells above index below upper grove children there less found =
     let line : ℕ = index % 16 + 1 in
     let column_in : IsIndex column = (omega arith, omega arith) in
     let line_in : IsIndex line = (omega arith, omega arith) in
-    let place : cell_place above column line ≡ above * 256 + index = omega arith in
+    let place : cell_offset above column line ≡ above * 256 + index = omega arith in
     let number : child_id (widgets_in es) above column line ≡ Some below = sym (children.each above column line column_in line_in) ∙ ap (λ (n : ℕ). get_or cells n None) place ∙ found in
     let h = child_id-hangs es below above column line grove number in
     let same : h.upper ≡ upper = let one : Some h.upper ≡ Some upper = sym h.upper_there ∙ there in cc in
@@ -80,7 +80,7 @@ child-cell es cells above place upper lower grove children there placed is =
     let one : upper ≡ h.upper = let q : Some upper ≡ Some h.upper = sym there ∙ ap (row_at es) same ∙ h.upper_there in cc in
     let index : ℕ = (attached.0.column - 1) * 16 + (attached.0.row - 1) in
     let found = children.each h.number attached.0.column attached.0.row h.cell_is.column h.cell_is.line ∙ hangs-child_id es number.0 h.number attached.0.column attached.0.row grove (HangsUnder-HangsAt es number.0 lower upper.name attached.0 number.1 attached.1 h) in
-    let at : above * 256 + index ≡ cell_place h.number attached.0.column attached.0.row = rw same (omega arith) in
+    let at : above * 256 + index ≡ cell_offset h.number attached.0.column attached.0.row = rw same (omega arith) in
     record {
       index = index;
       below = number.0;
@@ -114,40 +114,42 @@ pub record IsGreatest (es : List (ℕ × Row)) (cells : List (Option ℕ)) (most
 pub IsGreatest-none : (es : List (ℕ × Row)) (cells : List (Option ℕ)) (most above : ℕ) → IsGreatest es cells most above 0 0
 IsGreatest-none es cells most above = record { within = omega arith; no_more = λ upper there. omega arith; no_less = λ k below lower less. absurd (omega arith) }
 
-pub IsGreatest-empty : (es : List (ℕ × Row)) (cells : List (Option ℕ)) (most above index greatest : ℕ) → IsGreatest es cells most above index greatest → get_or cells (above * 256 + index) None ≡ None → IsGreatest es cells most above (index + 1) greatest
-IsGreatest-empty es cells most above index greatest h empty =
-    record { within = h.within; no_more = h.no_more; no_less = λ k below lower less found there. by k below lower less found there (cases_lt k index) }
-  where
-    by : (k below : ℕ) (lower : Row) → k < index + 1 → get_or cells (above * 256 + k) None ≡ Some below → row_at es below ≡ Some lower → (k < index) ⊎ (index ≤ k) → height_in most (rows_in es) lower.client lower.name ≤ greatest
-    by k below lower less found there (inl q) = h.no_less k below lower q found there
-    by k below lower less found there (inr q) =
-        let same : k ≡ index = omega arith in
-        absurd (let none : None ≡ Some below = sym empty ∙ ap (λ (n : ℕ). get_or cells (above * 256 + n) None) (sym same) ∙ found in cc)
+module _ (es : List (ℕ × Row)) (cells : List (Option ℕ)) (most above index greatest : ℕ) (h : IsGreatest es cells most above index greatest) where
+  -- one more cell, empty or with a child
+  one_more : (more : ℕ) → greatest ≤ more → ((below : ℕ) (lower : Row) → get_or cells (above * 256 + index) None ≡ Some below → row_at es below ≡ Some lower → height_in most (rows_in es) lower.client lower.name ≤ more) → (k below : ℕ) (lower : Row) → k < index + 1 → get_or cells (above * 256 + k) None ≡ Some below → row_at es below ≡ Some lower → height_in most (rows_in es) lower.client lower.name ≤ more
+  one_more more longer last k below lower less found there = by (cases_lt k index)
+    where
+      by : (k < index) ⊎ (index ≤ k) → height_in most (rows_in es) lower.client lower.name ≤ more
+      by (inl q) = let old = h.no_less k below lower q found there in omega (arith, old)
+      by (inr q) =
+          let same : k ≡ index = omega arith in
+          last below lower (ap (λ (n : ℕ). get_or cells (above * 256 + n) None) (sym same) ∙ found) there
 
-pub IsGreatest-child : (es : List (ℕ × Row)) (cells : List (Option ℕ)) (most above index greatest child height : ℕ) → IsGrove es → HasChildren es cells → index < 256 → IsGreatest es cells most above index greatest → get_or cells (above * 256 + index) None ≡ Some child → option_map (λ (row : Row). height_in most (rows_in es) row.client row.name) (row_at es child) ≡ Some height → height ≤ most → IsGreatest es cells most above (index + 1) (max greatest height)
-IsGreatest-child es cells most above index greatest child height grove children bound h there is low =
-    record { within = omega (arith, h.within); no_more = λ upper at. no_more upper at; no_less = λ k below lower less found at. by k below lower less found at (cases_lt k index) }
-  where
-    own : (lower : Row) → row_at es child ≡ Some lower → height_in most (rows_in es) lower.client lower.name ≡ height
-    own lower at = let one : Some (height_in most (rows_in es) lower.client lower.name) ≡ Some height = ap (option_map (λ (row : Row). height_in most (rows_in es) row.client row.name)) (sym at) ∙ is in cc
+  pub IsGreatest-empty : get_or cells (above * 256 + index) None ≡ None → IsGreatest es cells most above (index + 1) greatest
+  IsGreatest-empty empty =
+      record { within = h.within; no_more = h.no_more; no_less = one_more greatest (omega arith) (λ below lower found there. absurd (let none : None ≡ Some below = sym empty ∙ found in cc)) }
 
-    no_more : (upper : Row) → row_at es above ≡ Some upper → max greatest height ≤ greatest_child (height_in most (rows_in es) upper.client) upper.client upper.name (rows_in es)
-    no_more upper at =
-        let row = cell-child es cells above index child upper grove children at bound there in
-        let each = greatest_child-each (height_in most (rows_in es) upper.client) upper.client upper.name (rows_in es) row.place row.lower row.placed row.is in
-        let client : height_in most (rows_in es) row.lower.client row.lower.name ≡ height_in most (rows_in es) upper.client row.lower.name = ap (λ (n : ℕ). height_in most (rows_in es) n row.lower.name) row.owner in
-        let same = own row.lower row.lower_there in
-        let old = h.no_more upper at in
-        omega (arith, each, client, same, old)
+  pub IsGreatest-child : (child height : ℕ) → IsGrove es → HasChildren es cells → index < 256 → get_or cells (above * 256 + index) None ≡ Some child → option_map (λ (row : Row). height_in most (rows_in es) row.client row.name) (row_at es child) ≡ Some height → height ≤ most → IsGreatest es cells most above (index + 1) (max greatest height)
+  IsGreatest-child child height grove children bound there is low =
+      record { within = omega (arith, h.within); no_more = λ upper at. no_more upper at; no_less = one_more (max greatest height) (omega arith) (λ below lower found at. omega (arith, last below lower found at)) }
+    where
+      own : (lower : Row) → row_at es child ≡ Some lower → height_in most (rows_in es) lower.client lower.name ≡ height
+      own lower at = let one : Some (height_in most (rows_in es) lower.client lower.name) ≡ Some height = ap (option_map (λ (row : Row). height_in most (rows_in es) row.client row.name)) (sym at) ∙ is in cc
 
-    by : (k below : ℕ) (lower : Row) → k < index + 1 → get_or cells (above * 256 + k) None ≡ Some below → row_at es below ≡ Some lower → (k < index) ⊎ (index ≤ k) → height_in most (rows_in es) lower.client lower.name ≤ max greatest height
-    by k below lower less found at (inl q) = let old = h.no_less k below lower q found at in omega (arith, old)
-    by k below lower less found at (inr q) =
-        let same : k ≡ index = omega arith in
-        let one : Some child ≡ Some below = sym there ∙ ap (λ (n : ℕ). get_or cells (above * 256 + n) None) (sym same) ∙ found in
-        let number : child ≡ below = cc in
-        let height_is = own lower (ap (row_at es) number ∙ at) in
-        omega (arith, height_is)
+      last : (below : ℕ) (lower : Row) → get_or cells (above * 256 + index) None ≡ Some below → row_at es below ≡ Some lower → height_in most (rows_in es) lower.client lower.name ≡ height
+      last below lower found at =
+          let one : Some child ≡ Some below = sym there ∙ found in
+          let number : child ≡ below = cc in
+          own lower (ap (row_at es) number ∙ at)
+
+      no_more : (upper : Row) → row_at es above ≡ Some upper → max greatest height ≤ greatest_child (height_in most (rows_in es) upper.client) upper.client upper.name (rows_in es)
+      no_more upper at =
+          let row = cell-child es cells above index child upper grove children at bound there in
+          let each = greatest_child-each (height_in most (rows_in es) upper.client) upper.client upper.name (rows_in es) row.place row.lower row.placed row.is in
+          let client : height_in most (rows_in es) row.lower.client row.lower.name ≡ height_in most (rows_in es) upper.client row.lower.name = ap (λ (n : ℕ). height_in most (rows_in es) n row.lower.name) row.owner in
+          let same = own row.lower row.lower_there in
+          let old = h.no_more upper at in
+          omega (arith, each, client, same, old)
 
 -- the greater of two numbers, as `max` of an order gives it
 pub ord_max-nat : (a b : ℕ) → ord_max nat_cmp a b ≡ max a b

@@ -1,51 +1,38 @@
--- What the facts on all widgets are after a row is put last or changed.
-use Rattle.std.proofs.Common.{◌≡◌, ℕ, zero, suc, ◌+◌, ◌<◌, ◌≤◌, Bool, true, false, cond, ◌&&◌, ◌||◌, nat_eq, nat_le, nat_lt, List, [], ◌∷◌, ◌++◌, Option, Some, None, is_some, refl, sym, ap, ◌∙◌, arith}
-use Rattle.std.proofs.lemmas.Bool.{true≢false, eqb-true, eq-eqb, ne_eqb, eqb-false, and_parts, and_from, leb-true, leb-false, ltb-true, le-leb, lt-ltb}
-use Rattle.std.proofs.lemmas.List.Sums.{sum_by-cons}
+-- What the facts on the nodes and numbers of all widgets are after a row is put last or changed, after rows are taken
+-- out, and after a client joins or leaves.
+use Rattle.std.proofs.Common.{◌≡◌, ℕ, zero, suc, ◌+◌, ◌<◌, ◌≤◌, Bool, true, false, cond, not, ◌&&◌, ◌||◌, nat_eq, nat_le, nat_lt, List, [], ◌∷◌, ◌++◌, Option, Some, None, is_some, refl, sym, ap, ◌∙◌, arith}
+use Rattle.std.proofs.lemmas.Bool.{true≢false, eqb-true, and_parts, and_from, leb-true, leb-false, ltb-true, le-leb}
+use Rattle.std.proofs.lemmas.Bool.Decides.{nat_tests}
 use Rattle.std.proofs.lemmas.List.Folds.{list_all-append, list_any-append}
-use Rattle.std.proofs.lemmas.Slice.Eq.{bytes_eq-Decides}
 use Rattle.std.specs.Cmp.{nat_eq_equiv}
 use Rattle.std.specs.Cmp.Lexicographic.{nat_list_eq_equiv}
-use Rattle.std.specs.List.{count_by, list_all}
+use Rattle.std.specs.List.{filter, list_all}
 use Rattle.std.specs.Option.{option_map}
-use Rattle.std.specs.Str.{bytes_eq}
 use Rattle.kind_core.specs.declared.kinds.Kind.{Kind}
-use Rattle.kind_core.specs.declared.kinds.Kind.TheVariants.{Window, Variable, VScreen}
-use Rattle.widget_model.specs.Rows.{Row, with_link}
-use Rattle.widget_model.specs.Links.{Tie, ties, is_variable, leads, all_lead, name_at}
-use Rattle.widget_model.specs.Nodes.{Node, node_of, is_named, id_named, kind_named, node_at, count_of, first_number, is_number_of}
+use Rattle.kind_core.specs.declared.kinds.Kind.TheVariants.{Window, VScreen}
+use Rattle.widget_model.specs.Rows.{Row}
+use Rattle.widget_model.specs.Nodes.{Node, node_of, is_named, id_named, node_at, count_of, first_number, is_number_of}
 use Rattle.widget_model.specs.Kinds.{any_kind, counts_with}
-use Rattle.widget_model.specs.Widgets.{row_at, row_kind, row_client, with_row, nodes}
+use Rattle.widget_model.specs.Widgets.{row_at, with_row, nodes}
 use Rattle.widget_model.specs.Clients.{is_joined, is_client}
 use Rattle.widget_model.specs.Forest.{HaveOwnNumbers, HaveOwnNames, IsForest}
-use Rattle.widget_model.proofs.Naming.{with_row-absent}
-use Rattle.row_store.proofs.Index.{id_named-push}
-pub use Rattle.row_store.proofs.Nodes.{node_at-nodes, nodes-with_row}
-use Rattle.row_store.proofs.Nodes.{nodes-push, count-push}
+use Rattle.row_store.proofs.UnderNames.{id_named-push, own_names-filter}
+pub use Rattle.row_store.proofs.UnderNumbers.{node_at-nodes, nodes-with_row}
+use Rattle.row_store.proofs.UnderNumbers.{count-cons, count-push, count_of-filter, own_numbers-filter, row_at-with_row}
 use Rattle.tree_core.specs.Refusals.{add_refusal}
 use Rattle.tree_core.specs.declared.refusal.AddRefusal.TheVariants.{NameTaken, Full}
 
+-- one more node has a number and a name of its own
 node_at-push : (es : List (ℕ × Node)) (e : ℕ × Node) (id : ℕ) → nat_eq id e.0 ≡ false → node_at es id ≡ None → node_at (es ++ e ∷ []) id ≡ None
 node_at-push [] e id other absent = rw other refl
-node_at-push (f ∷ fs) e id other absent = by (node_at-push fs e id other) (nat_eq id f.0) absent
-  where
-    by : (node_at fs id ≡ None → node_at (fs ++ e ∷ []) id ≡ None) → (b : Bool) → cond b (Some f.1) (node_at fs id) ≡ None → cond b (Some f.1) (node_at (fs ++ e ∷ []) id) ≡ None
-    by rest true h = absurd (cc)
-    by rest false h = rest h
+node_at-push (f ∷ fs) e id other absent = grind (arith, node_at-push fs e id other)
 
 HaveOwnNumbers-push : (es : List (ℕ × Node)) (id : ℕ) (node : Node) → HaveOwnNumbers es → node_at es id ≡ None → HaveOwnNumbers (es ++ (id, node) ∷ [])
 HaveOwnNumbers-push [] id node own absent = (refl, tt)
 HaveOwnNumbers-push (e ∷ es) id node own absent =
-    let b : (nat_eq id e.0 ≡ false) × (node_at es id ≡ None) = by (nat_eq id e.0) refl absent in
-    let other : nat_eq e.0 id ≡ false = ne_eqb e.0 id (λ q. eqb-false id e.0 b.0 (sym q)) in
-    (node_at-push es (id, node) e.0 other own.0, HaveOwnNumbers-push es id node own.1 b.1)
-  where
-    by : (b : Bool) → nat_eq id e.0 ≡ b → cond b (Some e.1) (node_at es id) ≡ None → (nat_eq id e.0 ≡ false) × (node_at es id ≡ None)
-    by true p h = absurd (cc)
-    by false p h = (p, h)
-
-id_named-push_other : (es : List (ℕ × Node)) (e : ℕ × Node) (client : ℕ) (name : List ℕ) → is_named client name e.1 ≡ false → id_named es client name ≡ None → id_named (es ++ e ∷ []) client name ≡ None
-id_named-push_other es e client name other absent = id_named-push es e client name ∙ rw (absent, other) refl
+    let other : nat_eq e.0 id ≡ false = grind (arith, nat_tests) in
+    let rest : node_at es id ≡ None = grind arith in
+    (node_at-push es (id, node) e.0 other own.0, HaveOwnNumbers-push es id node own.1 rest)
 
 is_named-symm : (a b : Node) → is_named a.client a.name b ≡ is_named b.client b.name a
 is_named-symm a b = rw (nat_eq_equiv.symm a.client b.client, nat_list_eq_equiv.symm a.name b.name) refl
@@ -53,8 +40,8 @@ is_named-symm a b = rw (nat_eq_equiv.symm a.client b.client, nat_list_eq_equiv.s
 HaveOwnNames-push : (es : List (ℕ × Node)) (id : ℕ) (node : Node) → HaveOwnNames es → id_named es node.client node.name ≡ None → HaveOwnNames (es ++ (id, node) ∷ [])
 HaveOwnNames-push [] id node own absent = (refl, tt)
 HaveOwnNames-push (e ∷ es) id node own absent =
-    let b = by (is_named node.client node.name e.1) refl absent in
-    (id_named-push_other es (id, node) e.1.client e.1.name (is_named-symm e.1 node ∙ b.0) own.0, HaveOwnNames-push es id node own.1 b.1)
+    let apart = by (is_named node.client node.name e.1) refl absent in
+    (id_named-push es (id, node) e.1.client e.1.name ∙ rw (own.0, is_named-symm e.1 node, apart.0) refl, HaveOwnNames-push es id node own.1 apart.1)
   where
     by : (b : Bool) → is_named node.client node.name e.1 ≡ b → cond b (Some e.0) (id_named es node.client node.name) ≡ None → (is_named node.client node.name e.1 ≡ false) × (id_named es node.client node.name ≡ None)
     by true p h = absurd (cc)
@@ -77,37 +64,27 @@ IsForest-push clients es id node kept free unnamed own member room alike_room =
       numbers = list_all-push (λ (e : ℕ × Node). is_number_of e.1.client e.0) es (id, node) kept.numbers own;
       owners = list_all-push (λ (e : ℕ × Node). is_joined clients e.1.client) es (id, node) kept.owners member;
       clients_in_range = kept.clients_in_range;
-      most = λ client. counts client;
-      most_alike = λ client kind. counts_alike client kind;
+      most = λ client. more client any_kind 127 (nat_eq client node.client) refl (kept.most client) (λ q. rw (eqb-true client node.client q) room);
+      most_alike = λ client kind. like client kind (counts_with kind node.kind) refl (kept.most_alike client kind);
     }
   where
-    counts : (client : ℕ) → count_of client any_kind (es ++ (id, node) ∷ []) ≤ 128
-    counts client = by (nat_eq client node.client) refl
+    more : (client : ℕ) (test : Kind → Bool) (most : ℕ) (b : Bool) → nat_eq client node.client ≡ b → count_of client test es ≤ most + 1 → (nat_eq client node.client ≡ true → count_of client test es < most + 1) → count_of client test (es ++ (id, node) ∷ []) ≤ most + 1
+    more client test most true q old less = let longer = count-push client test es (id, node) in omega (arith, longer, less q, one (nat_eq client node.client && test node.kind))
       where
-        by : (b : Bool) → nat_eq client node.client ≡ b → count_of client any_kind (es ++ (id, node) ∷ []) ≤ 128
-        by true p =
-            let same : client ≡ node.client = eqb-true client node.client p in
-            let less : count_of client any_kind es < 128 = rw same room in
-            let more : count_of client any_kind (es ++ (id, node) ∷ []) ≡ count_of client any_kind es + 1 = count-push client any_kind es (id, node) ∙ rw p refl in
-            omega arith
-        by false p =
-            let more : count_of client any_kind (es ++ (id, node) ∷ []) ≡ count_of client any_kind es + 0 = count-push client any_kind es (id, node) ∙ rw p refl in
-            omega (arith, kept.most client)
+        one : (b : Bool) → cond b 1 0 ≤ 1
+        one true = omega arith
+        one false = omega arith
+    more client test most false q old less = let longer : count_of client test (es ++ (id, node) ∷ []) ≡ count_of client test es + 0 = count-push client test es (id, node) ∙ rw q refl in omega (arith, longer, old)
 
-    counts_alike : (client : ℕ) (kind : Kind) → count_of client (counts_with kind) (es ++ (id, node) ∷ []) ≤ 8
-    counts_alike client kind = by (nat_eq client node.client && counts_with kind node.kind) refl
+    like : (client : ℕ) (kind : Kind) (b : Bool) → counts_with kind node.kind ≡ b → count_of client (counts_with kind) es ≤ 8 → count_of client (counts_with kind) (es ++ (id, node) ∷ []) ≤ 8
+    like client kind true q old = more client (counts_with kind) 7 (nat_eq client node.client) refl old (λ p. rw (eqb-true client node.client p, alike kind node.kind q) alike_room)
+    like client kind false q old =
+        let longer : count_of client (counts_with kind) (es ++ (id, node) ∷ []) ≡ count_of client (counts_with kind) es + cond (nat_eq client node.client && false) 1 0 = count-push client (counts_with kind) es (id, node) ∙ rw q refl in
+        omega (arith, longer, none (nat_eq client node.client), old)
       where
-        by : (b : Bool) → (nat_eq client node.client && counts_with kind node.kind) ≡ b → count_of client (counts_with kind) (es ++ (id, node) ∷ []) ≤ 8
-        by true p =
-            let parts = and_parts (nat_eq client node.client) (counts_with kind node.kind) p in
-            let same : client ≡ node.client = eqb-true client node.client parts.0 in
-            let like = alike kind node.kind parts.1 in
-            let less : count_of client (counts_with kind) es < 8 = rw (same, like) alike_room in
-            let more : count_of client (counts_with kind) (es ++ (id, node) ∷ []) ≡ count_of client (counts_with kind) es + 1 = count-push client (counts_with kind) es (id, node) ∙ rw p refl in
-            omega arith
-        by false p =
-            let more : count_of client (counts_with kind) (es ++ (id, node) ∷ []) ≡ count_of client (counts_with kind) es + 0 = count-push client (counts_with kind) es (id, node) ∙ rw p refl in
-            omega (arith, kept.most_alike client kind)
+        none : (b : Bool) → cond {A = ℕ} (b && false) 1 0 ≡ 0
+        none true = refl
+        none false = refl
 
 -- one more client keeps the facts
 pub IsForest-join : (clients : List ℕ) (client : ℕ) (es : List (ℕ × Node)) → IsForest clients es → 1 ≤ client → client ≤ 16 → IsForest (clients ++ client ∷ []) es
@@ -122,111 +99,120 @@ IsForest-join clients client es kept low high =
       most_alike = kept.most_alike;
     }
   where
-    one : (c : ℕ) → is_joined clients c ≡ true → is_joined (clients ++ client ∷ []) c ≡ true
-    one c h = list_any-append (nat_eq c) clients (client ∷ []) ∙ rw h refl
-
     each : (es : List (ℕ × Node)) → list_all (λ (e : ℕ × Node). is_joined clients e.1.client) es ≡ true → list_all (λ (e : ℕ × Node). is_joined (clients ++ client ∷ []) e.1.client) es ≡ true
     each [] h = refl
     each (e ∷ es) h =
         let parts = and_parts (is_joined clients e.1.client) (list_all (λ (e : ℕ × Node). is_joined clients e.1.client) es) h in
-        and_from _ _ (one e.1.client parts.0) (each es parts.1)
+        and_from _ _ (list_any-append (nat_eq e.1.client) clients (client ∷ []) ∙ rw parts.0 refl) (each es parts.1)
 
--- A client's 128 numbers can't all be live where it has fewer than 128 rows.
-without : ℕ → List (ℕ × Node) → List (ℕ × Node)
-without id [] = []
-without id (e ∷ es) = cond (nat_eq id e.0) (without id es) (e ∷ without id es)
+pub was_joined : (clients : List ℕ) (client other : ℕ) → is_joined (clients ++ client ∷ []) other ≡ true → nat_eq other client ≡ false → is_joined clients other ≡ true
+was_joined [] client other h apart = absurd (true≢false (sym h ∙ ap (λ (b : Bool). b || false) apart))
+was_joined (c ∷ cs) client other h apart = grind (arith, was_joined cs client other)
 
-one_if : (a b : Bool) → (a ≡ true → b ≡ true) → cond a 1 0 ≤ cond b 1 0
-one_if false b h = omega arith
-one_if true b h = rw (h refl) (omega arith)
+-- rows are taken out, of clients of which some stay
+nodes_all-filter : (test : ℕ × Node → Bool) (p : ℕ × Row → Bool) (es : List (ℕ × Row)) → list_all test (nodes es) ≡ true → list_all test (nodes (filter p es)) ≡ true
+nodes_all-filter test p [] h = refl
+nodes_all-filter test p (e ∷ es) h = grind (arith, nodes_all-filter test p es)
 
-count_at : (ℕ → Bool) → List (ℕ × Node) → ℕ
-count_at p es = count_by (λ (e : ℕ × Node). p e.0) es
+pub IsForest-filter : (clients joined : List ℕ) (p : ℕ × Row → Bool) (es : List (ℕ × Row)) → IsForest clients (nodes es) → list_all (λ (e : ℕ × Node). is_joined joined e.1.client) (nodes (filter p es)) ≡ true → list_all is_client joined ≡ true → IsForest joined (nodes (filter p es))
+IsForest-filter clients joined p es h owners range =
+    record {
+      own_numbers = own_numbers-filter p es h.own_numbers;
+      own_names = own_names-filter p es h.own_names;
+      numbers = nodes_all-filter (λ (e : ℕ × Node). is_number_of e.1.client e.0) p es h.numbers;
+      owners = owners;
+      clients_in_range = range;
+      most = λ client. omega (arith, count_of-filter p client any_kind es, h.most client);
+      most_alike = λ client kind. omega (arith, count_of-filter p client (counts_with kind) es, h.most_alike client kind);
+    }
 
-module _ (p p' : ℕ → Bool) (imply : (j : ℕ) → p' j ≡ true → p j ≡ true) (k : ℕ) where
-  count_without : (es : List (ℕ × Node)) → count_at p' (without k es) ≤ count_at p es
-  unfolding without count_at
-  count_without [] = omega arith
-  count_without (e ∷ es) = by (count_without es) (nat_eq k e.0)
-    where
-      by : count_at p' (without k es) ≤ count_at p es → (b : Bool) → count_at p' (cond b (without k es) (e ∷ without k es)) ≤ count_at p (e ∷ es)
-      by rest true = omega (arith, rest, sum_by-cons (λ (e : ℕ × Node). cond (p e.0) 1 0) e es)
-      by rest false = omega (arith, rest, one_if (p' e.0) (p e.0) (imply e.0), sum_by-cons (λ (e : ℕ × Node). cond (p e.0) 1 0) e es, sum_by-cons (λ (e : ℕ × Node). cond (p' e.0) 1 0) e (without k es))
+pub owners-filter : (clients : List ℕ) (p : ℕ × Row → Bool) (es : List (ℕ × Row)) → IsForest clients (nodes es) → list_all (λ (e : ℕ × Node). is_joined clients e.1.client) (nodes (filter p es)) ≡ true
+owners-filter clients p es h = nodes_all-filter (λ (e : ℕ × Node). is_joined clients e.1.client) p es h.owners
 
-  count_one_more : p k ≡ true → (es : List (ℕ × Node)) → is_some (node_at es k) ≡ true → count_at p' (without k es) + 1 ≤ count_at p es
-  unfolding without count_at
-  count_one_more pass [] there = absurd (true≢false (sym there))
-  count_one_more pass (e ∷ es) there = by (count_one_more pass es) (nat_eq k e.0) refl there
-    where
-      by : (is_some (node_at es k) ≡ true → count_at p' (without k es) + 1 ≤ count_at p es) → (b : Bool) → nat_eq k e.0 ≡ b → is_some (cond b (Some e.1) (node_at es k)) ≡ true → count_at p' (cond b (without k es) (e ∷ without k es)) + 1 ≤ count_at p (e ∷ es)
-      by rest true q h =
-          let here : p e.0 ≡ true = rw (← eqb-true k e.0 q) pass in
-          let one : 1 ≤ cond (p e.0) 1 0 = rw here (omega arith) in
-          omega (arith, one, count_without es, sum_by-cons (λ (e : ℕ × Node). cond (p e.0) 1 0) e es)
-      by rest false q h = omega (arith, rest h, one_if (p' e.0) (p e.0) (imply e.0), sum_by-cons (λ (e : ℕ × Node). cond (p e.0) 1 0) e es, sum_by-cons (λ (e : ℕ × Node). cond (p' e.0) 1 0) e (without k es))
+-- a client leaves: the clients that are left, their rows, and the client's rows by their numbers
+abbrev pub clients_but : ℕ → List ℕ → List ℕ
+clients_but gone clients = filter (λ (c : ℕ). not (nat_eq gone c)) clients
 
-node_at-without : (es : List (ℕ × Node)) (k j : ℕ) → nat_eq j k ≡ false → node_at (without k es) j ≡ node_at es j
-unfolding without
-node_at-without [] k j other = refl
-node_at-without (e ∷ es) k j other = by (node_at-without es k j other) (nat_eq k e.0) refl
+abbrev pub rows_but : ℕ → List (ℕ × Row) → List (ℕ × Row)
+rows_but gone es = filter (λ (e : ℕ × Row). not (nat_eq gone e.1.client)) es
+
+pub joined-left : (clients : List ℕ) (gone other : ℕ) → is_joined clients other ≡ true → nat_eq gone other ≡ false → is_joined (clients_but gone clients) other ≡ true
+joined-left [] gone other there apart = absurd (true≢false (sym there))
+joined-left (c ∷ cs) gone other there apart = grind (arith, nat_tests, joined-left cs gone other)
+
+pub joined-before : (clients : List ℕ) (gone other : ℕ) → is_joined (clients_but gone clients) other ≡ true → is_joined clients other ≡ true
+joined-before [] gone other there = there
+joined-before (c ∷ cs) gone other there = grind (arith, nat_tests, joined-before cs gone other)
+
+pub owners-left : (clients : List ℕ) (gone : ℕ) (es : List (ℕ × Row)) → list_all (λ (e : ℕ × Node). is_joined clients e.1.client) (nodes es) ≡ true → list_all (λ (e : ℕ × Node). is_joined (clients_but gone clients) e.1.client) (nodes (rows_but gone es)) ≡ true
+owners-left clients gone [] owners = refl
+owners-left clients gone (e ∷ es) owners =
+    let parts = and_parts (is_joined clients e.1.client) (list_all (λ (e : ℕ × Node). is_joined clients e.1.client) (nodes es)) owners in
+    by (nat_eq gone e.1.client) refl parts.0 (owners-left clients gone es parts.1)
   where
-    by : node_at (without k es) j ≡ node_at es j → (b : Bool) → nat_eq k e.0 ≡ b → node_at (cond b (without k es) (e ∷ without k es)) j ≡ node_at (e ∷ es) j
-    by rest true q =
-        let differs : nat_eq j e.0 ≡ false = rw (← eqb-true k e.0 q) other in
-        rw differs rest
-    by rest false q = ap (cond (nat_eq j e.0) (Some e.1)) rest
+    by : (b : Bool) → nat_eq gone e.1.client ≡ b → is_joined clients e.1.client ≡ true → list_all (λ (e : ℕ × Node). is_joined (clients_but gone clients) e.1.client) (nodes (rows_but gone es)) ≡ true → list_all (λ (e : ℕ × Node). is_joined (clients_but gone clients) e.1.client) (nodes (cond (not b) (e ∷ rows_but gone es) (rows_but gone es))) ≡ true
+    by true q here rest = rest
+    by false q here rest = and_from (is_joined (clients_but gone clients) e.1.client) (list_all (λ (e : ℕ × Node). is_joined (clients_but gone clients) e.1.client) (nodes (rows_but gone es))) (joined-left clients gone e.1.client here q) rest
 
-within : ℕ → ℕ → ℕ → Bool
-within first n k = nat_le first k && nat_lt k (first + n)
+pub number-client : (client other id : ℕ) → 1 ≤ client → is_number_of other id ≡ true → is_number_of client id ≡ nat_eq client other
+number-client client other id low own = grind (arith, nat_tests)
 
-all_there : (n first : ℕ) (es : List (ℕ × Node)) → ((k : ℕ) → first ≤ k → k < first + n → is_some (node_at es k) ≡ true) → n ≤ count_at (within first n) es
-unfolding within
-all_there zero first es there = omega arith
-all_there (suc n) first es there =
-    let k = first + n in
-    let more = count_one_more (within first (suc n)) (within first n) (λ j h. let parts = and_parts (nat_le first j) (nat_lt j (first + n)) h in and_from _ _ parts.0 (lt-ltb j (first + suc n) (omega (arith, ltb-true j (first + n) parts.1)))) k (and_from _ _ (le-leb first k (omega arith)) (lt-ltb k (first + suc n) (omega arith))) es (there k (omega arith) (omega arith)) in
-    let rest = all_there n first (without k es) (λ j low high. ap is_some (node_at-without es k j (ne_eqb j k (omega arith))) ∙ there j low (omega arith)) in
-    omega (arith, more, rest)
+pub rows-departed : (es : List (ℕ × Row)) (gone : ℕ) → 1 ≤ gone → list_all (λ (e : ℕ × Node). is_number_of e.1.client e.0) (nodes es) ≡ true → filter (λ (e : ℕ × Row). not (is_number_of gone e.0)) es ≡ rows_but gone es
+rows-departed [] gone low numbers = refl
+rows-departed (e ∷ es) gone low numbers =
+    let parts = and_parts (is_number_of e.1.client e.0) (list_all (λ (e : ℕ × Node). is_number_of e.1.client e.0) (nodes es)) numbers in
+    rw (number-client gone e.1.client e.0 low parts.0, rows-departed es gone low parts.1) refl
 
-own_only : (client : ℕ) (es : List (ℕ × Node)) → 1 ≤ client → list_all (λ (e : ℕ × Node). is_number_of e.1.client e.0) es ≡ true → count_at (within (first_number client) 128) es ≤ count_of client any_kind es
-unfolding count_at within
-own_only client [] low numbers = omega arith
-own_only client (e ∷ es) low numbers =
+-- A client's 128 numbers can't all be live where it has fewer than 128 rows: how many of `n` numbers from the first on
+-- are live.
+abbrev live_from : ℕ → ℕ → List (ℕ × Node) → ℕ
+live_from zero first es = 0
+live_from (suc n) first es = live_from n first es + cond (is_some (node_at es (first + n))) 1 0
+
+live_from-all : (n first : ℕ) (es : List (ℕ × Node)) → ((k : ℕ) → first ≤ k → k < first + n → is_some (node_at es k) ≡ true) → live_from n first es ≡ n
+live_from-all zero first es there = refl
+live_from-all (suc n) first es there =
+    let rest = live_from-all n first es (λ k low high. there k low (omega arith)) in
+    rw (there (first + n) (omega arith) (omega arith)) (omega (arith, rest))
+
+live_from-none : (n first : ℕ) → live_from n first [] ≡ 0
+live_from-none zero first = refl
+live_from-none (suc n) first = omega (arith, live_from-none n first)
+
+live_from-cons : (n first : ℕ) (e : ℕ × Node) (es : List (ℕ × Node)) → live_from n first (e ∷ es) ≤ cond (nat_le first e.0 && nat_lt e.0 (first + n)) 1 0 + live_from n first es
+live_from-cons zero first e es = omega arith
+live_from-cons (suc n) first e es = grind (arith, nat_tests, live_from-cons n first e es)
+
+live_from-own : (n client : ℕ) (es : List (ℕ × Node)) → n ≡ 128 → 1 ≤ client → list_all (λ (e : ℕ × Node). is_number_of e.1.client e.0) es ≡ true → live_from n (first_number client) es ≤ count_of client any_kind es
+live_from-own n client [] is low numbers = omega (arith, live_from-none n (first_number client))
+live_from-own n client (e ∷ es) is low numbers =
     let parts = and_parts (is_number_of e.1.client e.0) (list_all (λ (e : ℕ × Node). is_number_of e.1.client e.0) es) numbers in
-    let here = and_parts (nat_le 1 e.1.client) (nat_le (first_number e.1.client) e.0 && nat_lt e.0 (first_number e.1.client + 128)) parts.0 in
-    let own = and_parts (nat_le (first_number e.1.client) e.0) (nat_lt e.0 (first_number e.1.client + 128)) here.1 in
-    let one = one_if (within (first_number client) 128 e.0) (nat_eq client e.1.client && true) (λ h. let p = and_parts (nat_le (first_number client) e.0) (nat_lt e.0 (first_number client + 128)) h in
-    let same : client ≡ e.1.client = omega (arith, low, leb-true 1 e.1.client here.0, leb-true (first_number client) e.0 p.0, ltb-true e.0 (first_number client + 128) p.1, leb-true (first_number e.1.client) e.0 own.0, ltb-true e.0 (first_number e.1.client + 128) own.1) in
-    and_from _ _ (eq-eqb client e.1.client same) refl) in
-    omega (arith, one, own_only client es low parts.1, sum_by-cons (λ (e : ℕ × Node). cond (nat_le (first_number client) e.0 && nat_lt e.0 (first_number client + 128)) 1 0) e es, sum_by-cons (λ (e : ℕ × Node). cond (nat_eq client e.1.client && any_kind e.1.kind) 1 0) e es)
+    let own : cond (nat_le (first_number client) e.0 && nat_lt e.0 (first_number client + n)) 1 0 ≤ cond (nat_eq client e.1.client && any_kind e.1.kind) 1 0 = one n client e.1.client e.0 is low parts.0 in
+    omega (arith, own, live_from-cons n (first_number client) e es, live_from-own n client es is low parts.1, count-cons client any_kind e es)
+  where
+    one : (n client other id : ℕ) → n ≡ 128 → 1 ≤ client → is_number_of other id ≡ true → cond (nat_le (first_number client) id && nat_lt id (first_number client + n)) 1 0 ≤ cond (nat_eq client other && true) 1 0
+    one n client other id is low own = grind (arith, nat_tests)
 
 pub one_is_free : (client : ℕ) (es : List (ℕ × Node)) → 1 ≤ client → list_all (λ (e : ℕ × Node). is_number_of e.1.client e.0) es ≡ true → count_of client any_kind es < 128 → ((k : ℕ) → first_number client ≤ k → k < first_number client + 128 → is_some (node_at es k) ≡ true) → ⊥
-one_is_free client es low numbers room there =
-    let few = own_only client es low numbers in
-    let many = all_there 128 (first_number client) es there in
-    omega (arith, few, many)
+one_is_free client es low numbers room there = by 128 refl there
+  where
+    by : (n : ℕ) → n ≡ 128 → ((k : ℕ) → first_number client ≤ k → k < first_number client + n → is_some (node_at es k) ≡ true) → ⊥
+    by n is all = omega (arith, live_from-own n client es is low numbers, live_from-all n (first_number client) es all, is)
 
 -- a joined client is 1 to 16
 pub joined_in_range : (clients : List ℕ) (client : ℕ) → is_joined clients client ≡ true → list_all is_client clients ≡ true → (1 ≤ client) × (client ≤ 16)
 joined_in_range [] client there ranges = absurd (true≢false (sym there))
-joined_in_range (c ∷ cs) client there ranges = by (joined_in_range cs client) (nat_eq client c) refl there
+joined_in_range (c ∷ cs) client there ranges = by (joined_in_range cs client) (nat_eq client c) refl there (and_parts (is_client c) (list_all is_client cs) ranges)
   where
-    parts : (is_client c ≡ true) × (list_all is_client cs ≡ true)
-    parts = and_parts (is_client c) (list_all is_client cs) ranges
+    by : (is_joined cs client ≡ true → list_all is_client cs ≡ true → (1 ≤ client) × (client ≤ 16)) → (b : Bool) → nat_eq client c ≡ b → (b || is_joined cs client) ≡ true → (is_client c ≡ true) × (list_all is_client cs ≡ true) → (1 ≤ client) × (client ≤ 16)
+    by rest true q h parts = (low client c q parts.0, high client c q parts.0)
+      where
+        low : (client c : ℕ) → nat_eq client c ≡ true → is_client c ≡ true → 1 ≤ client
+        low client c q in_range = grind (arith, nat_tests)
 
-    by : (is_joined cs client ≡ true → list_all is_client cs ≡ true → (1 ≤ client) × (client ≤ 16)) → (b : Bool) → nat_eq client c ≡ b → (b || is_joined cs client) ≡ true → (1 ≤ client) × (client ≤ 16)
-    by rest true q h =
-        let ends = and_parts (nat_le 1 c) (nat_le c 16) parts.0 in
-        let same = eqb-true client c q in
-        (omega (arith, leb-true 1 c ends.0), omega (arith, leb-true c 16 ends.1))
-    by rest false q h = rest h parts.1
-
--- a number of a client up to 16 is below 2,048
-pub number-below : (client id : ℕ) → client ≤ 16 → is_number_of client id ≡ true → id < 2048
-number-below client id high own =
-    let parts = and_parts (nat_le 1 client) (nat_le (first_number client) id && nat_lt id (first_number client + 128)) own in
-    let ends = and_parts (nat_le (first_number client) id) (nat_lt id (first_number client + 128)) parts.1 in
-    omega (arith, high, ltb-true id (first_number client + 128) ends.1)
+        high : (client c : ℕ) → nat_eq client c ≡ true → is_client c ≡ true → client ≤ 16
+        high client c q in_range = grind (arith, nat_tests)
+    by rest false q h parts = rest h parts.1
 
 -- the tests behind a refusal, where there is none
 pub no_refusal : (es : List (ℕ × Node)) (client : ℕ) (name : List ℕ) (kind : Kind) → add_refusal es client name kind ≡ None → (id_named es client name ≡ None) × (count_of client any_kind es < 128) × (count_of client (counts_with kind) es < 8)
@@ -238,139 +224,21 @@ no_refusal es client name kind h = by (id_named es client name) (nat_le 128 (cou
     by None false p true q h = absurd (cc)
     by None false p false q h = (refl, leb-false 128 _ p, leb-false 8 _ q)
 
--- the facts on a list that gained a last element or not
-pub maybe : {X : Type 0} (P : X → Type 0) (b : Bool) (x y : X) → P x → P y → P (cond b x y)
-maybe P true x y h k = h
-maybe P false x y h k = k
-
-pub ties-with_row : (es : List (ℕ × Row)) (id : ℕ) (change : Row → Row) → ((row : Row) → (node_of (change row) ≡ node_of row) × ((change row).link ≡ row.link)) → ties (with_row id change es) ≡ ties es
-ties-with_row [] id change same = refl
-ties-with_row (e ∷ es) id change same = by (ties-with_row es id change same) (nat_eq id e.0)
-  where
-    by : ties (with_row id change es) ≡ ties es → (b : Bool) → ties (cond b (e.0, change e.1) e ∷ with_row id change es) ≡ ties (e ∷ es)
-    by rest true = rw ((same e.1).1, ap (λ (n : Node). n.client) (same e.1).0, rest) refl
-    by rest false = rw rest refl
-
--- a new row, which isn't linked, keeps the links
-kind_named-push : (es : List (ℕ × Node)) (e : ℕ × Node) (client : ℕ) (name : List ℕ) → is_variable (kind_named es client name) ≡ true → is_variable (kind_named (es ++ e ∷ []) client name) ≡ true
-kind_named-push [] e client name h = absurd (true≢false (sym h))
-kind_named-push (f ∷ fs) e client name h = by (kind_named-push fs e client name) (is_named client name f.1) h
-  where
-    by : (is_variable (kind_named fs client name) ≡ true → is_variable (kind_named (fs ++ e ∷ []) client name) ≡ true) → (b : Bool) → is_variable (cond b (Some f.1.kind) (kind_named fs client name)) ≡ true → is_variable (cond b (Some f.1.kind) (kind_named (fs ++ e ∷ []) client name)) ≡ true
-    by rest true h = h
-    by rest false h = rest h
-
-leads-push : (es : List (ℕ × Node)) (e : ℕ × Node) (client : ℕ) (link : Option (List ℕ)) → leads es client link ≡ true → leads (es ++ e ∷ []) client link ≡ true
-leads-push es e client None h = refl
-leads-push es e client (Some name) h = kind_named-push es e client name h
-
-all_lead-push : (es : List (ℕ × Node)) (e : ℕ × Node) (tied : List Tie) → all_lead es tied ≡ true → all_lead (es ++ e ∷ []) tied ≡ true
-all_lead-push es e [] h = refl
-all_lead-push es e (t ∷ ts) h =
-    let parts = and_parts (leads es t.client t.link) (all_lead es ts) h in
-    and_from _ _ (leads-push es e t.client t.link parts.0) (all_lead-push es e ts parts.1)
-
-pub ties-push : (es : List (ℕ × Row)) (id : ℕ) (row : Row) → ties (es ++ (id, row) ∷ []) ≡ ties es ++ record { client = row.client; link = row.link } ∷ []
-ties-push [] id row = refl
-ties-push (e ∷ es) id row = rw (ties-push es id row) refl
-
-pub linked-push : (es : List (ℕ × Row)) (id : ℕ) (row : Row) → row.link ≡ None → all_lead (nodes es) (ties es) ≡ true → all_lead (nodes (es ++ (id, row) ∷ [])) (ties (es ++ (id, row) ∷ [])) ≡ true
-linked-push es id row unlinked old =
-    let last : leads (nodes es ++ (id, node_of row) ∷ []) row.client row.link ≡ true = rw unlinked refl in
-    let tie : Tie = record { client = row.client; link = row.link } in
-    rw (nodes-push es id row, ties-push es id row)
-    (list_all-push (λ (t : Tie). leads (nodes es ++ (id, node_of row) ∷ []) t.client t.link) (ties es) tie (all_lead-push (nodes es) (id, node_of row) (ties es) old) last)
-
--- a numbered row is the first of its name
-row_id_named : (es : List (ℕ × Row)) (id : ℕ) (row : Row) → row_at es id ≡ Some row → is_some (id_named (nodes es) row.client row.name) ≡ true
-row_id_named [] id row there = absurd (cc)
-row_id_named (e ∷ es) id row there = by (row_id_named es id row) (nat_eq id e.0) there
-  where
-    later : (b : Bool) → is_some (id_named (nodes es) row.client row.name) ≡ true → is_some (cond b (Some e.0) (id_named (nodes es) row.client row.name)) ≡ true
-    later true h = refl
-    later false h = h
-
-    by : (row_at es id ≡ Some row → is_some (id_named (nodes es) row.client row.name) ≡ true) → (b : Bool) → cond b (Some e.1) (row_at es id) ≡ Some row → is_some (id_named (nodes (e ∷ es)) row.client row.name) ≡ true
-    by rest true h =
-        let same : e.1 ≡ row = cc in
-        let own : is_named e.1.client e.1.name (node_of e.1) ≡ true = and_from _ _ (nat_eq_equiv.refl e.1.client) (nat_list_eq_equiv.refl e.1.name) in
-        rw (← same) (rw own refl)
-    by rest false h = later (is_named row.client row.name (node_of e.1)) (rest h)
-
-pub kind_named-row : (es : List (ℕ × Row)) (id : ℕ) (row : Row) → HaveOwnNames (nodes es) → row_at es id ≡ Some row → kind_named (nodes es) row.client row.name ≡ Some row.kind
-kind_named-row [] id row own there = absurd (cc)
-kind_named-row (e ∷ es) id row own there = by (kind_named-row es id row own.1) (nat_eq id e.0) there
-  where
-    other : row_at es id ≡ Some row → (b : Bool) → is_named row.client row.name (node_of e.1) ≡ b → kind_named (nodes es) row.client row.name ≡ Some row.kind → cond b (Some e.1.kind) (kind_named (nodes es) row.client row.name) ≡ Some row.kind
-    other h true q rest =
-        let parts = and_parts (nat_eq row.client e.1.client) (bytes_eq row.name e.1.name) q in
-        let client : row.client ≡ e.1.client = eqb-true row.client e.1.client parts.0 in
-        let name : row.name ≡ e.1.name = (bytes_eq-Decides row.name e.1.name).0 parts.1 in
-        let found : id_named (nodes es) row.client row.name ≡ None = rw (client, name) own.0 in
-        absurd (true≢false (sym (row_id_named es id row h) ∙ ap is_some found))
-    other h false q rest = rest
-
-    by : (row_at es id ≡ Some row → kind_named (nodes es) row.client row.name ≡ Some row.kind) → (b : Bool) → cond b (Some e.1) (row_at es id) ≡ Some row → kind_named (nodes (e ∷ es)) row.client row.name ≡ Some row.kind
-    by rest true h =
-        let same : e.1 ≡ row = cc in
-        let own : is_named e.1.client e.1.name (node_of e.1) ≡ true = and_from _ _ (nat_eq_equiv.refl e.1.client) (nat_list_eq_equiv.refl e.1.name) in
-        rw (← same) (rw own refl)
-    by rest false h = other h (is_named row.client row.name (node_of e.1)) refl (rest h)
-
--- a link that leads to a Variable keeps the links
-pub linked-with_link : (ns : List (ℕ × Node)) (es : List (ℕ × Row)) (id : ℕ) (row : Row) (link : Option (List ℕ)) → HaveOwnNumbers (nodes es) → row_at es id ≡ Some row → leads ns row.client link ≡ true → all_lead ns (ties es) ≡ true → all_lead ns (ties (with_row id (with_link link) es)) ≡ true
-linked-with_link ns [] id row link own there new old = refl
-linked-with_link ns (e ∷ es) id row link own there new old = by (linked-with_link ns es id row link own.1) (nat_eq id e.0) refl there
-  where
-    parts : (leads ns e.1.client e.1.link ≡ true) × (all_lead ns (ties es) ≡ true)
-    parts = and_parts (leads ns e.1.client e.1.link) (all_lead ns (ties es)) old
-
-    by : (row_at es id ≡ Some row → leads ns row.client link ≡ true → all_lead ns (ties es) ≡ true → all_lead ns (ties (with_row id (with_link link) es)) ≡ true) → (b : Bool) → nat_eq id e.0 ≡ b → cond b (Some e.1) (row_at es id) ≡ Some row → all_lead ns (ties (cond b (e.0, with_link link e.1) e ∷ with_row id (with_link link) es)) ≡ true
-    by rest true q h =
-        let same : e.1 ≡ row = cc in
-        let here : leads ns e.1.client link ≡ true = rw same new in
-        let absent : node_at (nodes es) id ≡ None = rw (eqb-true id e.0 q) own.0 in
-        rw (with_row-absent es id (with_link link) absent) (and_from _ _ here parts.1)
-    by rest false q h = and_from _ _ parts.0 (rest h new parts.1)
-
--- the name of a Variable of the client leads to it
-pub variable-leads : (es : List (ℕ × Row)) (id client : ℕ) → HaveOwnNames (nodes es) → row_kind es id ≡ Some Variable → row_client es id ≡ Some client → leads (nodes es) client (name_at es id) ≡ true
-variable-leads es id client own kind owner = by (row_at es id) refl kind owner
-  where
-    by : (o : Option Row) → row_at es id ≡ o → option_map (λ (r : Row). r.kind) o ≡ Some Variable → option_map (λ (r : Row). r.client) o ≡ Some client → leads (nodes es) client (option_map (λ (r : Row). r.name) o) ≡ true
-    by None p kind owner = absurd (cc)
-    by (Some row) p kind owner =
-        let same : row.client ≡ client = cc in
-        let is : row.kind ≡ Variable = cc in
-        let found : kind_named (nodes es) client row.name ≡ Some Variable = rw (← same) (kind_named-row es id row own p ∙ ap Some is) in
-        rw found refl
-
 -- numbers stay live through a change and through a new row, whose own number is live too
 pub live-with_row : (es : List (ℕ × Row)) (id : ℕ) (change : Row → Row) (other : ℕ) → is_some (row_at es other) ≡ true → is_some (row_at (with_row id change es) other) ≡ true
-live-with_row [] id change other h = h
-live-with_row (e ∷ es) id change other h = by (live-with_row es id change other) (nat_eq id e.0) (nat_eq other e.0) refl h
+live-with_row es id change other h = ap is_some (row_at-with_row es id change other) ∙ by (row_at es other) h
   where
-    by : (is_some (row_at es other) ≡ true → is_some (row_at (with_row id change es) other) ≡ true) → (b d : Bool) → nat_eq other e.0 ≡ d → is_some (cond d (Some e.1) (row_at es other)) ≡ true → is_some (row_at (cond b (e.0, change e.1) e ∷ with_row id change es) other) ≡ true
-    by rest true true q h = rw q refl
-    by rest true false q h = rw q (rest h)
-    by rest false true q h = rw q refl
-    by rest false false q h = rw q (rest h)
+    by : (o : Option Row) → is_some o ≡ true → is_some (option_map (λ (row : Row). cond (nat_eq id other) (change row) row) o) ≡ true
+    by None k = k
+    by (Some row) k = refl
 
-pub live-push : (es : List (ℕ × Row)) (id : ℕ) (row : Row) (other : ℕ) → is_some (row_at es other) ≡ true → is_some (row_at (es ++ (id, row) ∷ []) other) ≡ true
+live-push : (es : List (ℕ × Row)) (id : ℕ) (row : Row) (other : ℕ) → is_some (row_at es other) ≡ true → is_some (row_at (es ++ (id, row) ∷ []) other) ≡ true
 live-push [] id row other h = absurd (true≢false (sym h))
-live-push (e ∷ es) id row other h = by (live-push es id row other) (nat_eq other e.0) h
-  where
-    by : (is_some (row_at es other) ≡ true → is_some (row_at (es ++ (id, row) ∷ []) other) ≡ true) → (d : Bool) → is_some (cond d (Some e.1) (row_at es other)) ≡ true → is_some (cond d (Some e.1) (row_at (es ++ (id, row) ∷ []) other)) ≡ true
-    by rest true h = refl
-    by rest false h = rest h
+live-push (e ∷ es) id row other h = grind (arith, live-push es id row other)
 
 pub live-last : (es : List (ℕ × Row)) (id : ℕ) (row : Row) → is_some (row_at (es ++ (id, row) ∷ []) id) ≡ true
 live-last [] id row = rw (nat_eq_equiv.refl id) refl
-live-last (e ∷ es) id row = by (live-last es id row) (nat_eq id e.0)
-  where
-    by : is_some (row_at (es ++ (id, row) ∷ []) id) ≡ true → (d : Bool) → is_some (cond d (Some e.1) (row_at (es ++ (id, row) ∷ []) id)) ≡ true
-    by rest true = refl
-    by rest false = rest
+live-last (e ∷ es) id row = grind (arith, live-last es id row)
 
 pub live-maybe_push : (b : Bool) (es : List (ℕ × Row)) (id : ℕ) (row : Row) (other : ℕ) → is_some (row_at es other) ≡ true → is_some (row_at (cond b (es ++ (id, row) ∷ []) es) other) ≡ true
 live-maybe_push true es id row other h = live-push es id row other h

@@ -17,7 +17,7 @@ use Rattle.tree_core.specs.Children.{rows_in, widgets_in}
 use Rattle.tree_core.specs.Kept.{IsGrove}
 use Rattle.tree_core.specs.Refusals.{attach_refusal, attach_answer}
 use Rattle.tree_core.proofs.Listed.{AreNamedApart-rows, row_named-row}
-use Rattle.row_store.proofs.Nodes.{nodes-with_row}
+use Rattle.row_store.proofs.UnderNumbers.{nodes-with_row}
 use Rattle.row_store.proofs.Options.{is_none_of}
 use Rattle.widget_model.proofs.Leaves.{LeavesNode-node}
 use Rattle.widget_model.proofs.Planting.{LeavesPlace, IsPlanted-change, IsPlanted-attach, IsPlanted-detach}
@@ -113,11 +113,3 @@ IsGrove-hang es parent child cell upper lower grove may =
     let P : ℕ → Type 0 = λ client. IsPlanted (with_named client lower.name (with_attached (Some (upper.name, cell))) (rows_in es)) in
     IsGrove-with_row es child (with_attached (Some (upper.name, cell))) lower (λ row. refl) grove may.lower_there
     (subst P (sym may.owner) (IsPlanted-attach (rows_in es) upper.client upper.name lower.name cell upper lower (AreNamedApart-rows es grove.own_names) can grove.planted))
-
--- a child that may be hung hangs nowhere
-pub MayHang-alone : (es : List (ℕ × Row)) (parent child : ℕ) (cell : Cell) (upper lower : Row) → IsGrove es → MayHang es parent child cell upper lower → lower.attached ≡ None
-MayHang-alone es parent child cell upper lower grove may = by lower.attached (MayHang-CanHang es parent child cell upper lower grove may).stands_alone
-  where
-    by : (attached : Option (List ℕ × Cell)) → option_map_or (λ (s : List ℕ × Cell). true) attached false ≡ false → attached ≡ None
-    by None h = refl
-    by (Some s) h = absurd (true≢false h)

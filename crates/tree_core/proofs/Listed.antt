@@ -1,5 +1,5 @@
 -- Rows by number, by place and by name.
-use Rattle.std.proofs.Common.{◌≡◌, ◌<◌, ◌+◌, ℕ, zero, suc, length, take, get_or, Bool, true, false, cond, ◌||◌, nat_eq, List, [], ◌∷◌, ◌++◌, Option, Some, None, is_some, refl, sym, ap, ◌∙◌, subst, slice_get}
+use Rattle.std.proofs.Common.{◌≡◌, ◌<◌, ◌+◌, ℕ, zero, suc, length, take, get_or, Bool, true, false, cond, ◌||◌, nat_eq, List, [], ◌∷◌, ◌++◌, Option, Some, None, is_some, refl, sym, ap, ◌∙◌, subst, slice_get, arith}
 use Rattle.std.proofs.lemmas.Bool.{true≢false, eqb-true, eq-eqb, ne_eqb, and_parts}
 use Rattle.std.proofs.lemmas.List.{take_more}
 use Rattle.std.proofs.lemmas.Option.{get_or_from_slice_get}
@@ -13,9 +13,9 @@ use Rattle.widget_model.specs.Named.{has_name, row_named}
 use Rattle.widget_model.specs.Widgets.{row_at, nodes, with_row, without_row}
 use Rattle.widget_model.specs.Forest.{HaveOwnNumbers, HaveOwnNames}
 use Rattle.widget_model.specs.Named.{AreNamedApart}
-use Rattle.widget_model.proofs.Hanging.{find-element, find-passes}
-use Rattle.widget_model.proofs.Naming.{row_named-found, id_named-row}
-use Rattle.row_store.proofs.Nodes.{node_at-nodes}
+use Rattle.widget_model.proofs.Hanging.{find-element, find-passes, none_at}
+use Rattle.widget_model.proofs.Naming.{row_named-found, id_named-row, rows-push}
+use Rattle.row_store.proofs.UnderNumbers.{row_at-absent}
 use Rattle.tree_core.specs.Children.{rows_in}
 
 -- what is found stands somewhere, and passes the test
@@ -30,13 +30,11 @@ All-at P (y ∷ ys) (suc i) x h there = All-at P ys i x (All-tail P y ys h) ther
 
 -- one that passes the test is found among the rest
 pub any_at : {X : Type 0} (p : X → Bool) (xs : List X) (i : ℕ) (x : X) → slice_get xs i ≡ Some x → p x ≡ true → list_any p xs ≡ true
-any_at p [] i x there h = absurd (cc)
-any_at p (y ∷ ys) zero x there h = let same : y ≡ x = cc in rw (same, h) refl
-any_at p (y ∷ ys) (suc i) x there h = by (p y) (any_at p ys i x there h)
+any_at p xs i x there h = by (list_any p xs) refl
   where
-    by : (b : Bool) → list_any p ys ≡ true → (b || list_any p ys) ≡ true
-    by true k = refl
-    by false k = k
+    by : (b : Bool) → list_any p xs ≡ b → b ≡ true
+    by true q = refl
+    by false q = absurd (true≢false (sym h ∙ none_at p xs i x q there))
 
 -- where there is one that passes the test, it stands somewhere
 pub any_place : {X : Type 0} (p : X → Bool) (xs : List X) → list_any p xs ≡ true → (i : ℕ) × (x : X) × (slice_get xs i ≡ Some x) × (p x ≡ true)
@@ -47,17 +45,13 @@ any_place {X} p (y ∷ ys) h = by (any_place p ys) (p y) refl h
     by rest true q k = (0, y, refl, q)
     by rest false q k = let r = rest k in (suc r.0, r.1, r.2, r.3)
 
--- a number with a row is its node's
-node_at-row : (es : List (ℕ × Row)) (id : ℕ) (row : Row) → row_at es id ≡ Some row → is_some (node_at (nodes es) id) ≡ true
-node_at-row es id row there = ap is_some (node_at-nodes es id ∙ ap (option_map node_of) there)
-
 -- the row at a place has a number
 pub listed_number : (es : List (ℕ × Row)) (i : ℕ) (row : Row) → HaveOwnNumbers (nodes es) → slice_get (rows_in es) i ≡ Some row → (id : ℕ) × (row_at es id ≡ Some row)
 listed_number [] i row own there = absurd (cc)
 listed_number (e ∷ es) zero row own there = (e.0, rw (nat_eq_equiv.refl e.0) there)
 listed_number (e ∷ es) (suc i) row own there =
     let rest = listed_number es i row own.1 there in
-    let other : nat_eq rest.0 e.0 ≡ false = ne_eqb rest.0 e.0 (λ same. true≢false (sym (node_at-row es rest.0 row rest.1) ∙ ap is_some (ap (node_at (nodes es)) same ∙ own.0))) in
+    let other : nat_eq rest.0 e.0 ≡ false = ne_eqb rest.0 e.0 (λ same. let none : None ≡ Some row = sym (ap (row_at es) same ∙ row_at-absent es e.0 own.0) ∙ rest.1 in cc) in
     (rest.0, rw other rest.1)
 
 -- and a numbered row stands at a place
@@ -73,58 +67,14 @@ numbered_place (e ∷ es) id row there = by (numbered_place es id row) (nat_eq i
 pub row_named-row : (es : List (ℕ × Row)) (id : ℕ) (row : Row) → HaveOwnNumbers (nodes es) → HaveOwnNames (nodes es) → row_at es id ≡ Some row → row_named (rows_in es) row.client row.name ≡ Some row
 row_named-row es id row numbers names there = row_named-found es row.client row.name id numbers (id_named-row es id row names there) ∙ there
 
--- a name that no node has is no row's
+-- no two rows of one client have one name
 list_any-named : (es : List (ℕ × Row)) (client : ℕ) (name : List ℕ) → id_named (nodes es) client name ≡ None → list_any (has_name client name) (rows_in es) ≡ false
 list_any-named [] client name absent = refl
-list_any-named (e ∷ es) client name absent = by (list_any-named es client name) (has_name client name e.1) absent
-  where
-    by : (id_named (nodes es) client name ≡ None → list_any (has_name client name) (rows_in es) ≡ false) → (b : Bool) → cond b (Some e.0) (id_named (nodes es) client name) ≡ None → (b || list_any (has_name client name) (rows_in es)) ≡ false
-    by rest true h = absurd (cc)
-    by rest false h = rest h
+list_any-named (e ∷ es) client name absent = grind (arith, list_any-named es client name)
 
 pub AreNamedApart-rows : (es : List (ℕ × Row)) → HaveOwnNames (nodes es) → AreNamedApart (rows_in es)
 AreNamedApart-rows [] own = tt
 AreNamedApart-rows (e ∷ es) own = (list_any-named es e.1.client e.1.name own.0, AreNamedApart-rows es own.1)
-
--- the rows under the numbers after a change, a removal, a departure and a new row
-pub row_at-with_row : (es : List (ℕ × Row)) (id : ℕ) (change : Row → Row) (other : ℕ) → row_at (with_row id change es) other ≡ option_map (λ (row : Row). cond (nat_eq id other) (change row) row) (row_at es other)
-row_at-with_row [] id change other = refl
-row_at-with_row (e ∷ es) id change other = by (row_at-with_row es id change other) (nat_eq other e.0) refl (nat_eq id e.0) refl
-  where
-    by : row_at (with_row id change es) other ≡ option_map (λ (row : Row). cond (nat_eq id other) (change row) row) (row_at es other) → (d : Bool) → nat_eq other e.0 ≡ d → (b : Bool) → nat_eq id e.0 ≡ b → row_at (cond b (e.0, change e.1) e ∷ with_row id change es) other ≡ option_map (λ (row : Row). cond (nat_eq id other) (change row) row) (cond d (Some e.1) (row_at es other))
-    by rest true q true r = let same : nat_eq id other ≡ true = eq-eqb id other (eqb-true id e.0 r ∙ sym (eqb-true other e.0 q)) in rw (q, same) refl
-    by rest true q false r = let apart : nat_eq id other ≡ false = ap (nat_eq id) (eqb-true other e.0 q) ∙ r in rw (q, apart) refl
-    by rest false q true r = rw q rest
-    by rest false q false r = rw q rest
-
-pub row_at-without_row : (es : List (ℕ × Row)) (id other : ℕ) → row_at (without_row id es) other ≡ cond (nat_eq id other) None (row_at es other)
-row_at-without_row [] id other = by (nat_eq id other)
-  where
-    none : Option Row
-    none = None
-
-    by : (b : Bool) → None ≡ cond b none None
-    by true = refl
-    by false = refl
-row_at-without_row (e ∷ es) id other = by (row_at-without_row es id other) (nat_eq other e.0) refl (nat_eq id e.0) refl
-  where
-    by : row_at (without_row id es) other ≡ cond (nat_eq id other) None (row_at es other) → (d : Bool) → nat_eq other e.0 ≡ d → (b : Bool) → nat_eq id e.0 ≡ b → row_at (cond b (without_row id es) (e ∷ without_row id es)) other ≡ cond (nat_eq id other) None (cond d (Some e.1) (row_at es other))
-    by rest true q true r = let same : nat_eq id other ≡ true = eq-eqb id other (eqb-true id e.0 r ∙ sym (eqb-true other e.0 q)) in rest ∙ rw same refl
-    by rest true q false r = let apart : nat_eq id other ≡ false = ap (nat_eq id) (eqb-true other e.0 q) ∙ r in rw (q, apart) refl
-    by rest false q true r = rest
-    by rest false q false r = rw q rest
-
-pub row_at-push : (es : List (ℕ × Row)) (id : ℕ) (row : Row) (other : ℕ) → nat_eq other id ≡ false → row_at (es ++ (id, row) ∷ []) other ≡ row_at es other
-row_at-push [] id row other apart = rw apart refl
-row_at-push (e ∷ es) id row other apart = ap (cond (nat_eq other e.0) (Some e.1)) (row_at-push es id row other apart)
-
-pub row_at-last : (es : List (ℕ × Row)) (id : ℕ) (row : Row) → row_at es id ≡ None → row_at (es ++ (id, row) ∷ []) id ≡ Some row
-row_at-last [] id row absent = rw (nat_eq_equiv.refl id) refl
-row_at-last (e ∷ es) id row absent = by (row_at-last es id row) (nat_eq id e.0) absent
-  where
-    by : (row_at es id ≡ None → row_at (es ++ (id, row) ∷ []) id ≡ Some row) → (b : Bool) → cond b (Some e.1) (row_at es id) ≡ None → cond b (Some e.1) (row_at (es ++ (id, row) ∷ []) id) ≡ Some row
-    by rest true h = absurd (cc)
-    by rest false h = rest h
 
 -- the rows are those of the entries, place by place
 pub rows_in-at : (es : List (ℕ × Row)) (i id : ℕ) (row : Row) → slice_get es i ≡ Some (id, row) → slice_get (rows_in es) i ≡ Some row
@@ -132,12 +82,8 @@ rows_in-at [] i id row there = absurd (cc)
 rows_in-at (e ∷ es) zero id row there = let same : e ≡ (id, row) = cc in ap (λ (x : ℕ × Row). Some x.1) same
 rows_in-at (e ∷ es) (suc i) id row there = rows_in-at es i id row there
 
-pub rows_in-push : (es : List (ℕ × Row)) (e : ℕ × Row) → rows_in (es ++ e ∷ []) ≡ rows_in es ++ e.1 ∷ []
-rows_in-push [] e = refl
-rows_in-push (f ∷ fs) e = rw (rows_in-push fs e) refl
-
 pub rows_in-take_more : (es : List (ℕ × Row)) (i id : ℕ) (row : Row) → i < length es → slice_get es i ≡ Some (id, row) → rows_in (take (i + 1) es) ≡ rows_in (take i es) ++ row ∷ []
 rows_in-take_more es i id row within there =
     let here : get_or es i (id, row) ≡ (id, row) = get_or_from_slice_get es i (id, row) (id, row) there in
     let more : take (i + 1) es ≡ take i es ++ (id, row) ∷ [] = take_more es i (id, row) within ∙ ap (λ (e : ℕ × Row). take i es ++ e ∷ []) here in
-    ap rows_in more ∙ rows_in-push (take i es) (id, row)
+    ap rows_in more ∙ rows-push (take i es) id row

@@ -1,235 +1,241 @@
--- What a change of one row is to the table of children: a row that hangs as before, is hung in a cell, or is
--- taken out of one.
-use Rattle.std.proofs.Common.{◌≡◌, ◌≢◌, ℕ, ◌<◌, ◌⊎◌, Bool, true, false, cond, nat_eq, List, length, get_or, Option, Some, None, refl, sym, ap, ◌∙◌, arith, inl, inr}
+-- What a change of the rows is to the table of children: one row changes, or hangs in another cell, a row is put last,
+-- and rows are taken out.
+use Rattle.std.proofs.Common.{◌≡◌, ◌≢◌, ℕ, ◌<◌, ◌⊎◌, inl, inr, Bool, true, false, cond, ◌&&◌, nat_eq, List, [], ◌∷◌, ◌++◌, length, get_or, Option, Some, None, refl, sym, ap, ◌∙◌, slice_get, subst, arith}
 use Rattle.std.proofs.Math.ListN.{set}
-use Rattle.std.proofs.lemmas.Bool.{true≢false, eqb-true, eq-eqb, cases_eq}
+use Rattle.std.proofs.lemmas.Bool.{true≢false, eqb-true, and_parts, cases_eq, cond-false, false_from_ne_true}
 use Rattle.std.proofs.lemmas.List.{get_or-set_same, get_or-set_other}
-use Rattle.std.specs.Option.{option_map}
+use Rattle.std.proofs.lemmas.List.Folds.{find-append}
+use Rattle.std.proofs.lemmas.Option.{same_Some}
+use Rattle.std.proofs.lemmas.Slice.Eq.{bytes_eq-Decides}
+use Rattle.std.specs.List.{find, filter}
+use Rattle.std.specs.Option.{option_map, option_map_or, option_and_then, option_or}
+use Rattle.std.specs.Str.{bytes_eq}
 use Rattle.kind_core.specs.declared.shapes.Cell.{Cell}
-use Rattle.widget_model.specs.Rows.{Row, with_attached}
-use Rattle.widget_model.specs.Nodes.{Node, node_of}
+use Rattle.widget_model.specs.Rows.{Row, with_attached, IsIndex}
+use Rattle.widget_model.specs.Keys.{key_of}
+use Rattle.widget_model.specs.Nodes.{Node, node_of, node_at, id_named}
+use Rattle.widget_model.specs.Named.{with_named, row_named}
 use Rattle.widget_model.specs.Relatives.{child_id}
-use Rattle.widget_model.specs.Widgets.{row_at, with_row}
-use Rattle.widget_model.specs.Rows.{IsIndex}
-use Rattle.row_store.specs.Places.{cell_place}
-use Rattle.tree_core.specs.Children.{widgets_in, HasChildren}
+use Rattle.widget_model.specs.Trees.{child_in, stands_at}
+use Rattle.widget_model.specs.Widgets.{row_at, with_row, nodes}
+use Rattle.widget_model.proofs.Cells.{child_in-stands, child_in-attach_same, child_in-attach_other, child_in-detach_same, child_in-detach_other, CanHang}
+use Rattle.widget_model.proofs.Hanging.{all_at, hangs_right-at}
+use Rattle.widget_model.proofs.Naming.{rows-push, rows-with_row, row_named-none, id_named-row}
+use Rattle.row_store.specs.CellTable.{cell_offset}
+use Rattle.row_store.proofs.UnderNumbers.{node_at-nodes, nodes-push, nodes-with_row, row_at-push, row_at-last}
+use Rattle.row_store.proofs.UnderNames.{or_last, id_named-push}
+use Rattle.tree_core.specs.Children.{rows_in, widgets_in, HasChildren}
 use Rattle.tree_core.specs.Kept.{IsGrove}
-use Rattle.tree_core.proofs.Listed.{row_at-with_row}
-use Rattle.tree_core.proofs.Children.{HangsAt, child_id-hangs, hangs-child_id, own_number}
-use Rattle.row_store.proofs.Options.{option_same}
+use Rattle.tree_core.proofs.Listed.{find_place, row_named-row, AreNamedApart-rows}
+use Rattle.tree_core.proofs.Children.{child_in-number, own_number}
+
+-- the number of a row that was found
+abbrev pub number_in : List (ℕ × Node) → Option Row → Option ℕ
+number_in ns found = option_and_then (λ (child : Row). id_named ns child.client child.name) found
+
+number_in-key : (ns : List (ℕ × Node)) (new old : Option Row) → option_map key_of new ≡ option_map key_of old → number_in ns new ≡ number_in ns old
+number_in-key ns None None same = refl
+number_in-key ns None (Some r) same = absurd (cc)
+number_in-key ns (Some r) None same = absurd (cc)
+number_in-key ns (Some r) (Some s) same = ap (λ (key : ℕ × List ℕ). id_named ns key.0 key.1) (same_Some (key_of r) (key_of s) same)
+
+-- who is in a cell of a row, and that none is in one of a number without a row
+pub child_id-row : (es : List (ℕ × Row)) (above column line : ℕ) (upper : Row) → row_at es above ≡ Some upper → child_id (widgets_in es) above column line ≡ number_in (nodes es) (child_in (rows_in es) upper.client upper.name column line)
+child_id-row es above column line upper there = ap (option_and_then (λ (row : Row). number_in (nodes es) (child_in (rows_in es) row.client row.name column line))) there
+
+pub child_id-none : (es : List (ℕ × Row)) (above column line : ℕ) → row_at es above ≡ None → child_id (widgets_in es) above column line ≡ None
+child_id-none es above column line absent = ap (option_and_then (λ (row : Row). number_in (nodes es) (child_in (rows_in es) row.client row.name column line))) absent
+
+-- rows with the nodes of others: who is in a cell of a row of theirs
+module _ (es new : List (ℕ × Row)) (same : nodes new ≡ nodes es) (above column line : ℕ) where
+  nodes_same : option_map node_of (row_at new above) ≡ option_map node_of (row_at es above)
+  nodes_same = sym (node_at-nodes new above) ∙ ap (λ (ns : List (ℕ × Node)). node_at ns above) same ∙ node_at-nodes es above
+
+  child_id-renewed : (upper : Row) → row_at es above ≡ Some upper → child_id (widgets_in new) above column line ≡ number_in (nodes es) (child_in (rows_in new) upper.client upper.name column line)
+  child_id-renewed upper there = by (row_at new above) refl (nodes_same ∙ ap (option_map node_of) there)
+    where
+      by : (o : Option Row) → row_at new above ≡ o → option_map node_of (row_at new above) ≡ Some (node_of upper) → child_id (widgets_in new) above column line ≡ number_in (nodes es) (child_in (rows_in new) upper.client upper.name column line)
+      by None p eq = absurd (let none : None ≡ Some (node_of upper) = sym (ap (option_map node_of) p) ∙ eq in cc)
+      by (Some row) p eq =
+          let node : node_of row ≡ node_of upper = same_Some (node_of row) (node_of upper) (sym (ap (option_map node_of) p) ∙ eq) in
+          child_id-row new above column line row p
+          ∙ ap (λ (n : Node). number_in (nodes new) (child_in (rows_in new) n.client n.name column line)) node
+          ∙ ap (λ (ns : List (ℕ × Node)). number_in ns (child_in (rows_in new) upper.client upper.name column line)) same
+
+  child_id-same : ((upper : Row) → row_at es above ≡ Some upper → option_map key_of (child_in (rows_in new) upper.client upper.name column line) ≡ option_map key_of (child_in (rows_in es) upper.client upper.name column line)) → child_id (widgets_in new) above column line ≡ child_id (widgets_in es) above column line
+  child_id-same found = by (row_at es above) refl
+    where
+      gone : (o : Option Row) → row_at new above ≡ o → option_map node_of o ≡ None → row_at new above ≡ None
+      gone None p eq = p
+      gone (Some row) p eq = absurd (cc)
+
+      by : (o : Option Row) → row_at es above ≡ o → child_id (widgets_in new) above column line ≡ child_id (widgets_in es) above column line
+      by None p = child_id-none new above column line (gone (row_at new above) refl (nodes_same ∙ ap (option_map node_of) p)) ∙ sym (child_id-none es above column line p)
+      by (Some upper) p = child_id-renewed upper p ∙ number_in-key (nodes es) _ _ (found upper p) ∙ sym (child_id-row es above column line upper p)
+
+-- a change that leaves where rows hang leaves who is in a cell
+module _ (id : ℕ) (change : Row → Row) (node : (row : Row) → node_of (change row) ≡ node_of row) (still : (row : Row) → (change row).attached ≡ row.attached) where
+  child_in-still : (client : ℕ) (name : List ℕ) (column line : ℕ) (es : List (ℕ × Row)) → option_map key_of (child_in (rows_in (with_row id change es)) client name column line) ≡ option_map key_of (child_in (rows_in es) client name column line)
+  child_in-still client name column line [] = refl
+  child_in-still client name column line (e ∷ es) = by (nat_eq id e.0) (child_in-still client name column line es)
+    where
+      stands : stands_at client name column line (change e.1) ≡ stands_at client name column line e.1
+      stands = rw (still e.1, ap (λ (n : Node). n.client) (node e.1)) refl
+
+      first : (b : Bool) (row : Row) (rest : Option Row) → key_of row ≡ key_of e.1 → option_map key_of rest ≡ option_map key_of (child_in (rows_in es) client name column line) → option_map key_of (cond b (Some row) rest) ≡ option_map key_of (cond b (Some e.1) (child_in (rows_in es) client name column line))
+      first true row rest key h = ap Some key
+      first false row rest key h = h
+
+      by : (b : Bool) → option_map key_of (child_in (rows_in (with_row id change es)) client name column line) ≡ option_map key_of (child_in (rows_in es) client name column line) → option_map key_of (child_in (rows_in (cond b (e.0, change e.1) e ∷ with_row id change es)) client name column line) ≡ option_map key_of (child_in (rows_in (e ∷ es)) client name column line)
+      by true rest =
+          ap (λ (b : Bool). option_map key_of (cond b (Some (change e.1)) (child_in (rows_in (with_row id change es)) client name column line))) stands
+          ∙ first (stands_at client name column line e.1) (change e.1) _ (ap (λ (n : Node). (n.client, n.name)) (node e.1)) rest
+      by false rest = first (stands_at client name column line e.1) e.1 _ refl rest
+
+  pub HasChildren-still : (es : List (ℕ × Row)) (cells : List (Option ℕ)) → HasChildren es cells → HasChildren (with_row id change es) cells
+  HasChildren-still es cells h =
+      record {
+        each = λ above column line c l.
+            h.each above column line c l
+            ∙ sym (child_id-same es (with_row id change es) (nodes-with_row es id change node) above column line (λ upper there. child_in-still upper.client upper.name column line es));
+      }
 
 -- one place is one cell
-pub cell_place-same : (id other column other_column line other_line : ℕ) → IsIndex column → IsIndex other_column → IsIndex line → IsIndex other_line → cell_place id column line ≡ cell_place other other_column other_line → (id ≡ other) × (column ≡ other_column) × (line ≡ other_line)
-cell_place-same id other column other_column line other_line c oc l ol same = (omega (arith, c, oc, l, ol, same), omega (arith, c, oc, l, ol, same), omega (arith, c, oc, l, ol, same))
+cell_offset-same : (id other column other_column line other_line : ℕ) → IsIndex column → IsIndex other_column → IsIndex line → IsIndex other_line → cell_offset id column line ≡ cell_offset other other_column other_line → (id ≡ other) × (column ≡ other_column) × (line ≡ other_line)
+cell_offset-same id other column other_column line other_line c oc l ol same = (omega (arith, c, oc, l, ol, same), omega (arith, c, oc, l, ol, same), omega (arith, c, oc, l, ol, same))
 
--- one attached has one name and one cell
-attached-parts : (x y : List ℕ × Cell) → Some x ≡ Some y → (x.0 ≡ y.0) × (x.1 ≡ y.1)
-attached-parts x y h =
-    let pair : x ≡ y = cc in
-    (ap (λ (p : List ℕ × Cell). p.0) pair, ap (λ (p : List ℕ × Cell). p.1) pair)
+-- whether that is another cell than the named one
+abbrev is_cell_of : Row → Cell → ℕ → List ℕ → ℕ → ℕ → Bool
+is_cell_of upper cell client name column line = nat_eq client upper.client && (bytes_eq name upper.name && (nat_eq column cell.column && nat_eq line cell.row))
 
--- the row that a number has after a change
-changed : ℕ → (Row → Row) → ℕ → Row → Row
-changed id change other row = cond (nat_eq id other) (change row) row
+-- one cell of a row is filled or emptied, and the others aren't touched
+pub record IsPutIn (es new : List (ℕ × Row)) (upper : Row) (cell : Cell) (child : Option ℕ) : Type 0 where
+  pub same : nodes new ≡ nodes es
+  pub here : number_in (nodes es) (child_in (rows_in new) upper.client upper.name cell.column cell.row) ≡ child
+  pub others : (client : ℕ) (name : List ℕ) (column line : ℕ) → is_cell_of upper cell client name column line ≡ false → child_in (rows_in new) client name column line ≡ child_in (rows_in es) client name column line
 
-changed-node : (id : ℕ) (change : Row → Row) (other : ℕ) (row : Row) → ((row : Row) → node_of (change row) ≡ node_of row) → node_of (changed id change other row) ≡ node_of row
-unfolding changed
-changed-node id change other row same = by (nat_eq id other)
+pub HasChildren-put : (es new : List (ℕ × Row)) (cells : List (Option ℕ)) (above : ℕ) (upper : Row) (cell : Cell) (child : Option ℕ) → IsGrove es → HasChildren es cells → row_at es above ≡ Some upper → IsIndex cell.column → IsIndex cell.row → cell_offset above cell.column cell.row < length cells → IsPutIn es new upper cell child → HasChildren new (set cells (cell_offset above cell.column cell.row) child)
+HasChildren-put es new cells above upper cell child grove h there column_in line_in within put =
+    record { each = λ a column line c l. by a column line c l (cases_eq (cell_offset a column line) (cell_offset above cell.column cell.row)) }
   where
-    by : (b : Bool) → node_of (cond b (change row) row) ≡ node_of row
-    by true = same row
-    by false = refl
+    differs : (a column line : ℕ) → cell_offset a column line ≢ cell_offset above cell.column cell.row → (row : Row) → row_at es a ≡ Some row → is_cell_of upper cell row.client row.name column line ≡ false
+    differs a column line apart row at = false_from_ne_true (is_cell_of upper cell row.client row.name column line) (λ is. here is)
+      where
+        here : is_cell_of upper cell row.client row.name column line ≡ true → ⊥
+        here is =
+            let owner = and_parts (nat_eq row.client upper.client) (bytes_eq row.name upper.name && (nat_eq column cell.column && nat_eq line cell.row)) is in
+            let named = and_parts (bytes_eq row.name upper.name) (nat_eq column cell.column && nat_eq line cell.row) owner.1 in
+            let lines = and_parts (nat_eq column cell.column) (nat_eq line cell.row) named.1 in
+            let number = own_number es a above row upper grove at there (eqb-true row.client upper.client owner.0) ((bytes_eq-Decides row.name upper.name).0 named.0) in
+            apart (rw (number, eqb-true column cell.column lines.0, eqb-true line cell.row lines.1) refl)
 
-row_at-changed : (es : List (ℕ × Row)) (id : ℕ) (change : Row → Row) (other : ℕ) (row : Row) → row_at es other ≡ Some row → row_at (with_row id change es) other ≡ Some (changed id change other row)
-unfolding changed
-row_at-changed es id change other row there = row_at-with_row es id change other ∙ ap (option_map (λ (row : Row). cond (nat_eq id other) (change row) row)) there
+    by : (a column line : ℕ) → IsIndex column → IsIndex line → (cell_offset a column line ≡ cell_offset above cell.column cell.row) ⊎ (cell_offset a column line ≡ cell_offset above cell.column cell.row → ⊥) → get_or (set cells (cell_offset above cell.column cell.row) child) (cell_offset a column line) None ≡ child_id (widgets_in new) a column line
+    by a column line c l (inl same) =
+        let parts = cell_offset-same a above column cell.column line cell.row c column_in l line_in same in
+        let here : child_id (widgets_in new) a column line ≡ child = rw (parts.0, parts.1, parts.2) (child_id-renewed es new put.same above cell.column cell.row upper there ∙ put.here) in
+        ap (λ (n : ℕ). get_or (set cells (cell_offset above cell.column cell.row) child) n None) same ∙ get_or-set_same cells (cell_offset above cell.column cell.row) child None within ∙ sym here
+    by a column line c l (inr apart) =
+        get_or-set_other cells (cell_offset above cell.column cell.row) (cell_offset a column line) child None apart
+        ∙ h.each a column line c l
+        ∙ sym (child_id-same es new put.same a column line (λ row at. ap (option_map key_of) (put.others row.client row.name column line (differs a column line apart row at))))
 
-row_at-was : (es : List (ℕ × Row)) (id : ℕ) (change : Row → Row) (other : ℕ) (row : Row) → row_at (with_row id change es) other ≡ Some row → (old : Row) × (row_at es other ≡ Some old) × (row ≡ changed id change other old)
-unfolding changed
-row_at-was es id change other row there = by (row_at es other) refl (sym (row_at-with_row es id change other) ∙ there)
-  where
-    by : (o : Option Row) → row_at es other ≡ o → option_map (λ (row : Row). cond (nat_eq id other) (change row) row) o ≡ Some row → (old : Row) × (row_at es other ≡ Some old) × (row ≡ cond (nat_eq id other) (change old) old)
-    by None p h = absurd (cc)
-    by (Some old) p h = let same : cond (nat_eq id other) (change old) old ≡ row = cc in (old, p, sym same)
+-- a widget is hung in a cell, or taken out of it
+module _ (es : List (ℕ × Row)) (below : ℕ) (upper lower : Row) (cell : Cell) (grove : IsGrove es) (lower_there : row_at es below ≡ Some lower) (owner : lower.client ≡ upper.client) where
+  named_lower : row_named (rows_in es) upper.client lower.name ≡ Some lower
+  named_lower = ap (λ (client : ℕ). row_named (rows_in es) client lower.name) (sym owner) ∙ row_named-row es below lower grove.own_numbers grove.own_names lower_there
 
--- the row under a number hangs as it did
-IsStill : List (ℕ × Row) → ℕ → (Row → Row) → ℕ → Type 0
-IsStill es id change other = (row : Row) → row_at es other ≡ Some row → (changed id change other row).attached ≡ row.attached
+  rows_new : (change : Row → Row) → rows_in (with_row below change es) ≡ with_named upper.client lower.name change (rows_in es)
+  rows_new change =
+      rows-with_row es lower.client lower.name below change grove.own_numbers grove.own_names (id_named-row es below lower grove.own_names lower_there)
+      ∙ ap (λ (client : ℕ). with_named client lower.name change (rows_in es)) owner
 
-module _ (es : List (ℕ × Row)) (id : ℕ) (change : Row → Row) (same : (row : Row) → node_of (change row) ≡ node_of row) where
-  HangsAt-with_row : (below above column line : ℕ) → IsStill es id change below → HangsAt es below above column line → HangsAt (with_row id change es) below above column line
-  unfolding IsStill
-  HangsAt-with_row below above column line still h =
+  seen : (change : Row → Row) (client : ℕ) (name : List ℕ) (column line : ℕ) → child_in (rows_in (with_row below change es)) client name column line ≡ child_in (with_named upper.client lower.name change (rows_in es)) client name column line
+  seen change client name column line = ap (λ (rows : List Row). child_in rows client name column line) (rows_new change)
+
+  pub IsPutIn-hang : CanHang (rows_in es) upper.client upper.name lower.name cell upper lower → IsPutIn es (with_row below (with_attached (Some (upper.name, cell))) es) upper cell (Some below)
+  IsPutIn-hang can =
+      let change = with_attached (Some (upper.name, cell)) in
+      let apart = AreNamedApart-rows es grove.own_names in
       record {
-        upper = changed id change above h.upper;
-        lower = changed id change below h.lower;
-        upper_there = row_at-changed es id change above h.upper h.upper_there;
-        lower_there = row_at-changed es id change below h.lower h.lower_there;
-        owner = ap (λ (n : Node). n.client) (changed-node id change below h.lower same) ∙ h.owner ∙ sym (ap (λ (n : Node). n.client) (changed-node id change above h.upper same));
-        cell = h.cell;
-        attached = still h.lower h.lower_there ∙ h.attached ∙ ap (λ (n : List ℕ). Some (n, h.cell)) (sym (ap (λ (n : Node). n.name) (changed-node id change above h.upper same)));
-        column_is = h.column_is;
-        line_is = h.line_is;
+        same = nodes-with_row es below change (λ row. refl);
+        here = ap (number_in (nodes es)) (seen change upper.client upper.name cell.column cell.row ∙ child_in-attach_same (rows_in es) upper.client upper.name lower.name cell upper lower apart can) ∙ id_named-row es below lower grove.own_names lower_there;
+        others = λ client name column line differs. seen change client name column line ∙ child_in-attach_other (rows_in es) upper.client upper.name lower.name cell upper lower apart can client name column line differs;
       }
 
-  HangsAt-was : (below above column line : ℕ) → IsStill es id change below → HangsAt (with_row id change es) below above column line → HangsAt es below above column line
-  unfolding IsStill
-  HangsAt-was below above column line still h =
-      let upper = row_at-was es id change above h.upper h.upper_there in
-      let lower = row_at-was es id change below h.lower h.lower_there in
-      let upper_node = ap node_of upper.2 ∙ changed-node id change above upper.0 same in
-      let lower_node = ap node_of lower.2 ∙ changed-node id change below lower.0 same in
+  pub IsPutIn-unhang : lower.attached ≡ Some (upper.name, cell) → IsPutIn es (with_row below (with_attached None) es) upper cell None
+  IsPutIn-unhang attached =
+      let apart = AreNamedApart-rows es grove.own_names in
       record {
-        upper = upper.0;
-        lower = lower.0;
-        upper_there = upper.1;
-        lower_there = lower.1;
-        owner = ap (λ (n : Node). n.client) (sym lower_node) ∙ h.owner ∙ ap (λ (n : Node). n.client) upper_node;
-        cell = h.cell;
-        attached = sym (still lower.0 lower.1) ∙ ap (λ (row : Row). row.attached) (sym lower.2) ∙ h.attached ∙ ap (λ (n : List ℕ). Some (n, h.cell)) (ap (λ (n : Node). n.name) upper_node);
-        column_is = h.column_is;
-        line_is = h.line_is;
+        same = nodes-with_row es below (with_attached None) (λ row. refl);
+        here = ap (number_in (nodes es)) (seen (with_attached None) upper.client upper.name cell.column cell.row ∙ child_in-detach_same (rows_in es) upper.client lower.name upper.name cell lower apart grove.planted.own_cells named_lower attached);
+        others = λ client name column line differs. seen (with_attached None) client name column line ∙ child_in-detach_other (rows_in es) upper.client lower.name upper.name cell lower apart named_lower attached client name column line differs;
       }
 
-  -- who hangs in a cell, where the one that is there, and the one that was, hang as they did
-  child_id-same : (above column line : ℕ) → IsGrove es → IsGrove (with_row id change es) → ((below : ℕ) → child_id (widgets_in es) above column line ≡ Some below → IsStill es id change below) → ((below : ℕ) → child_id (widgets_in (with_row id change es)) above column line ≡ Some below → IsStill es id change below) → child_id (widgets_in es) above column line ≡ child_id (widgets_in (with_row id change es)) above column line
-  child_id-same above column line old new here there =
-      option_same (child_id (widgets_in es) above column line) (child_id (widgets_in (with_row id change es)) above column line)
-      (λ below k. hangs-child_id (with_row id change es) below above column line new (HangsAt-with_row below above column line (here below k) (child_id-hangs es below above column line old k)))
-      (λ below k. hangs-child_id es below above column line old (HangsAt-was below above column line (there below k) (child_id-hangs (with_row id change es) below above column line new k)))
+-- a new row, which hangs nowhere
+module _ (es : List (ℕ × Row)) (id : ℕ) (row : Row) (absent : row_at es id ≡ None) (alone : row.attached ≡ None) (unnamed : id_named (nodes es) row.client row.name ≡ None) (grove : IsGrove es) where
+  child_in-more : (client : ℕ) (name : List ℕ) (column line : ℕ) → child_in (rows_in (es ++ (id, row) ∷ [])) client name column line ≡ child_in (rows_in es) client name column line
+  child_in-more client name column line =
+      ap (find (stands_at client name column line)) (rows-push es id row)
+      ∙ find-append (stands_at client name column line) (rows_in es) (row ∷ [])
+      ∙ ap (λ (b : Bool). option_or (child_in (rows_in es) client name column line) (cond b (Some row) None)) (stands_not (nat_eq client row.client))
+      ∙ or_none (child_in (rows_in es) client name column line)
+    where
+      stands_not : (b : Bool) → (b && option_map_or (λ (s : List ℕ × Cell). bytes_eq name s.0 && (nat_eq column s.1.column && nat_eq line s.1.row)) row.attached false) ≡ false
+      stands_not true = rw alone refl
+      stands_not false = refl
 
-  -- a change that leaves where all rows hang leaves the table
-  pub HasChildren-still : (cells : List (Option ℕ)) → IsGrove es → IsGrove (with_row id change es) → ((below : ℕ) (row : Row) → row_at es below ≡ Some row → (cond (nat_eq id below) (change row) row).attached ≡ row.attached) → HasChildren es cells → HasChildren (with_row id change es) cells
-  unfolding IsStill changed
-  HasChildren-still cells old new still h =
-      record { each = λ above column line c l. h.each above column line c l ∙ child_id-same above column line old new (λ below k. still below) (λ below k. still below) }
+      or_none : (o : Option Row) → option_or o None ≡ o
+      or_none None = refl
+      or_none (Some r) = refl
 
--- another row than the changed one hangs as it did
-other-still : (es : List (ℕ × Row)) (id : ℕ) (change : Row → Row) (other : ℕ) → nat_eq id other ≡ false → IsStill es id change other
-unfolding IsStill changed
-other-still es id change other apart row there = rw apart refl
+  -- nothing hangs in it, since no row has its name
+  no_child : (column line : ℕ) (o : Option Row) → child_in (rows_in es) row.client row.name column line ≡ o → o ≡ None
+  no_child column line None q = refl
+  no_child column line (Some child) q =
+      let stands = child_in-stands (rows_in es) row.client row.name column line child q in
+      let place = find_place (stands_at row.client row.name column line) (rows_in es) child q in
+      let right = hangs_right-at (rows_in es) child row.name stands.cell (all_at _ (rows_in es) place.0 child grove.planted.hang place.1) stands.attached in
+      let none : row_named (rows_in es) child.client row.name ≡ None = rw stands.owner (row_named-none es row.client row.name unnamed) in
+      absurd (let both : None ≡ Some right.upper = sym none ∙ right.found in cc)
 
-changed-self : (id : ℕ) (change : Row → Row) (other : ℕ) (row : Row) → nat_eq id other ≡ true → changed id change other row ≡ change row
-unfolding changed
-changed-self id change other row same = rw same refl
+  same_number : (client : ℕ) (name : List ℕ) (column line : ℕ) (o : Option Row) → child_in (rows_in es) client name column line ≡ o → number_in (nodes (es ++ (id, row) ∷ [])) o ≡ number_in (nodes es) o
+  same_number client name column line None q = refl
+  same_number client name column line (Some child) q =
+      let number = child_in-number es client name column line child grove q in
+      ap (λ (ns : List (ℕ × Node)). id_named ns child.client child.name) (nodes-push es id row) ∙ id_named-push (nodes es) (id, node_of row) child.client child.name ∙ rw number.2 refl
 
--- the row of the changed number in the changed rows
-changed_row : (es : List (ℕ × Row)) (id : ℕ) (change : Row → Row) (other : ℕ) (row new : Row) → nat_eq id other ≡ true → row_at es id ≡ Some row → row_at (with_row id change es) other ≡ Some new → new ≡ change row
-changed_row es id change other row new same there found =
-    let was = row_at-was es id change other new found in
-    let one : was.0 ≡ row = let p : row_at es other ≡ Some row = rw (← eqb-true id other same) there in let q : Some was.0 ≡ Some row = sym was.1 ∙ p in cc in
-    was.2 ∙ changed-self id change other was.0 same ∙ ap change one
+  pub HasChildren-push : (cells : List (Option ℕ)) → HasChildren es cells → HasChildren (es ++ (id, row) ∷ []) cells
+  HasChildren-push cells h = record { each = λ above column line c l. h.each above column line c l ∙ by above column line (nat_eq above id) refl (row_at es above) refl }
+    where
+      by : (above column line : ℕ) (b : Bool) → nat_eq above id ≡ b → (o : Option Row) → row_at es above ≡ o → child_id (widgets_in es) above column line ≡ child_id (widgets_in (es ++ (id, row) ∷ [])) above column line
+      by above column line true q o p =
+          let here : row_at (es ++ (id, row) ∷ []) above ≡ Some row = ap (row_at (es ++ (id, row) ∷ [])) (eqb-true above id q) ∙ row_at-last es id row absent in
+          child_id-none es above column line (ap (row_at es) (eqb-true above id q) ∙ absent)
+          ∙ sym (child_id-row (es ++ (id, row) ∷ []) above column line row here ∙ ap (number_in (nodes (es ++ (id, row) ∷ []))) (child_in-more row.client row.name column line ∙ no_child column line (child_in (rows_in es) row.client row.name column line) refl))
+      by above column line false q None p = child_id-none es above column line p ∙ sym (child_id-none (es ++ (id, row) ∷ []) above column line (row_at-push es id row above q ∙ p))
+      by above column line false q (Some upper) p =
+          child_id-row es above column line upper p
+          ∙ sym (child_id-row (es ++ (id, row) ∷ []) above column line upper (row_at-push es id row above q ∙ p) ∙ ap (number_in (nodes (es ++ (id, row) ∷ []))) (child_in-more upper.client upper.name column line) ∙ same_number upper.client upper.name column line (child_in (rows_in es) upper.client upper.name column line) refl)
 
-module _ (es : List (ℕ × Row)) (cells : List (Option ℕ)) (above below : ℕ) (upper lower : Row) (cell : Cell) (old : IsGrove es) (h : HasChildren es cells) (upper_there : row_at es above ≡ Some upper) (lower_there : row_at es below ≡ Some lower) (owner : lower.client ≡ upper.client) (column_in : IsIndex cell.column) (line_in : IsIndex cell.row) (within : cell_place above cell.column cell.row < length cells) where
-  module _ (alone : lower.attached ≡ None) (new : IsGrove (with_row below (with_attached (Some (upper.name, cell))) es)) where
-    hung-HangsAt : HangsAt (with_row below (with_attached (Some (upper.name, cell))) es) below above cell.column cell.row
-    hung-HangsAt =
-        record {
-          upper = changed below (with_attached (Some (upper.name, cell))) above upper;
-          lower = with_attached (Some (upper.name, cell)) lower;
-          upper_there = row_at-changed es below (with_attached (Some (upper.name, cell))) above upper upper_there;
-          lower_there = row_at-changed es below (with_attached (Some (upper.name, cell))) below lower lower_there ∙ ap Some (changed-self below (with_attached (Some (upper.name, cell))) below lower (eq-eqb below below refl));
-          owner = owner ∙ sym (ap (λ (n : Node). n.client) (changed-node below (with_attached (Some (upper.name, cell))) above upper (λ row. refl)));
-          cell = cell;
-          attached = ap (λ (n : List ℕ). Some (n, cell)) (sym (ap (λ (n : Node). n.name) (changed-node below (with_attached (Some (upper.name, cell))) above upper (λ row. refl))));
-          column_is = refl;
-          line_is = refl;
-        }
+-- rows are taken out, and with each one its children
+pub record IsLeftOf (es left : List (ℕ × Row)) (cells new_cells : List (Option ℕ)) : Type 0 where
+  pub stays : (above : ℕ) (upper : Row) → row_at left above ≡ Some upper → row_at es above ≡ Some upper
+  pub found : (above column line : ℕ) (upper : Row) → row_at left above ≡ Some upper → child_in (rows_in left) upper.client upper.name column line ≡ child_in (rows_in es) upper.client upper.name column line
+  pub number : (above column line : ℕ) (upper child : Row) → row_at left above ≡ Some upper → child_in (rows_in es) upper.client upper.name column line ≡ Some child → id_named (nodes left) child.client child.name ≡ id_named (nodes es) child.client child.name
+  pub cell : (above column line : ℕ) (upper : Row) → IsIndex column → IsIndex line → row_at left above ≡ Some upper → get_or new_cells (cell_offset above column line) None ≡ get_or cells (cell_offset above column line) None
+  pub empty : (above column line : ℕ) → IsIndex column → IsIndex line → row_at left above ≡ None → get_or new_cells (cell_offset above column line) None ≡ None
 
-    -- a widget that was hung in a cell
-    pub HasChildren-hang : HasChildren (with_row below (with_attached (Some (upper.name, cell))) es) (set cells (cell_place above cell.column cell.row) (Some below))
-    HasChildren-hang = record { each = λ a column line c l. by a column line c l (cases_eq (cell_place a column line) (cell_place above cell.column cell.row)) }
-      where
-        -- the one that was hung hung nowhere
-        was_other : (a column line other : ℕ) → child_id (widgets_in es) a column line ≡ Some other → (b : Bool) → nat_eq below other ≡ b → nat_eq below other ≡ false
-        was_other a column line other k true q =
-            let hangs = child_id-hangs es other a column line old k in
-            let one : Some hangs.lower ≡ Some lower = sym hangs.lower_there ∙ ap (row_at es) (sym (eqb-true below other q)) ∙ lower_there in
-            let attached : lower.attached ≡ Some (hangs.upper.name, hangs.cell) = let same : lower ≡ hangs.lower = cc in ap (λ (row : Row). row.attached) same ∙ hangs.attached in
-            absurd (let none : None ≡ Some (hangs.upper.name, hangs.cell) = sym alone ∙ attached in cc)
-        was_other a column line other k false q = q
+pub HasChildren-left : (es left : List (ℕ × Row)) (cells new_cells : List (Option ℕ)) → IsLeftOf es left cells new_cells → HasChildren es cells → HasChildren left new_cells
+HasChildren-left es left cells new_cells is h = record { each = λ above column line c l. by above column line c l (row_at left above) refl }
+  where
+    same_number : (above column line : ℕ) (upper : Row) → row_at left above ≡ Some upper → (o : Option Row) → child_in (rows_in es) upper.client upper.name column line ≡ o → number_in (nodes left) o ≡ number_in (nodes es) o
+    same_number above column line upper p None q = refl
+    same_number above column line upper p (Some child) q = is.number above column line upper child p q
 
-        -- and hangs in no other cell now
-        is_other : (a column line other : ℕ) → IsIndex column → IsIndex line → cell_place a column line ≢ cell_place above cell.column cell.row → child_id (widgets_in (with_row below (with_attached (Some (upper.name, cell))) es)) a column line ≡ Some other → (b : Bool) → nat_eq below other ≡ b → nat_eq below other ≡ false
-        is_other a column line other c l apart k true q =
-            let hangs = child_id-hangs (with_row below (with_attached (Some (upper.name, cell))) es) other a column line new k in
-            let one : hangs.lower ≡ with_attached (Some (upper.name, cell)) lower = changed_row es below (with_attached (Some (upper.name, cell))) other lower hangs.lower q lower_there hangs.lower_there in
-            let attached : Some (upper.name, cell) ≡ Some (hangs.upper.name, hangs.cell) = ap (λ (row : Row). row.attached) (sym one) ∙ hangs.attached in
-            let parts = attached-parts (upper.name, cell) (hangs.upper.name, hangs.cell) attached in
-            let name : upper.name ≡ hangs.upper.name = parts.0 in
-            let same_cell : cell ≡ hangs.cell = parts.1 in
-            let client : lower.client ≡ hangs.upper.client = ap (λ (row : Row). row.client) (sym one) ∙ hangs.owner in
-            let was = row_at-was es below (with_attached (Some (upper.name, cell))) a hangs.upper hangs.upper_there in
-            let node : node_of hangs.upper ≡ node_of was.0 = ap node_of was.2 ∙ changed-node below (with_attached (Some (upper.name, cell))) a was.0 (λ row. refl) in
-            let number : above ≡ a = own_number es above a upper was.0 old upper_there was.1 (sym owner ∙ client ∙ ap (λ (n : Node). n.client) node) (name ∙ ap (λ (n : Node). n.name) node) in
-            let column_same : column ≡ cell.column = sym hangs.column_is ∙ ap (λ (x : Cell). x.column) (sym same_cell) in
-            let line_same : line ≡ cell.row = sym hangs.line_is ∙ ap (λ (x : Cell). x.row) (sym same_cell) in
-            absurd (apart (rw (column_same, line_same, number) refl))
-        is_other a column line other c l apart k false q = q
-
-        by : (a column line : ℕ) → IsIndex column → IsIndex line → (cell_place a column line ≡ cell_place above cell.column cell.row) ⊎ (cell_place a column line ≡ cell_place above cell.column cell.row → ⊥) → get_or (set cells (cell_place above cell.column cell.row) (Some below)) (cell_place a column line) None ≡ child_id (widgets_in (with_row below (with_attached (Some (upper.name, cell))) es)) a column line
-        by a column line c l (inl same) =
-            let parts = cell_place-same a above column cell.column line cell.row c column_in l line_in same in
-            let here : child_id (widgets_in (with_row below (with_attached (Some (upper.name, cell))) es)) a column line ≡ Some below = rw (parts.0, parts.1, parts.2) (hangs-child_id (with_row below (with_attached (Some (upper.name, cell))) es) below above cell.column cell.row new hung-HangsAt) in
-            ap (λ (n : ℕ). get_or (set cells (cell_place above cell.column cell.row) (Some below)) n None) same ∙ get_or-set_same cells (cell_place above cell.column cell.row) (Some below) None within ∙ sym here
-        by a column line c l (inr apart) =
-            get_or-set_other cells (cell_place above cell.column cell.row) (cell_place a column line) (Some below) None apart
-            ∙ h.each a column line c l
-            ∙ child_id-same es below (with_attached (Some (upper.name, cell))) (λ row. refl) a column line old new
-            (λ other k. other-still es below (with_attached (Some (upper.name, cell))) other (was_other a column line other k (nat_eq below other) refl))
-            (λ other k. other-still es below (with_attached (Some (upper.name, cell))) other (is_other a column line other c l apart k (nat_eq below other) refl))
-
-  module _ (attached : lower.attached ≡ Some (upper.name, cell)) (new : IsGrove (with_row below (with_attached None) es)) where
-    -- a widget that was taken out of a cell
-    pub HasChildren-unhang : HasChildren (with_row below (with_attached None) es) (set cells (cell_place above cell.column cell.row) None)
-    HasChildren-unhang = record { each = λ a column line c l. by a column line c l (cases_eq (cell_place a column line) (cell_place above cell.column cell.row)) }
-      where
-        hung_here : HangsAt es below above cell.column cell.row
-        hung_here = record { upper = upper; lower = lower; upper_there = upper_there; lower_there = lower_there; owner = owner; cell = cell; attached = attached; column_is = refl; line_is = refl }
-
-        -- it hung in no other cell
-        was_other : (a column line other : ℕ) → cell_place a column line ≢ cell_place above cell.column cell.row → child_id (widgets_in es) a column line ≡ Some other → (b : Bool) → nat_eq below other ≡ b → nat_eq below other ≡ false
-        was_other a column line other apart k true q =
-            let hangs = child_id-hangs es other a column line old k in
-            let one : Some hangs.lower ≡ Some lower = sym hangs.lower_there ∙ ap (row_at es) (sym (eqb-true below other q)) ∙ lower_there in
-            let same : lower ≡ hangs.lower = cc in
-            let same_attached : Some (upper.name, cell) ≡ Some (hangs.upper.name, hangs.cell) = sym attached ∙ ap (λ (row : Row). row.attached) same ∙ hangs.attached in
-            let parts = attached-parts (upper.name, cell) (hangs.upper.name, hangs.cell) same_attached in
-            let name : upper.name ≡ hangs.upper.name = parts.0 in
-            let same_cell : cell ≡ hangs.cell = parts.1 in
-            let client : upper.client ≡ hangs.upper.client = sym owner ∙ ap (λ (row : Row). row.client) same ∙ hangs.owner in
-            let number : above ≡ a = own_number es above a upper hangs.upper old upper_there hangs.upper_there client name in
-            let column_same : column ≡ cell.column = sym hangs.column_is ∙ ap (λ (x : Cell). x.column) (sym same_cell) in
-            let line_same : line ≡ cell.row = sym hangs.line_is ∙ ap (λ (x : Cell). x.row) (sym same_cell) in
-            absurd (apart (rw (column_same, line_same, number) refl))
-        was_other a column line other apart k false q = q
-
-        -- and hangs in none now
-        is_other : (a column line other : ℕ) → child_id (widgets_in (with_row below (with_attached None) es)) a column line ≡ Some other → (b : Bool) → nat_eq below other ≡ b → nat_eq below other ≡ false
-        is_other a column line other k true q =
-            let hangs = child_id-hangs (with_row below (with_attached None) es) other a column line new k in
-            let one : hangs.lower ≡ with_attached None lower = changed_row es below (with_attached None) other lower hangs.lower q lower_there hangs.lower_there in
-            absurd (let none : None ≡ Some (hangs.upper.name, hangs.cell) = ap (λ (row : Row). row.attached) (sym one) ∙ hangs.attached in cc)
-        is_other a column line other k false q = q
-
-        -- so its cell is empty
-        empty : (o : Option ℕ) → child_id (widgets_in (with_row below (with_attached None) es)) above cell.column cell.row ≡ o → o ≡ None
-        empty None k = refl
-        empty (Some other) k =
-            let apart = is_other above cell.column cell.row other k (nat_eq below other) refl in
-            let hangs = HangsAt-was es below (with_attached None) (λ row. refl) other above cell.column cell.row (other-still es below (with_attached None) other apart) (child_id-hangs (with_row below (with_attached None) es) other above cell.column cell.row new k) in
-            let one : Some below ≡ Some other = sym (hangs-child_id es below above cell.column cell.row old hung_here) ∙ hangs-child_id es other above cell.column cell.row old hangs in
-            let same : below ≡ other = cc in
-            absurd (true≢false (sym (eq-eqb below other same) ∙ apart))
-
-        by : (a column line : ℕ) → IsIndex column → IsIndex line → (cell_place a column line ≡ cell_place above cell.column cell.row) ⊎ (cell_place a column line ≡ cell_place above cell.column cell.row → ⊥) → get_or (set cells (cell_place above cell.column cell.row) None) (cell_place a column line) None ≡ child_id (widgets_in (with_row below (with_attached None) es)) a column line
-        by a column line c l (inl same) =
-            let parts = cell_place-same a above column cell.column line cell.row c column_in l line_in same in
-            let here : child_id (widgets_in (with_row below (with_attached None) es)) a column line ≡ None = rw (parts.0, parts.1, parts.2) (empty (child_id (widgets_in (with_row below (with_attached None) es)) above cell.column cell.row) refl) in
-            ap (λ (n : ℕ). get_or (set cells (cell_place above cell.column cell.row) None) n None) same ∙ get_or-set_same cells (cell_place above cell.column cell.row) None None within ∙ sym here
-        by a column line c l (inr apart) =
-            get_or-set_other cells (cell_place above cell.column cell.row) (cell_place a column line) None None apart
-            ∙ h.each a column line c l
-            ∙ child_id-same es below (with_attached None) (λ row. refl) a column line old new
-            (λ other k. other-still es below (with_attached None) other (was_other a column line other apart k (nat_eq below other) refl))
-            (λ other k. other-still es below (with_attached None) other (is_other a column line other k (nat_eq below other) refl))
+    by : (above column line : ℕ) → IsIndex column → IsIndex line → (o : Option Row) → row_at left above ≡ o → get_or new_cells (cell_offset above column line) None ≡ child_id (widgets_in left) above column line
+    by above column line c l None p = is.empty above column line c l p ∙ sym (child_id-none left above column line p)
+    by above column line c l (Some upper) p =
+        is.cell above column line upper c l p
+        ∙ h.each above column line c l
+        ∙ child_id-row es above column line upper (is.stays above upper p)
+        ∙ sym (child_id-row left above column line upper p ∙ ap (number_in (nodes left)) (is.found above column line upper p) ∙ same_number above column line upper p (child_in (rows_in es) upper.client upper.name column line) refl)

@@ -1,65 +1,56 @@
--- What the calls leave of the facts on the parts of a tree.
-use Rattle.std.proofs.Common.{◌≡◌, ◌≤◌, ◌<◌, ◌+◌, ◌-◌, ◌*◌, ◌||◌, ◌&&◌, nat_le, nat_lt, ℕ, Bool, true, false, cond, nat_eq, is_some, length, get_or, List, [], ◌∷◌, ◌++◌, Option, Some, None, refl, sym, ap, ◌∙◌, subst, arith}
-use Rattle.std.proofs.lemmas.Bool.{true≢false, eqb-true, and_parts, leb-true, ltb-true}
-use Rattle.std.specs.List.{list_all}
-use Rattle.std.specs.Option.{option_map}
+-- What each call leaves of the parts of a tree.
+use Rattle.std.proofs.Common.{rules, ◌≡◌, ◌≤◌, ◌<◌, ◌+◌, ◌-◌, ◌*◌, ◌||◌, ℕ, Bool, true, false, cond, not, nat_eq, is_some, length, get_or, IfSome, List, [], ◌∷◌, ◌++◌, Option, Some, None, refl, sym, ap, ◌∙◌, subst, arith}
+use Rattle.std.proofs.Math.ListN.{length-set}
+use Rattle.std.proofs.lemmas.Bool.{true≢false, eqb-true, eqb-false, and_parts, and_from}
+use Rattle.std.proofs.lemmas.Bool.Decides.{nat_tests}
+use Rattle.std.proofs.lemmas.List.{get_or-set_same, get_or-set_other, length-replicate}
+use Rattle.std.specs.List.{filter, list_all}
+use Rattle.std.specs.Option.{option_map, option_and_then}
 use Rattle.geom_core.specs.declared.rectangle.Rect.{Rect}
 use Rattle.kind_core.specs.declared.kinds.Kind.{Kind}
+use Rattle.kind_core.specs.declared.kinds.Kind.TheVariants.{VScreen}
 use Rattle.kind_core.specs.declared.shapes.Cell.{Cell}
-use Rattle.widget_model.specs.Rows.{Row, with_link, with_attached, new_row}
-use Rattle.widget_model.specs.Nodes.{Node, node_of, node_at, is_number_of, first_number}
+use Rattle.vscreen_core.specs.FilmState.{FilmState, IsFilm}
+use Rattle.widget_model.specs.Rows.{Row, IsIndex, with_link, with_attached, with_film, new_row}
+use Rattle.widget_model.specs.Nodes.{Node, node_of, is_number_of, first_number}
 use Rattle.widget_model.specs.Planted.{IsPlanted}
+use Rattle.widget_model.specs.KeptPlaces.{no_places, most_numbers, place_in, placed, unplaced}
 use Rattle.widget_model.specs.Fitting.{is_fit, IsFitFilm, HaveFitFilms}
 use Rattle.widget_model.specs.Links.{ties, leads, all_lead}
-use Rattle.widget_model.specs.Widgets.{Widgets, row_at, nodes, with_row, row_kind, IsLive}
-use Rattle.widget_model.specs.Clients.{is_joined}
-use Rattle.widget_model.specs.Forest.{IsForest, IsWidgets, ArePlaces}
-use Rattle.widget_model.specs.Rows.{IsIndex}
-use Rattle.row_store.specs.Places.{cell_place}
-use Rattle.tree_core.specs.Children.{rows_in, HasChildren}
-use Rattle.row_store.specs.Index.{IsIndexed}
-use Rattle.tree_core.specs.Kept.{IsGrove, IsTree}
-use Rattle.tree_core.specs.Refusals.{add_refusal}
-use Rattle.row_store.proofs.Options.{none_or_some}
-use Rattle.widget_model.proofs.Hanging.{all_at}
-use Rattle.tree_core.proofs.Listed.{numbered_place}
-use Rattle.row_store.proofs.Nodes.{nodes-with_row, nodes-push, node_at-nodes}
-use Rattle.tree_core.proofs.ForestLemmas.{live-with_row, ties-with_row, linked-with_link, linked-push, IsForest-join, IsForest-push, no_refusal, joined_in_range}
-use Rattle.tree_core.proofs.Groves.{IsGrove-leaves}
-use Rattle.tree_core.proofs.Moves.{HasChildren-still}
+use Rattle.widget_model.specs.Trees.{is_used}
+use Rattle.widget_model.specs.Widgets.{Widgets, row_at, nodes, with_row, without_row, row_kind, IsLive}
+use Rattle.widget_model.specs.Clients.{is_joined, is_client}
+use Rattle.widget_model.specs.Forest.{HaveOwnNumbers, IsForest, ArePlaces}
 use Rattle.widget_model.proofs.Fit.{is_fit-new}
-use Rattle.tree_core.proofs.Fits.{fitting-with_row, fitting-push}
-use Rattle.widget_model.proofs.FitFilms.{HaveFitFilms-with_row, HaveFitFilms-push}
-use Rattle.tree_core.proofs.Newcomer.{planted-push, HasChildren-push}
+use Rattle.widget_model.proofs.FitFilms.{HaveFitFilms-with_row, HaveFitFilms-push, HaveFitFilms-filter}
+use Rattle.widget_model.proofs.Hanging.{all_at, all-filter}
+use Rattle.widget_model.proofs.Naming.{with_row-absent, rows-push, row_named-none}
+use Rattle.widget_model.proofs.Planting.{IsPlanted-push}
+use Rattle.widget_model.proofs.Slots.{most_numbers-is, emptied_slot, still_empty, length-unplaced, unplaced-none, unplaced-own}
+use Rattle.row_store.specs.CellTable.{cell_offset}
+use Rattle.row_store.specs.declared.count.Count.{Count}
+use Rattle.row_store.specs.Counts.{AreCounts, no_counts, lost, forgotten}
+use Rattle.row_store.specs.Index.{IsIndexed}
+use Rattle.row_store.specs.KeptSlots.{Kept}
+use Rattle.row_store.proofs.Options.{none_or_some}
+use Rattle.row_store.proofs.CountsLemmas.{AreCounts-none, AreCounts-lose, AreCounts-forget}
+use Rattle.row_store.proofs.FilledUp.{none_anywhere}
+use Rattle.row_store.proofs.UnderNumbers.{node_at-nodes, nodes-push, nodes-with_row, row_at-with_row, row_at-without_row, row_at-filter, without_row-filter}
+use Rattle.row_store.proofs.UnderNames.{IsIndexed-others}
+use Rattle.tree_core.specs.Children.{rows_in, HasChildren}
+use Rattle.tree_core.specs.Kept.{IsGrove, Parts, IsTree}
+use Rattle.tree_core.specs.Refusals.{add_refusal}
+use Rattle.tree_core.proofs.Listed.{numbered_place, All-at}
+use Rattle.tree_core.proofs.ForestLemmas.{live-with_row, list_all-push, IsForest-join, IsForest-push, IsForest-filter, owners-filter, no_refusal, joined_in_range, was_joined, clients_but, rows_but, joined-before, owners-left, rows-departed}
+use Rattle.tree_core.proofs.LinkRows.{ties-with_row, linked-with_link, linked-push}
+use Rattle.tree_core.proofs.Groves.{IsGrove-leaves}
+use Rattle.tree_core.proofs.Moves.{HasChildren-still, HasChildren-push}
+use Rattle.tree_core.proofs.Taken.{IsFree, IsFree-unused, planted-without, linked-without, children-without, IsEmptied, planted-others, linked-others, children-others}
 
-pub IsGrove-tree : (clients : List ℕ) (names : List ((ℕ × List ℕ) × ℕ)) (es : List (ℕ × Row)) (cells : List (Option ℕ)) → IsTree clients names es cells → IsGrove es
-IsGrove-tree clients names es cells tree = record { own_numbers = tree.forest.own_numbers; own_names = tree.forest.own_names; planted = tree.planted }
-
-pub IsWidgets-tree : (clients : List ℕ) (names : List ((ℕ × List ℕ) × ℕ)) (es : List (ℕ × Row)) (cells : List (Option ℕ)) (places : List (Option Rect)) → IsTree clients names es cells → ArePlaces es places → IsWidgets (record { clients = clients; entries = es; places = places })
-IsWidgets-tree clients names es cells places tree placed = record { forest = tree.forest; linked = tree.linked; planted = tree.planted; fitting = tree.fitting; films = tree.films; placed = placed }
-
--- a change of one row that leaves the nodes
-pub IsTree-with_row : (clients : List ℕ) (names : List ((ℕ × List ℕ) × ℕ)) (es : List (ℕ × Row)) (cells new_cells : List (Option ℕ)) (id : ℕ) (change : Row → Row) → ((row : Row) → node_of (change row) ≡ node_of row) → all_lead (nodes es) (ties (with_row id change es)) ≡ true → IsPlanted (rows_in (with_row id change es)) → list_all is_fit (rows_in (with_row id change es)) ≡ true → HaveFitFilms (rows_in (with_row id change es)) → HasChildren (with_row id change es) new_cells → length new_cells ≡ length cells → IsTree clients names es cells → IsTree clients names (with_row id change es) new_cells
-IsTree-with_row clients names es cells new_cells id change same linked planted fitting films children len tree =
-    let nodes_same = nodes-with_row es id change same in
-    let P : List (ℕ × Node) → Type 0 = λ ns. IsIndexed names ns in
-    let Q : List (ℕ × Node) → Type 0 = λ ns. IsForest clients ns in
-    record {
-      indexed = subst P (sym nodes_same) tree.indexed;
-      forest = subst Q (sym nodes_same) tree.forest;
-      linked = ap (λ (ns : List (ℕ × Node)). all_lead ns (ties (with_row id change es))) nodes_same ∙ linked;
-      planted = planted;
-      fitting = fitting;
-      films = films;
-      children = children;
-      reach = λ client there. omega (arith, tree.reach client there, len);
-    }
-
--- a live number has a row, whose values fit
+-- a live number has a row, whose values fit, and stays live when a row changes
 pub live_row : {clients : List ℕ} {es : List (ℕ × Row)} {places : List (Option Rect)} {widgets : Widgets} → record { clients = clients; entries = es; places = places } ≡ widgets → (id : ℕ) → IsLive widgets id → (row : Row) × (row_at es id ≡ Some row)
 live_row {clients} {es} view id live = none_or_some (row_at es id) (ap (λ (w : Widgets). is_some (row_at w.entries id)) view ∙ live)
 
--- and stays live when a row changes
 pub live_edited : {clients : List ℕ} {es : List (ℕ × Row)} {places : List (Option Rect)} {widgets : Widgets} → record { clients = clients; entries = es; places = places } ≡ widgets → (id : ℕ) (change : Row → Row) (other : ℕ) → IsLive widgets other → is_some (row_at (with_row id change es) other) ≡ true
 live_edited {clients} {es} view id change other live = live-with_row es id change other (ap (λ (w : Widgets). is_some (row_at w.entries other)) view ∙ live)
 
@@ -75,165 +66,351 @@ fits_at es id row fitting there =
     let place = numbered_place es id row there in
     all_at is_fit (rows_in es) place.0 row fitting place.1
 
--- what a change leaves that only gives a row other values, rules or tags
-pub record LeavesTies (change : Row → Row) : Type 0 where
-  pub node : (row : Row) → node_of (change row) ≡ node_of row
-  pub link : (row : Row) → (change row).link ≡ row.link
-  pub attached : (row : Row) → (change row).attached ≡ row.attached
-
-module _ (clients : List ℕ) (names : List ((ℕ × List ℕ) × ℕ)) (es : List (ℕ × Row)) (cells : List (Option ℕ)) (id : ℕ) (change : Row → Row) (row : Row) (tree : IsTree clients names es cells) (there : row_at es id ≡ Some row) where
-  -- a change that leaves where the row hangs
-  IsTree-still : ((row : Row) → node_of (change row) ≡ node_of row) → ((row : Row) → (change row).attached ≡ row.attached) → all_lead (nodes es) (ties (with_row id change es)) ≡ true → is_fit (change row) ≡ true → ((r : Row) → row_at es id ≡ Some r → IsFitFilm r → IsFitFilm (change r)) → IsTree clients names (with_row id change es) cells
-  IsTree-still same still linked fits films =
-      let grove = IsGrove-tree clients names es cells tree in
-      let new = IsGrove-leaves es id change row same still grove there in
-      IsTree-with_row clients names es cells cells id change same linked new.planted
-      (fitting-with_row es id change row tree.forest.own_numbers there fits tree.fitting)
-      (HaveFitFilms-with_row es id change tree.forest.own_numbers films tree.films)
-      (HasChildren-still es id change same cells grove new (λ below r at. by r (nat_eq id below)) tree.children)
-      refl tree
-    where
-      by : (r : Row) (b : Bool) → (cond b (change r) r).attached ≡ r.attached
-      by r true = still r
-      by r false = refl
-
-  pub IsTree-leaves : LeavesTies change → is_fit (change row) ≡ true → ((r : Row) → row_at es id ≡ Some r → IsFitFilm r → IsFitFilm (change r)) → IsTree clients names (with_row id change es) cells
-  IsTree-leaves leaves fits films =
-      IsTree-still leaves.node leaves.attached (ap (all_lead (nodes es)) (ties-with_row es id change (λ r. (leaves.node r, leaves.link r))) ∙ tree.linked) fits films
-
--- a link to a Variable
-pub IsTree-with_link : (clients : List ℕ) (names : List ((ℕ × List ℕ) × ℕ)) (es : List (ℕ × Row)) (cells : List (Option ℕ)) (id : ℕ) (row : Row) (link : Option (List ℕ)) → row_at es id ≡ Some row → leads (nodes es) row.client link ≡ true → IsTree clients names es cells → IsTree clients names (with_row id (with_link link) es) cells
-IsTree-with_link clients names es cells id row link there new tree =
-    IsTree-still clients names es cells id (with_link link) row tree there (λ r. refl) (λ r. refl)
-    (linked-with_link (nodes es) es id row link tree.forest.own_numbers there new tree.linked)
-    (fits_at es id row tree.fitting there)
-    (λ r at fit. fit)
-
-pub was_joined : (clients : List ℕ) (client other : ℕ) → is_joined (clients ++ client ∷ []) other ≡ true → nat_eq other client ≡ false → is_joined clients other ≡ true
-was_joined [] client other h apart = absurd (true≢false (sym h ∙ ap (λ (b : Bool). b || false) apart))
-was_joined (c ∷ cs) client other h apart = by (nat_eq other c) (λ k. was_joined cs client other k apart) h
+-- all rows pass a test after the numbered one has changed so that it passes, and after rows are taken out
+rows_all-with_row : (p : Row → Bool) (es : List (ℕ × Row)) (id : ℕ) (change : Row → Row) (row : Row) → HaveOwnNumbers (nodes es) → row_at es id ≡ Some row → p (change row) ≡ true → list_all p (rows_in es) ≡ true → list_all p (rows_in (with_row id change es)) ≡ true
+rows_all-with_row p [] id change row own there new old = refl
+rows_all-with_row p (e ∷ es) id change row own there new old = by (rows_all-with_row p es id change row own.1) (nat_eq id e.0) refl there (and_parts (p e.1) (list_all p (rows_in es)) old)
   where
-    by : (b : Bool) → (is_joined (cs ++ client ∷ []) other ≡ true → is_joined cs other ≡ true) → (b || is_joined (cs ++ client ∷ []) other) ≡ true → (b || is_joined cs other) ≡ true
-    by true rest k = refl
-    by false rest k = rest k
+    by : (row_at es id ≡ Some row → p (change row) ≡ true → list_all p (rows_in es) ≡ true → list_all p (rows_in (with_row id change es)) ≡ true) → (b : Bool) → nat_eq id e.0 ≡ b → cond b (Some e.1) (row_at es id) ≡ Some row → (p e.1 ≡ true) × (list_all p (rows_in es) ≡ true) → list_all p (rows_in (cond b (e.0, change e.1) e ∷ with_row id change es)) ≡ true
+    by rest true q h parts =
+        let same : e.1 ≡ row = cc in
+        rw (with_row-absent es id change (rw (eqb-true id e.0 q) own.0)) (and_from (p (change e.1)) (list_all p (rows_in es)) (ap (λ (r : Row). p (change r)) same ∙ new) parts.1)
+    by rest false q h parts = and_from (p e.1) (list_all p (rows_in (with_row id change es))) parts.0 (rest h new parts.1)
 
--- one more client, for whose numbers the table of children has places
-pub IsTree-join : (clients : List ℕ) (names : List ((ℕ × List ℕ) × ℕ)) (es : List (ℕ × Row)) (cells new_cells : List (Option ℕ)) (client : ℕ) → 1 ≤ client → client ≤ 16 → ((place : ℕ) → get_or new_cells place None ≡ get_or cells place None) → length cells ≤ length new_cells → 32768 * client ≤ length new_cells → IsTree clients names es cells → IsTree (clients ++ client ∷ []) names es new_cells
-IsTree-join clients names es cells new_cells client low high same longer reach tree =
-    record {
-      indexed = tree.indexed;
-      forest = IsForest-join clients client es_nodes tree.forest low high;
-      linked = tree.linked;
-      planted = tree.planted;
-      fitting = tree.fitting;
-      films = tree.films;
-      children = record { each = λ id column line c l. same (cell_place id column line) ∙ tree.children.each id column line c l };
-      reach = λ other there. by other there (nat_eq other client) refl;
-    }
-  where
-    es_nodes : List (ℕ × Node)
-    es_nodes = nodes es
-
-    by : (other : ℕ) → is_joined (clients ++ client ∷ []) other ≡ true → (b : Bool) → nat_eq other client ≡ b → 32768 * other ≤ length new_cells
-    by other there true q = omega (arith, eqb-true other client q, reach)
-    by other there false q =
-        let was : is_joined clients other ≡ true = was_joined clients client other there q in
-        omega (arith, tree.reach other was, longer)
-
--- the table of children alone may grow
-pub IsTree-grown : (clients : List ℕ) (names : List ((ℕ × List ℕ) × ℕ)) (es : List (ℕ × Row)) (cells new_cells : List (Option ℕ)) → ((place : ℕ) → get_or new_cells place None ≡ get_or cells place None) → length cells ≤ length new_cells → IsTree clients names es cells → IsTree clients names es new_cells
-IsTree-grown clients names es cells new_cells same longer tree =
-    record {
-      indexed = tree.indexed;
-      forest = tree.forest;
-      linked = tree.linked;
-      planted = tree.planted;
-      fitting = tree.fitting;
-      films = tree.films;
-      children = record { each = λ id column line c l. same (cell_place id column line) ∙ tree.children.each id column line c l };
-      reach = λ client there. omega (arith, tree.reach client there, longer);
-    }
-
--- another index that finds the same
-pub IsTree-renamed : (clients : List ℕ) (names new_names : List ((ℕ × List ℕ) × ℕ)) (es : List (ℕ × Row)) (cells : List (Option ℕ)) → IsIndexed new_names (nodes es) → IsTree clients names es cells → IsTree clients new_names es cells
-IsTree-renamed clients names new_names es cells indexed tree =
-    record { indexed = indexed; forest = tree.forest; linked = tree.linked; planted = tree.planted; fitting = tree.fitting; films = tree.films; children = tree.children; reach = tree.reach }
-
--- a new row of a joined client
-pub IsTree-push : (clients : List ℕ) (names new_names : List ((ℕ × List ℕ) × ℕ)) (es : List (ℕ × Row)) (cells : List (Option ℕ)) (id client : ℕ) (name : List ℕ) (kind : Kind) → row_at es id ≡ None → add_refusal (nodes es) client name kind ≡ None → is_number_of client id ≡ true → is_joined clients client ≡ true → IsIndexed new_names (nodes (es ++ (id, new_row client name kind) ∷ [])) → IsTree clients names es cells → IsTree clients new_names (es ++ (id, new_row client name kind) ∷ []) cells
-unfolding new_row
-IsTree-push clients names new_names es cells id client name kind absent allowed own member indexed tree =
-    let row = new_row client name kind in
-    let checks = no_refusal (nodes es) client name kind allowed in
-    let free : node_at (nodes es) id ≡ None = node_at-nodes es id ∙ ap (option_map node_of) absent in
-    let Q : List (ℕ × Node) → Type 0 = λ ns. IsForest clients ns in
-    let forest : IsForest clients (nodes (es ++ (id, row) ∷ [])) = subst Q (sym (nodes-push es id row)) (IsForest-push clients (nodes es) id (node_of row) tree.forest free checks.0 own member checks.1 checks.2) in
-    let planted = planted-push es id row refl checks.0 tree.planted in
-    let grove : IsGrove (es ++ (id, row) ∷ []) = record { own_numbers = forest.own_numbers; own_names = forest.own_names; planted = planted } in
-    record {
-      indexed = indexed;
-      forest = forest;
-      linked = linked-push es id row refl tree.linked;
-      planted = planted;
-      fitting = fitting-push es id row (is_fit-new client name kind) tree.fitting;
-      films = HaveFitFilms-push es id row refl tree.films;
-      children = HasChildren-push es id row absent cells (IsGrove-tree clients names es cells tree) grove refl checks.0 tree.children;
-      reach = tree.reach;
-    }
-
--- a widget that is hung in another, or taken out of one
-pub IsTree-attached : (clients : List ℕ) (names : List ((ℕ × List ℕ) × ℕ)) (es : List (ℕ × Row)) (cells new_cells : List (Option ℕ)) (id : ℕ) (attached : Option (List ℕ × Cell)) (row : Row) → row_at es id ≡ Some row → IsGrove (with_row id (with_attached attached) es) → HasChildren (with_row id (with_attached attached) es) new_cells → length new_cells ≡ length cells → IsTree clients names es cells → IsTree clients names (with_row id (with_attached attached) es) new_cells
-IsTree-attached clients names es cells new_cells id attached row there grove children len tree =
-    IsTree-with_row clients names es cells new_cells id (with_attached attached) (λ r. refl)
-    (ap (all_lead (nodes es)) (ties-with_row es id (with_attached attached) (λ r. (refl, refl))) ∙ tree.linked)
-    grove.planted
-    (fitting-with_row es id (with_attached attached) row tree.forest.own_numbers there (fits_at es id row tree.fitting there) tree.fitting)
-    (HaveFitFilms-with_row es id (with_attached attached) tree.forest.own_numbers (λ r at fit. fit) tree.films)
-    children len tree
+rows_all-filter : (t : Row → Bool) (p : ℕ × Row → Bool) (es : List (ℕ × Row)) → list_all t (rows_in es) ≡ true → list_all t (rows_in (filter p es)) ≡ true
+rows_all-filter t p [] h = refl
+rows_all-filter t p (e ∷ es) h = grind (arith, rows_all-filter t p es)
 
 -- what holds of all nodes holds of a numbered row's
-pub nodes-all : (p : ℕ × Node → Bool) (es : List (ℕ × Row)) (id : ℕ) (row : Row) → list_all p (nodes es) ≡ true → row_at es id ≡ Some row → p (id, node_of row) ≡ true
+nodes-all : (p : ℕ × Node → Bool) (es : List (ℕ × Row)) (id : ℕ) (row : Row) → list_all p (nodes es) ≡ true → row_at es id ≡ Some row → p (id, node_of row) ≡ true
 nodes-all p [] id row h there = absurd (cc)
-nodes-all p (e ∷ es) id row h there = by (nodes-all p es id row) (nat_eq id e.0) refl there
+nodes-all p (e ∷ es) id row h there = by (nodes-all p es id row) (nat_eq id e.0) refl there (and_parts (p (e.0, node_of e.1)) (list_all p (nodes es)) h)
   where
-    parts : (p (e.0, node_of e.1) ≡ true) × (list_all p (nodes es) ≡ true)
-    parts = and_parts (p (e.0, node_of e.1)) (list_all p (nodes es)) h
-
-    by : (list_all p (nodes es) ≡ true → row_at es id ≡ Some row → p (id, node_of row) ≡ true) → (b : Bool) → nat_eq id e.0 ≡ b → cond b (Some e.1) (row_at es id) ≡ Some row → p (id, node_of row) ≡ true
-    by rest true q k =
+    by : (list_all p (nodes es) ≡ true → row_at es id ≡ Some row → p (id, node_of row) ≡ true) → (b : Bool) → nat_eq id e.0 ≡ b → cond b (Some e.1) (row_at es id) ≡ Some row → (p (e.0, node_of e.1) ≡ true) × (list_all p (nodes es) ≡ true) → p (id, node_of row) ≡ true
+    by rest true q k parts =
         let same : e.1 ≡ row = cc in
         ap (λ (n : ℕ). p (n, node_of row)) (eqb-true id e.0 q) ∙ ap (λ (r : Row). p (e.0, node_of r)) (sym same) ∙ parts.0
-    by rest false q k = rest parts.1 k
+    by rest false q k parts = rest parts.1 k
 
 -- whose number a live one is
 pub record IsOwned (clients : List ℕ) (id : ℕ) (row : Row) : Type 0 where
   pub low : 1 ≤ row.client
+  pub high : row.client ≤ 16
+  pub own : is_number_of row.client id ≡ true
   pub from : 128 * (row.client - 1) ≤ id
   pub to : id < 128 * row.client
   pub joined : is_joined clients row.client ≡ true
 
 pub row-owned : (clients : List ℕ) (es : List (ℕ × Row)) (id : ℕ) (row : Row) → IsForest clients (nodes es) → row_at es id ≡ Some row → IsOwned clients id row
 row-owned clients es id row forest there =
+    let joined : is_joined clients row.client ≡ true = nodes-all (λ (e : ℕ × Node). is_joined clients e.1.client) es id row forest.owners there in
+    let range = joined_in_range clients row.client joined forest.clients_in_range in
     let own : is_number_of row.client id ≡ true = nodes-all (λ (e : ℕ × Node). is_number_of e.1.client e.0) es id row forest.numbers there in
-    let parts = and_parts (nat_le 1 row.client) (nat_le (first_number row.client) id && nat_lt id (first_number row.client + 128)) own in
-    let ends = and_parts (nat_le (first_number row.client) id) (nat_lt id (first_number row.client + 128)) parts.1 in
-    let low : 1 ≤ row.client = leb-true 1 row.client parts.0 in
-    record {
-      low = low;
-      from = leb-true (first_number row.client) id ends.0;
-      to = omega (arith, ltb-true id (first_number row.client + 128) ends.1);
-      joined = nodes-all (λ (e : ℕ × Node). is_joined clients e.1.client) es id row forest.owners there;
-    }
+    record { low = range.0; high = range.1; own = own; from = from row.client id own; to = to row.client id own; joined = joined }
+  where
+    from : (client id : ℕ) → is_number_of client id ≡ true → 128 * (client - 1) ≤ id
+    from client id own = grind (arith, nat_tests)
 
-pub client-below : (clients : List ℕ) (es : List (ℕ × Row)) (id : ℕ) (row : Row) → IsForest clients (nodes es) → row_at es id ≡ Some row → row.client < 17
-client-below clients es id row forest there =
-    let owned = row-owned clients es id row forest there in
-    let range = joined_in_range clients row.client owned.joined forest.clients_in_range in
-    omega (arith, range.1)
+    to : (client id : ℕ) → is_number_of client id ≡ true → id < 128 * client
+    to client id own = grind (arith, nat_tests)
 
--- so the table has its places
-pub place_within : (clients : List ℕ) (names : List ((ℕ × List ℕ) × ℕ)) (es : List (ℕ × Row)) (cells : List (Option ℕ)) (id : ℕ) (row : Row) (column line : ℕ) → IsTree clients names es cells → row_at es id ≡ Some row → IsIndex column → IsIndex line → cell_place id column line < length cells
-place_within clients names es cells id row column line tree there c l =
-    let own = row-owned clients es id row tree.forest there in
-    let reach = tree.reach row.client own.joined in
-    omega (arith, c, l, own.to, reach)
+-- a joined client is 1 to 16
+pub record IsMember (clients : List ℕ) (client : ℕ) : Type 0 where
+  pub joined : is_joined clients client ≡ true
+  pub low : 1 ≤ client
+  pub high : client ≤ 16
+  pub below : client < 17
+
+-- what a change leaves that only gives a row other values, rules or tags
+pub record LeavesTies (change : Row → Row) : Type 0 where
+  pub node : (row : Row) → node_of (change row) ≡ node_of row
+  pub link : (row : Row) → (change row).link ≡ row.link
+  pub attached : (row : Row) → (change row).attached ≡ row.attached
+
+-- at first there is nothing
+pub IsTree-none : (kept : Kept) → kept.slots ≡ no_places → IsTree (record { clients = []; names = []; entries = []; cells = []; counts = no_counts; kept = kept })
+IsTree-none kept same =
+    let placed : ArePlaces [] kept.slots = record { slots = ap length same ∙ length-replicate most_numbers None; live = λ id none. ap (λ (slots : List (Option Rect)). place_in slots id) same ∙ none_anywhere most_numbers id } in
+    record { widgets = record { forest = search rules; linked = refl; planted = search rules; fitting = refl; films = search rules; placed = placed }; indexed = search rules; counted = AreCounts-none; children = search rules; reach = λ client joined. absurd (true≢false (sym joined)); made = λ client joined. absurd (true≢false (sym joined)) }
+
+pub IsGrove-tree : {parts : Parts} → IsTree parts → IsGrove parts.entries
+IsGrove-tree tree = record { own_numbers = tree.widgets.forest.own_numbers; own_names = tree.widgets.forest.own_names; planted = tree.widgets.planted }
+
+module _ {parts : Parts} (tree : IsTree parts) where
+  pub owned : (id : ℕ) (row : Row) → row_at parts.entries id ≡ Some row → IsOwned parts.clients id row
+  owned id row there = row-owned parts.clients parts.entries id row tree.widgets.forest there
+
+  pub client-below : (id : ℕ) (row : Row) → row_at parts.entries id ≡ Some row → row.client < 17
+  client-below id row there = let own = owned id row there in omega (arith, own.high)
+
+  pub member : {widgets : Widgets} → record { clients = parts.clients; entries = parts.entries; places = parts.kept.slots } ≡ widgets → (client : ℕ) → is_joined widgets.clients client ≡ true → IsMember parts.clients client
+  member view client there =
+      let joined = ap (λ (w : Widgets). is_joined w.clients client) view ∙ there in
+      let range = joined_in_range parts.clients client joined tree.widgets.forest.clients_in_range in
+      record { joined = joined; low = range.0; high = range.1; below = omega (arith, range.1) }
+
+  -- the cells and the slot of a live number are there
+  pub place_within : (id : ℕ) (row : Row) (column line : ℕ) → row_at parts.entries id ≡ Some row → IsIndex column → IsIndex line → cell_offset id column line < length parts.cells
+  place_within id row column line there c l =
+      let own = owned id row there in
+      omega (arith, c, l, own.to, tree.reach row.client own.joined)
+
+  pub slot_made : (id : ℕ) (row : Row) → row_at parts.entries id ≡ Some row → id < parts.kept.made
+  slot_made id row there = let own = owned id row there in omega (arith, own.to, tree.made row.client own.joined)
+
+  pub placed_there : (id : ℕ) (row : Row) → row_at parts.entries id ≡ Some row → (place : Option Rect) → place_in (placed id place parts.kept.slots) id ≡ place
+  placed_there id row there place = let own = owned id row there in get_or-set_same parts.kept.slots id place None (omega (arith, own.to, own.high, tree.widgets.placed.slots, most_numbers-is))
+
+  -- the film that a row has is a whole one
+  pub film_whole : (id : ℕ) (film : Option FilmState) → option_map (λ (row : Row). row.film) (row_at parts.entries id) ≡ Some film → IfSome film (λ film. IsFilm film)
+  film_whole id film there = by (row_at parts.entries id) refl there
+    where
+      whole : (o : Option FilmState) (kind : Kind) → IfSome o (λ film. (kind ≡ VScreen) × IsFilm film) → IfSome o (λ film. IsFilm film)
+      whole None kind fit = tt
+      whole (Some film) kind fit = fit.1
+
+      by : (o : Option Row) → row_at parts.entries id ≡ o → option_map (λ (row : Row). row.film) o ≡ Some film → IfSome film (λ film. IsFilm film)
+      by None p h = absurd (cc)
+      by (Some row) p h =
+          let place = numbered_place parts.entries id row p in
+          let same : row.film ≡ film = cc in
+          let W : Option FilmState → Type 0 = λ o. IfSome o (λ film. IsFilm film) in
+          subst W same (whole row.film row.kind (All-at IsFitFilm (rows_in parts.entries) place.0 row tree.widgets.films place.1))
+
+  -- a row changes
+  IsTree-with_row : (id : ℕ) (change : Row → Row) (row : Row) → row_at parts.entries id ≡ Some row → ((row : Row) → node_of (change row) ≡ node_of row) → all_lead (nodes parts.entries) (ties (with_row id change parts.entries)) ≡ true → IsPlanted (rows_in (with_row id change parts.entries)) → is_fit (change row) ≡ true → ((r : Row) → row_at parts.entries id ≡ Some r → IsFitFilm r → IsFitFilm (change r)) → (cells : List (Option ℕ)) → HasChildren (with_row id change parts.entries) cells → length cells ≡ length parts.cells → IsTree (record parts { entries = with_row id change parts.entries; cells = cells })
+  IsTree-with_row id change row there node linked planted fits films cells children len =
+      let same = nodes-with_row parts.entries id change node in
+      let forest = tree.widgets.forest in
+      let I : List (ℕ × Node) → Type 0 = λ ns. IsIndexed parts.names ns in
+      let F : List (ℕ × Node) → Type 0 = λ ns. IsForest parts.clients ns in
+      let C : List (ℕ × Node) → Type 0 = λ ns. AreCounts parts.counts ns in
+      record {
+        widgets = record {
+          forest = subst F (sym same) forest;
+          linked = ap (λ (ns : List (ℕ × Node)). all_lead ns (ties (with_row id change parts.entries))) same ∙ linked;
+          planted = planted;
+          fitting = rows_all-with_row is_fit parts.entries id change row forest.own_numbers there fits tree.widgets.fitting;
+          films = HaveFitFilms-with_row parts.entries id change forest.own_numbers films tree.widgets.films;
+          placed = record {
+            slots = tree.widgets.placed.slots;
+            live = λ other none. tree.widgets.placed.live other (unmapped other (row_at parts.entries other) (sym (row_at-with_row parts.entries id change other) ∙ none));
+          };
+        };
+        indexed = subst I (sym same) tree.indexed;
+        counted = subst C (sym same) tree.counted;
+        children = children;
+        reach = λ client joined. omega (arith, tree.reach client joined, len);
+        made = tree.made;
+      }
+    where
+      unmapped : (other : ℕ) (o : Option Row) → option_map (λ (r : Row). cond (nat_eq id other) (change r) r) o ≡ None → o ≡ None
+      unmapped other None h = refl
+      unmapped other (Some r) h = absurd (cc)
+
+  module _ (id : ℕ) (row : Row) (there : row_at parts.entries id ≡ Some row) where
+    pub IsTree-leaves : (change : Row → Row) → LeavesTies change → (is_fit row ≡ true → is_fit (change row) ≡ true) → ((r : Row) → row_at parts.entries id ≡ Some r → IsFitFilm r → IsFitFilm (change r)) → IsTree (record parts { entries = with_row id change parts.entries })
+    IsTree-leaves change leaves fits films =
+        IsTree-with_row id change row there leaves.node
+        (ap (all_lead (nodes parts.entries)) (ties-with_row parts.entries id change leaves.node leaves.link) ∙ tree.widgets.linked)
+        (IsGrove-leaves parts.entries id change row leaves.node leaves.attached (IsGrove-tree tree) there).planted
+        (fits (fits_at parts.entries id row tree.widgets.fitting there)) films parts.cells
+        (HasChildren-still id change leaves.node leaves.attached parts.entries parts.cells tree.children) refl
+
+    -- another film of a VScreen, or none
+    pub IsTree-film : (film : Option FilmState) → IfSome film (λ film. (row.kind ≡ VScreen) × IsFilm film) → IsTree (record parts { entries = with_row id (with_film film) parts.entries })
+    IsTree-film film whole =
+        IsTree-leaves (with_film film) (record { node = λ r. refl; link = λ r. refl; attached = λ r. refl }) (λ fits. fits)
+        (λ r at fit. let same : row ≡ r = (let one : Some row ≡ Some r = sym there ∙ at in cc) in let F : Row → Type 0 = λ x. IsFitFilm (with_film film x) in subst F same whole)
+
+    -- a link to a Variable
+    pub IsTree-link : (link : Option (List ℕ)) → leads (nodes parts.entries) row.client link ≡ true → IsTree (record parts { entries = with_row id (with_link link) parts.entries })
+    IsTree-link link new =
+        IsTree-with_row id (with_link link) row there (λ r. refl)
+        (linked-with_link (nodes parts.entries) parts.entries id row link tree.widgets.forest.own_numbers there new tree.widgets.linked)
+        (IsGrove-leaves parts.entries id (with_link link) row (λ r. refl) (λ r. refl) (IsGrove-tree tree) there).planted
+        (fits_at parts.entries id row tree.widgets.fitting there) (λ r at fit. fit) parts.cells
+        (HasChildren-still id (with_link link) (λ r. refl) (λ r. refl) parts.entries parts.cells tree.children) refl
+
+    -- a widget is hung in another, or taken out of one
+    pub IsTree-attached : (attached : Option (List ℕ × Cell)) (cells : List (Option ℕ)) → IsGrove (with_row id (with_attached attached) parts.entries) → HasChildren (with_row id (with_attached attached) parts.entries) cells → length cells ≡ length parts.cells → IsTree (record parts { entries = with_row id (with_attached attached) parts.entries; cells = cells })
+    IsTree-attached attached cells grove children len =
+        IsTree-with_row id (with_attached attached) row there (λ r. refl)
+        (ap (all_lead (nodes parts.entries)) (ties-with_row parts.entries id (with_attached attached) (λ r. refl) (λ r. refl)) ∙ tree.widgets.linked)
+        grove.planted (fits_at parts.entries id row tree.widgets.fitting there) (λ r at fit. fit) cells children len
+
+    -- the place of a live number is set
+    pub IsTree-placed : (place : Option Rect) (new : Kept) → new.slots ≡ placed id place parts.kept.slots → new.made ≡ parts.kept.made → IsTree (record parts { kept = new })
+    IsTree-placed place new slots made =
+        let old = tree.widgets in
+        record {
+          widgets = record {
+            forest = old.forest;
+            linked = old.linked;
+            planted = old.planted;
+            fitting = old.fitting;
+            films = old.films;
+            placed = record {
+              slots = ap length slots ∙ length-set parts.kept.slots id place ∙ old.placed.slots;
+              live = λ other none. ap (λ (all : List (Option Rect)). place_in all other) slots ∙ get_or-set_other parts.kept.slots id other place None (λ same. let gone : None ≡ Some row = sym none ∙ ap (row_at parts.entries) same ∙ there in absurd (cc)) ∙ old.placed.live other none;
+            };
+          };
+          indexed = tree.indexed;
+          counted = tree.counted;
+          children = tree.children;
+          reach = tree.reach;
+          made = λ client joined. omega (arith, made, tree.made client joined);
+        }
+
+    -- a row that isn't used is taken out
+    pub IsTree-without : (names : List ((ℕ × List ℕ) × ℕ)) (new : Kept) → is_used (rows_in parts.entries) row ≡ false → IsIndexed names (nodes (without_row id parts.entries)) → new.slots ≡ placed id None parts.kept.slots → new.made ≡ parts.kept.made → IsTree (record parts { names = names; entries = without_row id parts.entries; counts = lost row.client row.kind parts.counts; kept = new })
+    IsTree-without names new unused indexed slots made =
+        let es = parts.entries in
+        let old = tree.widgets in
+        let grove = IsGrove-tree tree in
+        let free = IsFree-unused es id row there unused in
+        let left = without_row-filter es id in
+        let F : List (ℕ × Row) → Type 0 = λ rest. IsForest parts.clients (nodes rest) in
+        let other = λ (e : ℕ × Row). not (nat_eq id e.0) in
+        record {
+          widgets = record {
+            forest = subst F (sym left) (IsForest-filter parts.clients parts.clients other es old.forest (owners-filter parts.clients other es old.forest) old.forest.clients_in_range);
+            linked = linked-without es parts.cells id row grove free old.linked;
+            planted = planted-without es parts.cells id row grove free;
+            fitting = ap (λ (rest : List (ℕ × Row)). list_all is_fit (rows_in rest)) left ∙ rows_all-filter is_fit other es old.fitting;
+            films = let H : List (ℕ × Row) → Type 0 = λ rest. HaveFitFilms (rows_in rest) in subst H (sym left) (HaveFitFilms-filter other es old.films);
+            placed = record {
+              slots = ap length slots ∙ length-set parts.kept.slots id None ∙ old.placed.slots;
+              live = λ other none. ap (λ (all : List (Option Rect)). place_in all other) slots ∙ by other (nat_eq id other) refl (sym (row_at-without_row es id other) ∙ none);
+            };
+          };
+          indexed = indexed;
+          counted = AreCounts-lose parts.counts es id row (client-below id row there) old.forest.own_numbers there tree.counted;
+          children = children-without es parts.cells id row grove free tree.children;
+          reach = tree.reach;
+          made = λ client joined. omega (arith, made, tree.made client joined);
+        }
+      where
+        by : (other : ℕ) (b : Bool) → nat_eq id other ≡ b → cond b None (row_at parts.entries other) ≡ None → place_in (placed id None parts.kept.slots) other ≡ None
+        by other true q none = ap (place_in (placed id None parts.kept.slots)) (sym (eqb-true id other q)) ∙ emptied_slot parts.kept.slots id
+        by other false q none = still_empty parts.kept.slots id other (tree.widgets.placed.live other none)
+
+  -- a new row of a joined client, where there was memory for it
+  pub IsTree-added : (added : Bool) (names : List ((ℕ × List ℕ) × ℕ)) (counts : List Count) (id client : ℕ) (name : List ℕ) (kind : Kind) → row_at parts.entries id ≡ None → add_refusal (nodes parts.entries) client name kind ≡ None → is_number_of client id ≡ true → is_joined parts.clients client ≡ true → IsIndexed names (nodes (cond added (parts.entries ++ (id, new_row client name kind) ∷ []) parts.entries)) → AreCounts counts (nodes (cond added (parts.entries ++ (id, new_row client name kind) ∷ []) parts.entries)) → IsTree (record parts { names = names; entries = cond added (parts.entries ++ (id, new_row client name kind) ∷ []) parts.entries; counts = counts })
+  unfolding new_row
+  IsTree-added true names counts id client name kind absent allowed own joined indexed counted =
+      let es = parts.entries in
+      let row = new_row client name kind in
+      let checks = no_refusal (nodes es) client name kind allowed in
+      let old = tree.widgets in
+      let F : List (ℕ × Node) → Type 0 = λ ns. IsForest parts.clients ns in
+      let P : List Row → Type 0 = λ rows. IsPlanted rows in
+      record {
+        widgets = record {
+          forest = subst F (sym (nodes-push es id row)) (IsForest-push parts.clients (nodes es) id (node_of row) old.forest (node_at-nodes es id ∙ ap (option_map node_of) absent) checks.0 own joined checks.1 checks.2);
+          linked = linked-push es id row refl old.linked;
+          planted = subst P (sym (rows-push es id row)) (IsPlanted-push (rows_in es) row refl (row_named-none es client name checks.0) old.planted);
+          fitting = ap (list_all is_fit) (rows-push es id row) ∙ list_all-push is_fit (rows_in es) row old.fitting (is_fit-new client name kind);
+          films = HaveFitFilms-push es id row refl old.films;
+          placed = record { slots = old.placed.slots; live = λ other none. old.placed.live other (before row es other none) };
+        };
+        indexed = indexed;
+        counted = counted;
+        children = HasChildren-push es id row absent refl checks.0 (IsGrove-tree tree) parts.cells tree.children;
+        reach = tree.reach;
+        made = tree.made;
+      }
+    where
+      before : (row : Row) (rows : List (ℕ × Row)) (other : ℕ) → row_at (rows ++ (id, row) ∷ []) other ≡ None → row_at rows other ≡ None
+      before row [] other none = refl
+      before row (e ∷ rest) other none = grind (arith, before row rest other)
+  IsTree-added false names counts id client name kind absent allowed own joined indexed counted =
+      record { widgets = tree.widgets; indexed = indexed; counted = counted; children = tree.children; reach = tree.reach; made = tree.made }
+
+  -- a client leaves with all its rows
+  pub IsTree-departed : (cells : List (Option ℕ)) (new : Kept) (gone : ℕ) → 1 ≤ gone → gone < 17 → IsEmptied gone parts.cells cells → new.slots ≡ unplaced gone parts.kept.slots → new.made ≡ parts.kept.made → IsTree (record { clients = clients_but gone parts.clients; names = filter (λ (e : (ℕ × List ℕ) × ℕ). not (nat_eq gone e.0.0)) parts.names; entries = rows_but gone parts.entries; cells = cells; counts = forgotten gone parts.counts; kept = new })
+  IsTree-departed cells new gone low below emptied slots made =
+      let es = parts.entries in
+      let old = tree.widgets in
+      let grove = IsGrove-tree tree in
+      let others = λ (e : ℕ × Row). not (nat_eq gone e.1.client) in
+      record {
+        widgets = record {
+          forest = IsForest-filter parts.clients (clients_but gone parts.clients) others es old.forest (owners-left parts.clients gone es old.forest.owners) (all-filter is_client (λ (c : ℕ). not (nat_eq gone c)) parts.clients (λ i c there passes. all_at is_client parts.clients i c old.forest.clients_in_range there));
+          linked = linked-others es gone grove old.linked;
+          planted = planted-others es gone grove;
+          fitting = rows_all-filter is_fit others es old.fitting;
+          films = HaveFitFilms-filter others es old.films;
+          placed = record {
+            slots = ap length slots ∙ length-unplaced gone parts.kept.slots ∙ old.placed.slots;
+            live = λ other none. ap (λ (all : List (Option Rect)). place_in all other) slots ∙ by other (is_number_of gone other) refl (ap (λ (rest : List (ℕ × Row)). row_at rest other) (rows-departed es gone low old.forest.numbers) ∙ none);
+          };
+        };
+        indexed = IsIndexed-others parts.names es gone tree.indexed;
+        counted = AreCounts-forget parts.counts es gone below tree.counted;
+        children = children-others es gone grove parts.cells cells low (λ id row there. (owned id row there).own) emptied tree.children;
+        reach = λ other joined. omega (arith, emptied.len, tree.reach other (joined-before parts.clients gone other joined));
+        made = λ other joined. omega (arith, made, tree.made other (joined-before parts.clients gone other joined));
+      }
+    where
+      from : (other : ℕ) → is_number_of gone other ≡ true → first_number gone ≤ other
+      from other q = grind (arith, nat_tests)
+
+      to : (other : ℕ) → is_number_of gone other ≡ true → other < first_number gone + 128
+      to other q = grind (arith, nat_tests)
+
+      left : (es : List (ℕ × Row)) (other : ℕ) → is_number_of gone other ≡ false → row_at (filter (λ (e : ℕ × Row). not (is_number_of gone e.0)) es) other ≡ None → row_at es other ≡ None
+      left [] other q none = refl
+      left (e ∷ es) other q none = grind (arith, nat_tests, left es other)
+
+      by : (other : ℕ) (b : Bool) → is_number_of gone other ≡ b → row_at (filter (λ (e : ℕ × Row). not (is_number_of gone e.0)) parts.entries) other ≡ None → place_in (unplaced gone parts.kept.slots) other ≡ None
+      by other true q none = unplaced-own gone parts.kept.slots other (from other q) (to other q)
+      by other false q none = unplaced-none gone parts.kept.slots other (tree.widgets.placed.live other (left parts.entries other q none))
+
+  -- one more client, where there was memory for it
+  pub IsTree-joined : (joins : Bool) (cells : List (Option ℕ)) (new : Kept) (client : ℕ) → 1 ≤ client → client ≤ 16 → ((place : ℕ) → get_or cells place None ≡ get_or parts.cells place None) → length parts.cells ≤ length cells → 32768 * client ≤ length cells → new.slots ≡ parts.kept.slots → parts.kept.made ≤ new.made → 128 * client ≤ new.made → IsTree (record parts { clients = cond joins (parts.clients ++ client ∷ []) parts.clients; cells = cells; kept = new })
+  IsTree-joined joins cells new client low high same longer reach slots made more =
+      let old = tree.widgets in
+      record {
+        widgets = record {
+          forest = forest joins;
+          linked = old.linked;
+          planted = old.planted;
+          fitting = old.fitting;
+          films = old.films;
+          placed = record { slots = ap length slots ∙ old.placed.slots; live = λ id none. ap (λ (all : List (Option Rect)). place_in all id) slots ∙ old.placed.live id none };
+        };
+        indexed = tree.indexed;
+        counted = tree.counted;
+        children = record { each = λ id column line c l. same (cell_offset id column line) ∙ tree.children.each id column line c l };
+        reach = λ other joined. reached joins other joined (nat_eq other client) refl;
+        made = λ other joined. slotted joins other joined (nat_eq other client) refl;
+      }
+    where
+      forest : (b : Bool) → IsForest (cond b (parts.clients ++ client ∷ []) parts.clients) (nodes parts.entries)
+      forest true = IsForest-join parts.clients client (nodes parts.entries) tree.widgets.forest low high
+      forest false = tree.widgets.forest
+
+      member_was : (b : Bool) (other : ℕ) → is_joined (cond b (parts.clients ++ client ∷ []) parts.clients) other ≡ true → nat_eq other client ≡ false → is_joined parts.clients other ≡ true
+      member_was true other joined q = was_joined parts.clients client other joined q
+      member_was false other joined q = joined
+
+      reached : (b : Bool) (other : ℕ) → is_joined (cond b (parts.clients ++ client ∷ []) parts.clients) other ≡ true → (d : Bool) → nat_eq other client ≡ d → 32768 * other ≤ length cells
+      reached b other joined true q = omega (arith, eqb-true other client q, reach)
+      reached b other joined false q = omega (arith, tree.reach other (member_was b other joined q), longer)
+
+      slotted : (b : Bool) (other : ℕ) → is_joined (cond b (parts.clients ++ client ∷ []) parts.clients) other ≡ true → (d : Bool) → nat_eq other client ≡ d → 128 * other ≤ new.made
+      slotted b other joined true q = omega (arith, eqb-true other client q, more)
+      slotted b other joined false q = omega (arith, tree.made other (member_was b other joined q), made)
+
+-- the numbers of other clients stay live
+pub live-departed : (es : List (ℕ × Row)) (gone other : ℕ) → HaveOwnNumbers (nodes es) → is_some (row_at es other) ≡ true → (option_map (λ (row : Row). row.client) (row_at es other) ≡ Some gone → ⊥) → is_some (row_at (rows_but gone es) other) ≡ true
+live-departed es gone other own live apart = ap is_some (row_at-filter (λ (e : ℕ × Row). not (nat_eq gone e.1.client)) es other own) ∙ by (row_at es other) live apart
+  where
+    kept : (row : Row) (b : Bool) → nat_eq gone row.client ≡ b → (Some row.client ≡ Some gone → ⊥) → is_some (cond (not b) (Some row) None) ≡ true
+    kept row true q k = absurd (k (ap Some (sym (eqb-true gone row.client q))))
+    kept row false q k = refl
+
+    by : (o : Option Row) → is_some o ≡ true → (option_map (λ (row : Row). row.client) o ≡ Some gone → ⊥) → is_some (option_and_then (λ (row : Row). cond (not (nat_eq gone row.client)) (Some row) None) o) ≡ true
+    by None h k = h
+    by (Some row) h k = kept row (nat_eq gone row.client) refl k

@@ -5,7 +5,7 @@ use Rattle.kind_core.specs.declared.kinds.Kind.TheVariants.{Window, Grid, Frame}
 use Rattle.widget_model.specs.Rows.{Row, IsIndex}
 use Rattle.widget_model.specs.Widgets.{Widgets}
 use Rattle.widget_model.specs.Relatives.{child_id}
-use Rattle.row_store.specs.Places.{cell_place}
+use Rattle.row_store.specs.CellTable.{cell_offset}
 
 -- how many cells a widget of the kind has
 abbrev pub cells_of : Kind → ℕ
@@ -24,4 +24,4 @@ widgets_in entries = record { clients = []; entries = entries; places = [] }
 
 -- The table has the number of the child in each cell of each widget.
 pub record HasChildren (entries : List (ℕ × Row)) (cells : List (Option ℕ)) : Type 0 where
-  pub each : (id column line : ℕ) → IsIndex column → IsIndex line → slice_index_or cells (cell_place id column line) None ≡ child_id (widgets_in entries) id column line
+  pub each : (id column line : ℕ) → IsIndex column → IsIndex line → slice_index_or cells (cell_offset id column line) None ≡ child_id (widgets_in entries) id column line

@@ -3,23 +3,11 @@ ghost use Rattle.std.specs.Option.{option_map};
 ghost use Rattle.std.specs.List.{list_any};
 ghost use Rattle.widget_model.specs.Trees.{height_in, is_child};
 ghost use Rattle.widget_model.specs.Widgets.{row_at};
-ghost use Rattle.tree_core.specs.Children.{cells_of, rows_in, HasChildren};
+ghost use Rattle.tree_core.specs.Children.{rows_in, HasChildren};
 ghost use Rattle.tree_core.specs.Kept.{IsGrove};
 
-use kind_core::Kind;
+use crate::kinds::cells_of;
 use row_store::{Cells, Store};
-
-/// How many cells a widget of the kind has.
-fn cells_of(kind: Kind) -> u32
-    ensures count { result ≡ cells_of kind }
-    ensures within { result ≤ 256 }
-{
-    match kind {
-        Kind::Grid => 256,
-        Kind::Window | Kind::Frame => 1,
-        _ => 0,
-    }
-}
 
 /// How many levels there are from the live widget down, at most `most`.
 pub(crate) fn height_in(store: &Store, cells: &Cells, most: u32, id: u32) -> u32

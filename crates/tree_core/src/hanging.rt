@@ -1,12 +1,12 @@
 ghost use Rattle.std.specs.Prelude.{◌≡◌, ◌<◌, Some, None, IsSome, length, true, false};
 ghost use Rattle.std.specs.Option.{option_map, option_map_or};
 ghost use Rattle.widget_model.specs.Rows.{with_attached};
-ghost use Rattle.widget_model.specs.Trees.{hangs, has_children, can_be_child};
+ghost use Rattle.widget_model.specs.Trees.{hangs};
 ghost use Rattle.widget_model.specs.Relatives.{child_id};
 ghost use Rattle.widget_model.specs.Planted.{takes_cell};
 ghost use Rattle.widget_model.specs.Links.{name_at};
 ghost use Rattle.widget_model.specs.Widgets.{row_at, row_kind, row_client, nodes, with_row};
-ghost use Rattle.row_store.specs.Places.{cell_place};
+ghost use Rattle.row_store.specs.CellTable.{cell_offset};
 ghost use Rattle.tree_core.specs.Children.{widgets_in, HasChildren};
 ghost use Rattle.row_store.specs.Index.{IsIndexed};
 ghost use Rattle.tree_core.specs.Kept.{IsGrove};
@@ -14,23 +14,10 @@ ghost use Rattle.tree_core.specs.Refusals.{attach_refusal, attach_answer};
 
 use crate::going_down::height_in;
 use crate::going_up::{depth_in, is_above_in, most_levels, parent_number};
+use crate::kinds::{can_be_child, has_children};
 use crate::refusal::AttachRefusal;
-use kind_core::{Cell, Kind};
+use kind_core::Cell;
 use row_store::{Cells, Change, Names, Row, Store};
-
-/// Whether widgets of the kind have children.
-fn has_children(kind: Kind) -> bool
-    ensures { result ≡ has_children kind }
-{
-    matches!(kind, Kind::Window | Kind::Grid | Kind::Frame)
-}
-
-/// Whether a widget of the kind can be a child.
-fn can_be_child(kind: Kind) -> bool
-    ensures { result ≡ can_be_child kind }
-{
-    !matches!(kind, Kind::Window | Kind::Variable)
-}
 
 /// Whether the row hangs in another.
 pub(crate) fn hangs(row: &Row) -> bool
@@ -89,7 +76,7 @@ pub(crate) fn hang(store: &mut Store, cells: &mut Cells, parent: u32, child: u32
     requires owner { row_client store.old parent ≡ row_client store.old child }
     requires cell { option_map_or (λ kind. takes_cell kind cell) (row_kind store.old parent) false ≡ true }
     requires answer { attach_answer (widgets_in store.old) parent child cell ≡ Some None }
-    requires within { cell_place parent cell.column cell.row < length cells.old }
+    requires within { cell_offset parent cell.column cell.row < length cells.old }
     ensures rows { store.new ≡ with_row child (with_attached (option_map (λ name. (name, cell)) (name_at store.old parent))) store.old }
     ensures grove { IsGrove store.new }
     ensures children { HasChildren store.new cells.new }

@@ -7,6 +7,7 @@ mod going_down;
 mod going_up;
 mod hanging;
 mod id;
+mod kinds;
 mod links;
 mod pointer;
 mod refusal;

@@ -34,7 +34,7 @@ use std::marker::Model;
 use vscreen_core::Film;
 
 /// The widgets of all clients: rows in the order of making, under the names that the clients gave them.
-/// Contracts see the record `Widgets` of desk_model. See docs/MACHINE.md, "Widgets"; docs/ARCHITECTURE.md,
+/// Contracts see the record `Widgets` of widget_model. See docs/MACHINE.md, "Widgets"; docs/ARCHITECTURE.md,
 /// "Cost", has the reasons for what the calls cost.
 pub struct Tree {
     clients: Vec<u32>,
@@ -47,13 +47,13 @@ pub struct Tree {
 
 impl Model for Tree {
     ghost use Rattle.widget_model.specs.Widgets.{Widgets};
-    ghost use Rattle.tree_core.specs.Kept.{IsCounted};
+    ghost use Rattle.tree_core.specs.Kept.{IsTree};
 
     ghost Value = { Widgets };
 
     ghost view = { λ t. record { clients = t.clients.items; entries = t.store; places = t.places.slots } };
 
-    ghost invariant = { λ t. IsCounted t.clients.items t.names t.store t.cells t.counts t.places };
+    ghost invariant = { λ t. IsTree (record { clients = t.clients.items; names = t.names; entries = t.store; cells = t.cells; counts = t.counts; kept = t.places }) };
 }
 
 impl Drop for Tree {
@@ -86,7 +86,7 @@ impl Tree {
     }
 
     /// Joins a client, 1 to 16, that isn't joined, as the last one. NoMemory leaves the tree as it was. It
-    /// makes 32,768 places for the children of the client's widgets and 128 slots for their kept places, and
+    /// makes 32,768 cells for the children of the client's widgets and 128 slots for their kept places, and
     /// as many for each lower number that has none.
     pub fn join_client(&mut self, client: u32) -> Result<(), NoMemory>
         requires low { 1 ≤ client }
@@ -415,7 +415,7 @@ impl Tree {
     }
 
     /// Removes all widgets of a joined client, which then isn't joined. It walks the rows once for each of
-    /// them, and empties the client's 32,768 places for children and 128 slots for kept places.
+    /// them, and empties the client's 32,768 cells for children and 128 slots for kept places.
     pub fn drop_client(&mut self, client: u32)
         requires { is_joined self.old.clients client ≡ true }
         ensures left { self.new ≡ departed client self.old }
@@ -457,7 +457,7 @@ impl Tree {
     }
 
     /// The widget that hangs in that column and row, None exactly where there is none, as outside 1 to 16. It
-    /// reads one place of a table.
+    /// reads one cell of a table.
     pub fn child_at(&self, id: Id, column: u32, row: u32) -> Option<Id>
         requires { IsLive self.now id.key }
         ensures found { option_map (λ id. id.key) result ≡ child_id self.now id.key column row }

@@ -6,8 +6,8 @@ use Rattle.widget_model.specs.Rows.{Row, new_row}
 use Rattle.widget_model.specs.Nodes.{Node, node_of}
 use Rattle.widget_model.specs.Widgets.{nodes}
 use Rattle.row_store.specs.Index.{same_key, IsIndexed}
-use Rattle.row_store.proofs.Nodes.{nodes-push}
-use Rattle.row_store.proofs.Index.{IsIndexed-push}
+use Rattle.row_store.proofs.UnderNumbers.{nodes-push}
+use Rattle.row_store.proofs.UnderNames.{IsIndexed-push}
 use Rattle.row_store.proofs.names.put_new.Goals as goal
 
 on_ok : {T E : Type 0} (r : Result T E) (P : Type 0) → is_ok r ≡ true → OnOk r P → P

@@ -1,5 +1,5 @@
 use Rattle.std.proofs.Common.{refl, ◌∙◌}
-use Rattle.row_store.proofs.Taken.{IsIndexed-without_row}
+use Rattle.row_store.proofs.UnderNames.{IsIndexed-without_row}
 use Rattle.row_store.proofs.names.take_out.Goals as goal
 
 pub returns-clause-indexed : goal.returns-clause-indexed

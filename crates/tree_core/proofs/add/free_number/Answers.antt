@@ -2,7 +2,7 @@ use Rattle.std.proofs.Common.{◌≡◌, ℕ, ◌<◌, ◌≤◌, ◌+◌, ◌-�
 use Rattle.std.proofs.lemmas.Bool.{leb-true, leb-false}
 use Rattle.widget_model.specs.Widgets.{nodes, row_at}
 use Rattle.tree_core.proofs.ForestLemmas.{one_is_free}
-use Rattle.row_store.proofs.Nodes.{row_live}
+use Rattle.row_store.proofs.UnderNumbers.{row_live}
 use Rattle.tree_core.proofs.add.free_number.Goals as goal
 
 -- each of the 128 numbers is tried

@@ -3,7 +3,7 @@ use Rattle.widget_model.specs.Rows.{new_row}
 use Rattle.widget_model.specs.Nodes.{node_of}
 use Rattle.widget_model.specs.Widgets.{nodes}
 use Rattle.row_store.specs.Counts.{gained, AreCounts}
-use Rattle.row_store.proofs.Nodes.{nodes-push}
+use Rattle.row_store.proofs.UnderNumbers.{nodes-push}
 use Rattle.row_store.proofs.CountsLemmas.{AreCounts-gain, number_alike-count_of}
 use Rattle.tree_core.proofs.add.put_counted.Goals as goal
 

@@ -18,7 +18,7 @@ loop-index-preserved t c =
     let less : c.loop-index.index < 256 = omega (arith, c.cells_of-index-end.ensures.within) in
     let G : ℕ → Type 0 = λ n. IsGreatest c.args.store.now c.args.cells.now (c.args.most - 1) c.args.id (c.loop-index.index + 1) n in
     elim c.match-nth.branch [
-      | in-Some w ↦ subst G (sym (w.greatest-is ∙ w.max-greatest.ensures ∙ ord_max-nat c.loop-index.greatest w.height_in.result)) (IsGreatest-child c.args.store.now c.args.cells.now (c.args.most - 1) c.args.id c.loop-index.index c.loop-index.greatest w.in-Some.child w.height_in.result c.requires.grove c.requires.children less c.loop-index.invariant (sym c.nth.ensures ∙ w.in-Some.is) w.height_in.ensures.height w.height_in.ensures.within)
+      | in-Some w ↦ subst G (sym (w.greatest-is ∙ w.max-greatest.ensures ∙ ord_max-nat c.loop-index.greatest w.height_in.result)) (IsGreatest-child c.args.store.now c.args.cells.now (c.args.most - 1) c.args.id c.loop-index.index c.loop-index.greatest c.loop-index.invariant w.in-Some.child w.height_in.result c.requires.grove c.requires.children less (sym c.nth.ensures ∙ w.in-Some.is) w.height_in.ensures.height w.height_in.ensures.within)
       | in-None w ↦ subst G (sym w.greatest-is) (IsGreatest-empty c.args.store.now c.args.cells.now (c.args.most - 1) c.args.id c.loop-index.index c.loop-index.greatest c.loop-index.invariant (sym c.nth.ensures ∙ w.in-None.is))
     ]
 

@@ -1,14 +1,13 @@
-use Rattle.std.proofs.Common.{◌≡◌, ◌∷◌, ◌++◌, [], ℕ, List, is_ok, is_some, true, sym, ap, ◌∙◌, subst, arith}
+use Rattle.std.proofs.Common.{◌≡◌, ◌∷◌, ◌++◌, [], ℕ, List, is_ok, is_some, true, sym, subst}
 use Rattle.widget_model.specs.Rows.{Row, new_row}
 use Rattle.widget_model.specs.Widgets.{Widgets, nodes, row_at}
-use Rattle.widget_model.specs.Clients.{is_joined}
 use Rattle.row_store.specs.Index.{IsIndexed}
 use Rattle.row_store.specs.Counts.{AreCounts}
-use Rattle.tree_core.specs.Kept.{IsCounted}
+use Rattle.tree_core.specs.Kept.{IsTree}
 use Rattle.tree_core.proofs.ForestLemmas.{no_refusal, live-maybe_push, live-last}
-use Rattle.tree_core.proofs.Counted.{IsWidgets-counted, member, IsCounted-added}
+use Rattle.tree_core.proofs.TreeKept.{member, IsTree-added}
 use Rattle.tree_core.proofs.tree.Tree.add.Goals as goal
-use Rattle.tree_core.proofs.tree.Tree.add.Goals.{in-Ok, in-Err}
+use Rattle.tree_core.proofs.tree.Tree.add.Goals.{After-put_counted, in-Ok, in-Err}
 
 pub free_number-id-requires-clause-low : goal.free_number-id-requires-clause-low
 free_number-id-requires-clause-low c = (member c.self.invariant c.self.view_is c.args.client c.requires).low
@@ -28,23 +27,19 @@ start-requires c = (member c.self.invariant c.self.view_is c.args.client c.requi
 pub put_counted-requires-clause-new_name : goal.put_counted-requires-clause-new_name
 put_counted-requires-clause-new_name c = (no_refusal (nodes c.self.inside.store) c.args.client c.args.name c.args.kind (sym c.in-None.ensures)).0
 
-pub invariant_of-self : goal.invariant_of-self
-invariant_of-self c =
-    let old = c.self.inside.store in
+kept : (c : After-put_counted) → IsTree (record { clients = c.self.inside.clients.items; names = c.put_counted.new.names; entries = c.put_counted.new.store; cells = c.self.inside.cells; counts = c.put_counted.new.counts; kept = c.self.inside.places })
+kept c =
     let joined = (member c.self.invariant c.self.view_is c.args.client c.requires).joined in
-    let P : List (ℕ × Row) → Type 0 = λ es. IsIndexed c.put_counted.new.names (nodes es) → AreCounts c.put_counted.new.counts (nodes es) → IsCounted c.self.inside.clients.items c.put_counted.new.names es c.self.inside.cells c.put_counted.new.counts c.self.inside.places in
-    let either = IsCounted-added c.self.invariant (is_ok c.put_counted.result) c.put_counted.new.names c.put_counted.new.counts c.free_number-id.result c.args.client c.args.name c.args.kind c.free_number-id.ensures.free (sym c.in-None.ensures) c.free_number-id.ensures.own joined in
+    let P : List (ℕ × Row) → Type 0 = λ es. IsIndexed c.put_counted.new.names (nodes es) → AreCounts c.put_counted.new.counts (nodes es) → IsTree (record { clients = c.self.inside.clients.items; names = c.put_counted.new.names; entries = es; cells = c.self.inside.cells; counts = c.put_counted.new.counts; kept = c.self.inside.places }) in
+    let either = IsTree-added c.self.invariant (is_ok c.put_counted.result) c.put_counted.new.names c.put_counted.new.counts c.free_number-id.result c.args.client c.args.name c.args.kind c.free_number-id.ensures.free (sym c.in-None.ensures) c.free_number-id.ensures.own joined in
     let parts : P c.put_counted.new.store = subst P (sym c.put_counted.ensures.rows) either in
     parts c.put_counted.ensures.indexed c.put_counted.ensures.counted
 
+pub invariant_of-self : goal.invariant_of-self
+invariant_of-self c = kept (goal.at.invariant_of-self c).After-put_counted
+
 pub returns-clause-valid : goal.returns-clause-valid
-returns-clause-valid c =
-    let old = c.self.inside.store in
-    let joined = (member c.self.invariant c.self.view_is c.args.client c.requires).joined in
-    let P : List (ℕ × Row) → Type 0 = λ es. IsIndexed c.put_counted.new.names (nodes es) → AreCounts c.put_counted.new.counts (nodes es) → IsCounted c.self.inside.clients.items c.put_counted.new.names es c.self.inside.cells c.put_counted.new.counts c.self.inside.places in
-    let either = IsCounted-added c.self.invariant (is_ok c.put_counted.result) c.put_counted.new.names c.put_counted.new.counts c.free_number-id.result c.args.client c.args.name c.args.kind c.free_number-id.ensures.free (sym c.in-None.ensures) c.free_number-id.ensures.own joined in
-    let parts : P c.put_counted.new.store = subst P (sym c.put_counted.ensures.rows) either in
-    IsWidgets-counted (parts c.put_counted.ensures.indexed c.put_counted.ensures.counted)
+returns-clause-valid c = (kept (goal.at.returns-clause-valid c).After-put_counted).widgets
 
 pub returns-clause-kept : goal.returns-clause-kept
 returns-clause-kept c = λ other live.

@@ -1,17 +1,16 @@
 use Rattle.std.proofs.Common.{None}
-use Rattle.tree_core.proofs.TreeKept.{live_row, live_edited}
-use Rattle.tree_core.proofs.Counted.{IsWidgets-counted, IsCounted-film, film_whole}
+use Rattle.tree_core.proofs.TreeKept.{live_row, live_edited, film_whole, IsTree-film}
 use Rattle.tree_core.proofs.tree.Tree.take_film.Goals as goal
 
 pub invariant_of-self : goal.invariant_of-self
 invariant_of-self c =
     let found = live_row c.self.view_is c.args.id.key c.requires in
-    rw c.swap_film.ensures.film (IsCounted-film c.self.invariant c.args.id.key None found.0 found.1 tt)
+    rw c.swap_film.ensures.film (IsTree-film c.self.invariant c.args.id.key found.0 found.1 None tt)
 
 pub returns-clause-valid : goal.returns-clause-valid
 returns-clause-valid c =
     let found = live_row c.self.view_is c.args.id.key c.requires in
-    rw c.swap_film.ensures.film (IsWidgets-counted (IsCounted-film c.self.invariant c.args.id.key None found.0 found.1 tt))
+    rw c.swap_film.ensures.film (IsTree-film c.self.invariant c.args.id.key found.0 found.1 None tt).widgets
 
 pub returns-clause-kept : goal.returns-clause-kept
 returns-clause-kept c = λ other live. rw c.swap_film.ensures.film (live_edited c.self.view_is c.args.id.key _ other live)

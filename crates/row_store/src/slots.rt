@@ -3,9 +3,9 @@ ghost use Rattle.widget_model.specs.Rows.{attr_slot, event_slot};
 
 use kind_core::{Attr, EventKind};
 
-/// The place of an attribute among a row's values, from 0.
+/// The slot of an attribute among a row's values, from 0.
 pub fn attr_slot(attr: Attr) -> usize
-    ensures place { result ≡ attr_slot attr }
+    ensures slot { result ≡ attr_slot attr }
     ensures within { result < 13 }
 {
     match attr {
@@ -25,9 +25,9 @@ pub fn attr_slot(attr: Attr) -> usize
     }
 }
 
-/// The place of a kind of event among a row's bindings, from 0.
+/// The slot of a kind of event among a row's bindings, from 0.
 pub fn event_slot(event: EventKind) -> usize
-    ensures place { result ≡ event_slot event }
+    ensures slot { result ≡ event_slot event }
     ensures within { result < 7 }
 {
     match event {
