@@ -10,3 +10,6 @@ pub mod RootLemmas
 pub mod ChainLemmas
 pub mod SceneLemmas
 pub mod LookLemmas
+pub mod RunLemmas
+pub mod PartLemmas
+pub mod BandLemmas

@@ -68,6 +68,14 @@ Paints-unwanted layers only under piece screen valid unwanted =
       at_once = λ e h. absurd (all_wanted only under e unwanted);
     }
 
+-- no pieces
+pub PaintsAll-none : (layers : Layers) (only under : Option ℕ) (way : ℤ → ℤ → List ℕ) (screen : Screen) → IsScreen screen → PaintsAll layers only under way [] 0 screen screen
+PaintsAll-none layers only under way screen valid = record {
+  painted = Painted-none (wanted_of only under way (covers [])) (colour_by layers under way) screen valid (λ x y. refl);
+  counted = λ box inside. none_counted (wanted_of only under way (covers [])) box (λ x y. refl);
+  few = omega arith;
+}
+
 or_false : (a : Bool) → (a || false) ≡ a
 or_false true = refl
 or_false false = refl

@@ -75,7 +75,7 @@ root-child view id kid row valid there h =
     ∙ ap number (children_have_their_parents_root rows (key_of h.lower) (key_of row) valid.planted h.parent)
     ∙ sym (ap (option_and_then (λ (r : Row). id_named (nodes widgets.entries) r.client (root_of rows r.client r.name))) there)
 
-row_there : (o : Option Row) → IsSome o → (row : Row) × (o ≡ Some row)
+pub row_there : (o : Option Row) → IsSome o → (row : Row) × (o ≡ Some row)
 row_there None h = absurd (cc)
 row_there (Some row) h = (row, refl)
 

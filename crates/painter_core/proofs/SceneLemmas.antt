@@ -31,7 +31,7 @@ use Rattle.painter_core.proofs.TopLemmas.{trail_of, IsTop, HasNoTop, tops, colou
 abbrev pub first_way : View → ℤ → ℤ → List ℕ
 first_way view = trail 13 (layers_of view) (slots_from (layers_of view) None 0)
 
-first_way-whole : (view : View) (x y : ℤ) → first_way view x y ≡ trail_of view x y
+pub first_way-whole : (view : View) (x y : ℤ) → first_way view x y ≡ trail_of view x y
 unfolding most_levels
 first_way-whole view x y = refl
 

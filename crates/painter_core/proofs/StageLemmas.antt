@@ -14,7 +14,9 @@ use Rattle.kind_core.specs.declared.kinds.Kind.TheVariants.{Window, Grid, Frame}
 use Rattle.widget_model.specs.Widgets.{Widgets, row_kind, row_at, IsLive}
 use Rattle.tree_core.specs.Children.{cells_of}
 use Rattle.scene_core.specs.declared.view.View.{View}
-use Rattle.painter_core.specs.Stage.{layers_of, slots_below, slots_of, child_in_slot}
+use Rattle.scene_core.specs.View.{IsView, KeepsPlaces}
+use Rattle.scene_model.proofs.FitWidgets.{widgets_are_fit}
+use Rattle.painter_core.specs.Stage.{layers_of, slots_below, slots_of, child_in_slot, IsPaintable}
 
 few_cells : (kind : Kind) → cells_of kind ≤ 256
 few_cells Window = omega arith
@@ -62,3 +64,7 @@ windows-there widgets [] zero each = tt
 windows-there widgets [] (suc slot) each = tt
 windows-there widgets (id ∷ ids) zero each = live_kind (row_at widgets.entries id) (All-head (λ (id : ℕ). row_kind widgets.entries id ≡ Some Window) id ids each)
 windows-there widgets (id ∷ ids) (suc slot) each = windows-there widgets ids slot (All-tail (λ (id : ℕ). row_kind widgets.entries id ≡ Some Window) id ids each)
+
+-- a view of a desk, with its places kept, can be painted
+pub IsPaintable-view : (view : View) → IsView view → KeepsPlaces view.tree.now view.stack.now → IsPaintable view
+IsPaintable-view view is places = record { is_view = is; widgets = is.valid; fit = widgets_are_fit view.tree.now is.valid; places = places }

@@ -2,6 +2,7 @@
 //! rows that the screen lends.
 #![tactic(auto)]
 
+mod bands;
 mod filling;
 mod line;
 mod looks;
@@ -9,6 +10,8 @@ mod meeting;
 mod painting;
 mod pieces;
 mod reading;
+mod runs;
 mod slots;
 
+pub use bands::paint_band;
 pub use pieces::paint;

@@ -4,8 +4,6 @@ ghost use Rattle.geom_core.specs.Rect.{area_of, in_rect, IsInside};
 ghost use Rattle.geom_core.specs.Count.{screen_of};
 ghost use Rattle.painter_core.specs.Painting.{ShowsScene, HasOneTop};
 ghost use Rattle.scene_core.specs.View.{IsView, KeepsPlaces, scene_of};
-ghost use Rattle.scene_model.specs.Fit.{AreFit};
-ghost use Rattle.widget_model.specs.Widgets.{rows_of};
 
 use crate::painting::paint_from;
 use canvas_core::Canvas;
@@ -24,7 +22,6 @@ pub const LEVELS: u32 = 13;
 /// no memory is taken. See docs/MACHINE.md, "Painting".
 pub fn paint(piece: Rect, view: &View<'_>, canvas: &mut Canvas)
     requires view { IsView view.now }
-    requires fit { AreFit (rows_of view.now.tree.now) }
     requires places { KeepsPlaces view.now.tree.now view.now.stack.now }
     requires valid { IsScreen canvas.old }
     requires width { canvas.old.width ≡ view.now.width }

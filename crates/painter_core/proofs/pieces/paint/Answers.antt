@@ -2,8 +2,12 @@ use Rattle.std.proofs.Common.{◌<◌, refl, arith}
 use Rattle.geom_core.specs.Rect.{area_of, IsInside}
 use Rattle.geom_core.specs.Count.{screen_of}
 use Rattle.geom_core.proofs.RectLemmas.{IsEnclosed-from_inside}
+use Rattle.painter_core.proofs.StageLemmas.{IsPaintable-view}
 use Rattle.painter_core.proofs.SceneLemmas.{windows_few, one_trail, ShowsScene-piece, whole_counted}
 use Rattle.painter_core.proofs.pieces.paint.Goals as goal
+
+pub paint_from-requires-clause-stage : goal.paint_from-requires-clause-stage
+paint_from-requires-clause-stage c = IsPaintable-view c.args.view.now c.requires.view c.requires.places
 
 pub paint_from-requires-clause-few_slots : goal.paint_from-requires-clause-few_slots
 paint_from-requires-clause-few_slots c = windows_few c.args.view.now c.requires.view
