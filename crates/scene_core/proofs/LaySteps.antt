@@ -18,7 +18,7 @@ use Rattle.scene_model.specs.Placing.{place_in}
 use Rattle.scene_core.specs.declared.child.Child.{Child}
 use Rattle.scene_core.specs.declared.sides.Side.{Side}
 use Rattle.scene_core.specs.declared.size.Size.{Size}
-use Rattle.scene_core.specs.Children.{row_for, child_for, AreKnown, AreMeasured, IsDeep}
+use Rattle.scene_core.specs.Children.{row_for, child_for, needs_for, AreKnown, AreChildren, IsDeep}
 use Rattle.scene_core.specs.Places.{HasPlaces}
 use Rattle.scene_core.specs.Sides.{IsSide}
 use Rattle.scene_core.specs.Laid.{with_places, due, IsBelow, AreReplaced, AreLaid}
@@ -44,6 +44,7 @@ module _ (places : List (Option Rect)) (widgets : Widgets) where
   side-places : (axis : Axis) (id : ℕ) (side : Side) → IsSide axis widgets id side → IsSide axis (with_places places widgets) id side
   unfolding row_for
   side-places axis id side is = record {
+    kind = is.kind;
     span = is.span;
     offset = is.offset;
     tracks = λ grid. record { few = (is.tracks grid).few; used = (is.tracks grid).used; lengths = (is.tracks grid).lengths };
@@ -52,6 +53,7 @@ module _ (places : List (Option Rect)) (widgets : Widgets) where
   side-kept : (axis : Axis) (id : ℕ) (side : Side) → IsSide axis (with_places places widgets) id side → IsSide axis widgets id side
   unfolding row_for
   side-kept axis id side is = record {
+    kind = is.kind;
     span = is.span;
     offset = is.offset;
     tracks = λ grid. record { few = (is.tracks grid).few; used = (is.tracks grid).used; lengths = (is.tracks grid).lengths };
@@ -144,52 +146,29 @@ module _ (old mid new : Widgets) (id kid : ℕ) (live : IsLive old id) (valid : 
       by : AreLaid most (with_places mid.places old) kid new → place_at new other ≡ due old other
       by then = then.under other (below-places mid.places old most kid other below)
 
--- a child that is measured after places have changed
-kid-from : (old new : Widgets) (id key : ℕ) (child : Child) → new ≡ with_places new.places old → parent_id new key ≡ Some id → child ≡ child_for new key → (parent_id old child.key ≡ Some id) × (child ≡ child_for old child.key)
-kid-from old new id key child same parent is =
-    subst (λ (kid : Child). (parent_id old kid.key ≡ Some id) × (kid ≡ child_for old kid.key)) (sym is) (parent-back old new key id same parent, sym (child-same-rows old new key same))
-
--- the measured children, and the numbers that they are of
-pub measured-back : (old new : Widgets) (id : ℕ) (children : List Child) (i : ℕ) (child : Child) → new ≡ with_places new.places old → AreMeasured new id children → slice_get children i ≡ Some child → (parent_id old child.key ≡ Some id) × (child ≡ child_for old child.key)
-measured-back old new id children i child same are there =
-    let at = map-at (child_for new) are.keys i child (sym (ap (λ (cs : List Child). slice_get cs i) are.measured) ∙ there) in
-    kid-from old new id at.0 child same (in-all are.keys i at.0 (λ k. parent_id new k ≡ Some id) are.each.each at.1) at.2
+-- each child is among the numbers of the children
+pub kid-among : (old new : Widgets) (id kid : ℕ) (keys : List ℕ) → new ≡ with_places new.places old → AreChildren new id keys → parent_id old kid ≡ Some id → (i : ℕ) × (slice_get keys i ≡ Some kid)
+kid-among old new id kid keys same are parent =
+    let among = are.all kid (parent-same old new kid id same parent) in
+    (among.0, at keys among.0 among.1 among.2)
   where
-    map-at : (f : ℕ → Child) (keys : List ℕ) (i : ℕ) (child : Child) → slice_get (map f keys) i ≡ Some child → (key : ℕ) × (slice_get keys i ≡ Some key) × (child ≡ f key)
-    map-at f [] i child there = absurd (cc)
-    map-at f (key ∷ keys) zero child there = (key, refl, let e : f key ≡ child = cc in sym e)
-    map-at f (key ∷ keys) (suc i) child there = map-at f keys i child there
-
-    in-all : (keys : List ℕ) (i key : ℕ) (P : ℕ → Type 0) → All P keys → slice_get keys i ≡ Some key → P key
-    in-all [] i key P all there = absurd (cc)
-    in-all (k ∷ keys) zero key P all there = let e : k ≡ key = cc in subst P e (All-head P k keys all)
-    in-all (k ∷ keys) (suc i) key P all there = in-all keys i key P (All-tail P k keys all) there
-
--- and each child is among them
-pub child-among : (old new : Widgets) (id kid : ℕ) (children : List Child) → new ≡ with_places new.places old → AreMeasured new id children → parent_id old kid ≡ Some id
-    → (i : ℕ) × (child : Child) × (slice_get children i ≡ Some child) × (child.key ≡ kid)
-child-among old new id kid children same are parent =
-    let among = are.each.all kid (parent-same old new kid id same parent) in
-    let at = at-map (child_for new) are.keys among.0 kid among.1 among.2 in
-    (among.0, child_for new kid, ap (λ (cs : List Child). slice_get cs among.0) are.measured ∙ at, refl)
-  where
-    at-map : (f : ℕ → Child) (keys : List ℕ) (i kid : ℕ) → i < length keys → get_or keys i kid ≡ kid → slice_get (map f keys) i ≡ Some (f kid)
-    at-map f [] i kid less is = absurd (omega arith)
-    at-map f (key ∷ keys) zero kid less is = ap (λ (k : ℕ). Some (f k)) is
-    at-map f (key ∷ keys) (suc i) kid less is = at-map f keys i kid (omega arith) is
+    at : (keys : List ℕ) (i : ℕ) → i < length keys → get_or keys i kid ≡ kid → slice_get keys i ≡ Some kid
+    at [] i less is = absurd (omega arith)
+    at (key ∷ keys) zero less is = ap (λ (k : ℕ). Some k) is
+    at (key ∷ keys) (suc i) less is = at keys i (omega arith) is
 
 -- the widget itself, and those below its children
-pub laid-under : (most : ℕ) (old base new : Widgets) (id : ℕ) (children : List Child) → base ≡ with_places base.places old → AreMeasured base id children → place_at new id ≡ due old id
-    → ((i : ℕ) (child : Child) → slice_get children i ≡ Some child → (other : ℕ) → IsBelow (most - 1) old child.key other → place_at new other ≡ due old other)
+pub laid-under : (most : ℕ) (old base new : Widgets) (id : ℕ) (keys : List ℕ) → base ≡ with_places base.places old → AreChildren base id keys → place_at new id ≡ due old id
+    → ((i : ℕ) (kid : ℕ) → slice_get keys i ≡ Some kid → (other : ℕ) → IsBelow (most - 1) old kid other → place_at new other ≡ due old other)
     → (other : ℕ) → IsBelow most old id other → place_at new other ≡ due old other
-laid-under zero old base new id children same are own each other below = subst (λ (n : ℕ). place_at new n ≡ due old n) below own
-laid-under (suc most) old base new id children same are own each other below = elim below [ inl e ↦ subst (λ (n : ℕ). place_at new n ≡ due old n) e own | inr down ↦ under down.0 down.1 down.2 ]
+laid-under zero old base new id keys same are own each other below = subst (λ (n : ℕ). place_at new n ≡ due old n) below own
+laid-under (suc most) old base new id keys same are own each other below = elim below [ inl e ↦ subst (λ (n : ℕ). place_at new n ≡ due old n) e own | inr down ↦ under down.0 down.1 down.2 ]
   where
     under : (kid : ℕ) → parent_id old kid ≡ Some id → IsBelow most old kid other → place_at new other ≡ due old other
     under kid parent rest =
-        let at = child-among old base id kid children same are parent in
+        let at = kid-among old base id kid keys same are parent in
         let e : suc most - 1 ≡ most = omega arith in
-        each at.0 at.1 at.2 other (subst (λ (n : ℕ). IsBelow n old at.1.key other) (sym e) (subst (λ (n : ℕ). IsBelow most old n other) (sym at.3) rest))
+        each at.0 kid at.1 other (subst (λ (n : ℕ). IsBelow n old kid other) (sym e) rest)
 
 -- going down so many times at the most, or more
 below-more : (few more : ℕ) (widgets : Widgets) (id other : ℕ) → IsBelow few widgets id other → IsBelow (few + more) widgets id other
@@ -227,28 +206,28 @@ pub below-root : (widgets : Widgets) (top other : ℕ) → IsWidgets widgets →
 unfolding most_levels
 below-root widgets top other valid live root = below-up most_levels zero widgets top other other valid live (ends-live widgets other valid live) refl root
 
--- an element at an index
-pub there-at : (children : List Child) (i : ℕ) (blank : Child) → i < length children → slice_get children i ≡ Some (get_or children i blank)
-there-at [] i blank less = absurd (omega arith)
-there-at (child ∷ children) zero blank less = refl
-there-at (child ∷ children) (suc i) blank less = there-at children i blank (omega arith)
+-- a number at an index
+there-at : (keys : List ℕ) (i : ℕ) → i < length keys → slice_get keys i ≡ Some (get_or keys i 0)
+there-at [] i less = absurd (omega arith)
+there-at (key ∷ keys) zero less = refl
+there-at (key ∷ keys) (suc i) less = there-at keys i (omega arith)
 
 -- the children before the next index, with one more laid out
-pub under-more : (children : List Child) (index : ℕ) (blank : Child) (P : Child → Type 0) → ((i : ℕ) (child : Child) → i < index → slice_get children i ≡ Some child → P child) → index < length children → P (get_or children index blank)
-    → (i : ℕ) (child : Child) → i < index + 1 → slice_get children i ≡ Some child → P child
-under-more children index blank P before less here i child lower there = elim (cases_lt i index) [ inl early ↦ before i child early there | inr late ↦ last (omega arith) ]
+pub under-more : (keys : List ℕ) (index : ℕ) (P : ℕ → Type 0) → ((i : ℕ) (kid : ℕ) → i < index → slice_get keys i ≡ Some kid → P kid) → index < length keys → P (get_or keys index 0)
+    → (i : ℕ) (kid : ℕ) → i < index + 1 → slice_get keys i ≡ Some kid → P kid
+under-more keys index P before less here i kid lower there = elim (cases_lt i index) [ inl early ↦ before i kid early there | inr late ↦ last (omega arith) ]
   where
-    last : i ≡ index → P child
+    last : i ≡ index → P kid
     last same =
-        let both : Some (get_or children index blank) ≡ Some child = sym (there-at children index blank less) ∙ ap (slice_get children) (sym same) ∙ there in
-        let e : get_or children index blank ≡ child = cc in
+        let both : Some (get_or keys index 0) ≡ Some kid = sym (there-at keys index less) ∙ ap (slice_get keys) (sym same) ∙ there in
+        let e : get_or keys index 0 ≡ kid = cc in
         subst P e here
 
 -- an index of an element is below any that is past the end
-pub at-most : (children : List Child) (i : ℕ) (child : Child) (end : ℕ) → length children ≤ end → slice_get children i ≡ Some child → i < end
-at-most [] i child end past there = absurd (cc)
-at-most (first ∷ children) zero child end past there = omega (arith, past)
-at-most (first ∷ children) (suc i) child end past there = let rest = at-most children i child (end - 1) (omega (arith, past)) there in omega (arith, rest)
+pub at-most : (keys : List ℕ) (i : ℕ) (kid : ℕ) (end : ℕ) → length keys ≤ end → slice_get keys i ≡ Some kid → i < end
+at-most [] i kid end past there = absurd (cc)
+at-most (key ∷ keys) zero kid end past there = omega (arith, past)
+at-most (key ∷ keys) (suc i) kid end past there = let rest = at-most keys i kid (end - 1) (omega (arith, past)) there in omega (arith, rest)
 
 -- all that hang under the Window have their places
 pub has-places : (old new : Widgets) (window : ℕ) → IsWidgets old → AreLaid most_levels old window new → HasPlaces new window
@@ -277,25 +256,21 @@ no-cells Scrollbar none = refl
 no-cells Variable none = refl
 no-cells VScreen none = refl
 
-pub childless : (widgets : Widgets) (id : ℕ) → IsWidgets widgets → has_children (row_for widgets id).kind ≡ false → AreMeasured widgets id []
+pub childless : (widgets : Widgets) (id : ℕ) → IsWidgets widgets → has_children (row_for widgets id).kind ≡ false → AreChildren widgets id []
 childless widgets id valid none = record {
-  keys = [];
-  each = record {
-    each = All-nil (λ kid. parent_id widgets kid ≡ Some id);
-    all = λ kid parent.
-        let found = parent_id-found widgets id kid valid parent in
-        let upper = row_for-there widgets id found.upper found.upper_there in
-        let empty = no-cells found.upper.kind (ap (λ (row : Row). has_children row.kind) (sym upper) ∙ none) in
-        absurd (let within = found.cell_is.within in omega (arith, within, empty));
-  };
-  measured = refl;
+  each = All-nil (λ kid. parent_id widgets kid ≡ Some id);
+  all = λ kid parent.
+      let found = parent_id-found widgets id kid valid parent in
+      let upper = row_for-there widgets id found.upper found.upper_there in
+      let empty = no-cells found.upper.kind (ap (λ (row : Row). has_children row.kind) (sym upper) ∙ none) in
+      absurd (let within = found.cell_is.within in omega (arith, within, empty));
 }
 
 -- so it alone is laid out
 pub laid-alone : (most : ℕ) (old new : Widgets) (id : ℕ) → IsWidgets old → AreReplaced old id new → place_at new id ≡ due old id → has_children (row_for old id).kind ≡ false → AreLaid most old id new
 laid-alone most old new id valid replaced own none = record {
   replaced = replaced;
-  under = laid-under most old old new id [] refl (childless old id valid none) own (λ i child there. absurd (cc));
+  under = laid-under most old old new id [] refl (childless old id valid none) own (λ i kid there. absurd (cc));
 }
 
 -- kinds stay

@@ -3,6 +3,7 @@ pub mod Needs
 pub mod Numbered
 pub mod ChildNumbers
 pub mod ChildNeeds
+mod AskedSteps
 pub mod OwnSizes
 pub mod TrackSteps
 pub mod LeastSteps

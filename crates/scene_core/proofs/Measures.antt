@@ -14,20 +14,11 @@ use Rattle.scene_model.specs.Tracks.{cell_of, Need, asked_in, last_asked, grid_l
 use Rattle.scene_core.specs.declared.size.Size.{Size}
 use Rattle.scene_core.specs.declared.child.Child.{Child}
 use Rattle.scene_core.specs.declared.tracks.Tracks.{Tracks}
-use Rattle.scene_core.specs.Children.{row_for, size_of, size_for, child_for, needs_for, AreMeasured, IsDeep}
+use Rattle.scene_core.specs.Children.{row_for, size_of, size_for, child_for, needs_for, IsDeep}
 use Rattle.scene_core.specs.Measured.{IsMeasured, AreTracks, needs_seen}
 use Rattle.scene_core.proofs.Numbered.{live-there}
 use Rattle.scene_core.proofs.ChildNeeds.{asked-children, last-children}
 use Rattle.scene_core.proofs.LeastSteps.{child-measured, deep-none, least-own}
-
-pub measured-all : (widgets : Widgets) (id : ℕ) (children : List Child) → IsWidgets widgets → AreMeasured widgets id children → All IsMeasured children
-measured-all widgets id children valid m = rw m.measured (All-map IsMeasured (child_for widgets) m.keys (λ k d less. child-measured widgets id (get_or m.keys k d) valid (m.each.each k d less)))
-
-pub asked-measured : (axis : Axis) (widgets : Widgets) (id track : ℕ) (children : List Child) → IsWidgets widgets → IsLive widgets id → AreMeasured widgets id children → asked_in (needs_seen axis children) track ≡ asked_in (needs_for axis widgets id) track
-asked-measured axis widgets id track children valid live m = ap (λ (cs : List Child). asked_in (needs_seen axis cs) track) m.measured ∙ asked-children axis widgets id m.keys track valid live m.each
-
-pub last-measured : (axis : Axis) (widgets : Widgets) (id : ℕ) (children : List Child) → IsWidgets widgets → IsLive widgets id → AreMeasured widgets id children → last_asked (needs_seen axis children) ≡ last_asked (needs_for axis widgets id)
-last-measured axis widgets id children valid live m = ap (λ (cs : List Child). last_asked (needs_seen axis cs)) m.measured ∙ last-children axis widgets id m.keys valid live m.each
 
 pub length-read : (needs : List Need) (rules : List (ℕ × ℕ)) (tracks : Tracks) (n : ℕ) → AreTracks needs rules tracks → n ≡ min (sum (take tracks.used tracks.least)) 4096 → n ≡ grid_least needs rules
 unfolding grid_least
@@ -78,13 +69,3 @@ pub child-same : (widgets : Widgets) (key : ℕ) (cell : Cell) (size : Size) →
 child-same widgets key cell size c s =
     ap (λ (x : Cell). let child : Child = record { key = key; cell = x; least = size } in child) c
     ∙ ap (λ (x : Size). let child : Child = record { key = key; cell = cell_of (row_for widgets key); least = x } in child) s
-
-length-each : {X : Type 0} (f : ℕ → X) (xs : List ℕ) → length (map f xs) ≡ length xs
-length-each f [] = refl
-length-each f (x ∷ xs) = ap suc (length-each f xs)
-
-pub length-made : {X : Type 0} (f : ℕ → X) (xs : List ℕ) (i : ℕ) (ys : List X) → ys ≡ map f (take i xs) → i ≤ length xs → length ys ≡ i
-length-made f xs i ys is less = ap length is ∙ length-each f (take i xs) ∙ made i xs less
-  where
-    made : (n : ℕ) (ns : List ℕ) → n ≤ length ns → length (take n ns) ≡ n
-    made n ns h = omega (arith, length-take n ns)

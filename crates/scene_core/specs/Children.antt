@@ -1,5 +1,5 @@
 -- An inner word of the proofs: the row of a number, the least size of that row, and the numbers of a widget's children.
-use Rattle.std.specs.Prelude.{ℕ, ◌≡◌, ◌≤◌, ◌-◌, false, map, List, [], ◌∷◌, Some, IfSome, slice_index_or, Option, None}
+use Rattle.std.specs.Prelude.{ℕ, ◌≡◌, ◌≤◌, ◌-◌, false, List, [], ◌∷◌, Some, IfSome, slice_index_or, Option, None}
 use Rattle.std.specs.List.{All, Contains}
 use Rattle.std.specs.Option.{option_map_or}
 use Rattle.kind_core.specs.declared.kinds.Kind.TheVariants.{Variable}
@@ -59,9 +59,3 @@ film_size film = option_map_or (λ film. (film.width, film.height)) film (16, 16
 pub record IsDeep (widgets : Widgets) (most id : ℕ) : Type 0 where
   pub upper : ends_within (most_levels - most) (rows_of widgets) (row_for widgets id).client (row_for widgets id).name ≡ false
   pub within : most ≤ most_levels
-
--- these are the measured children of the numbered widget
-pub record AreMeasured (widgets : Widgets) (id : ℕ) (children : List Child) : Type 0 where
-  pub keys : List ℕ
-  pub each : AreChildren widgets id keys
-  pub measured : children ≡ map (child_for widgets) keys

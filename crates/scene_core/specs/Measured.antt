@@ -1,11 +1,12 @@
 -- An inner word of the proofs: what the code has of a widget's children and of a Grid's tracks is what the definitions of
 -- layout have.
-use Rattle.std.specs.Prelude.{ℕ, ◌≡◌, ◌≤◌, ◌+◌, ◌*◌, List, map, take}
+use Rattle.std.specs.Prelude.{ℕ, ◌≡◌, ◌≤◌, ◌<◌, ◌+◌, ◌*◌, List, map, take, slice_index_or}
 use Rattle.std.specs.List.{All}
 use Rattle.scene_model.specs.declared.axis.Axis.{Axis}
 use Rattle.scene_model.specs.Spans.{along}
-use Rattle.scene_model.specs.Tracks.{Need, track_in, tracks_used, track_leasts, track_weights}
+use Rattle.scene_model.specs.Tracks.{Need, track_in, asked_in, last_asked, tracks_used, track_leasts, track_weights}
 use Rattle.widget_model.specs.Rows.{IsIndex}
+use Rattle.scene_core.specs.declared.asked.Asked.{Asked}
 use Rattle.scene_core.specs.declared.child.Child.{Child}
 use Rattle.scene_core.specs.declared.size.Size.{Size}
 use Rattle.scene_core.specs.declared.tracks.Tracks.{Tracks}
@@ -28,6 +29,11 @@ pub record IsMeasured (child : Child) : Type 0 where
   pub pad : child.cell.pad ≤ 16
   pub width : child.least.w ≤ 4096
   pub height : child.least.h ≤ 4096
+
+-- this is what children with these needs ask for: the most room in each track, and the last track with a child
+pub record AreAsked (needs : List Need) (asked : Asked) : Type 0 where
+  pub rooms : (index : ℕ) → index < 16 → slice_index_or asked.rooms index 0 ≡ asked_in needs (index + 1)
+  pub last : asked.last ≡ last_asked needs
 
 -- the tracks in use, where the children have these needs and the tracks these rules
 pub record AreTracks (needs : List Need) (rules : List (ℕ × ℕ)) (tracks : Tracks) : Type 0 where

@@ -16,6 +16,7 @@ pub record HasTracks (axis : Axis) (widgets : Widgets) (id : ℕ) (side : Side) 
   pub lengths : take side.used side.lengths ≡ track_lengths (needs_for axis widgets id) (rules_of axis (row_for widgets id)) side.span.len
 
 pub record IsSide (axis : Axis) (widgets : Widgets) (id : ℕ) (side : Side) : Type 0 where
+  pub kind : side.kind ≡ (row_for widgets id).kind
   pub span : side.span ≡ span_along (rows_of widgets) axis (row_for widgets id)
   pub offset : (row_for widgets id).kind ≡ Frame → side.offset ≡ offset_of axis (rows_of widgets) (row_for widgets id)
   pub tracks : (row_for widgets id).kind ≡ Grid → HasTracks axis widgets id side

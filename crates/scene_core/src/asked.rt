@@ -1,19 +1,26 @@
-//! What children ask for of the tracks of a Grid, along one axis.
-ghost use Rattle.std.specs.Prelude.{◌≡◌, ◌≤◌, ◌<◌, ◌+◌, ◌==◌, ℕ, slice_index, max, All, if◌then◌else◌};
-ghost use Rattle.scene_model.specs.Tracks.{asked_in, last_asked, track_in};
-ghost use Rattle.scene_core.specs.Measured.{IsMeasured, needs_seen, need_seen, side};
+//! What children ask for of the tracks of a Grid.
+ghost use Rattle.std.specs.Prelude.{◌≡◌, ◌≤◌, ◌<◌, ◌+◌, ◌==◌, ℕ, [], slice_index, max, if◌then◌else◌};
+ghost use Rattle.scene_model.specs.Tracks.{track_in};
+ghost use Rattle.scene_core.specs.Measured.{AreAsked, IsMeasured, need_seen, side};
 
 use crate::child::Child;
 use crate::size::Size;
 use kind_core::Cell;
 use scene_model::Axis;
 
-/// What children ask for: the most room in each track, the first at index 0, and the last track with a child, 0 where
-/// there is none.
+/// What children ask for along one axis: the most room in each track, the first at index 0, and the last track with a
+/// child, 0 where there is none.
 #[derive(Clone, Copy)]
 pub(crate) struct Asked {
     pub(crate) rooms: [u32; 16],
     pub(crate) last: u32,
+}
+
+/// What children ask for along both axes.
+#[derive(Clone, Copy)]
+pub(crate) struct BothAsked {
+    pub(crate) across: Asked,
+    pub(crate) down: Asked,
 }
 
 /// The column of a cell, or its row.
@@ -36,26 +43,18 @@ pub(crate) fn side(axis: Axis, size: Size) -> u32
     }
 }
 
-/// What the children ask for.
-pub(crate) fn all_asked(axis: Axis, children: &[Child]) -> Asked
-    requires { All IsMeasured children.now }
-    ensures rooms { (index : ℕ) → index < 16 → slice_index result.rooms index ≡ asked_in (needs_seen axis children.now) (index + 1) }
-    ensures small { (index : ℕ) → index < 16 → slice_index result.rooms index ≤ 4128 }
-    ensures last { result.last ≡ last_asked (needs_seen axis children.now) }
-    ensures last_small { result.last ≤ 16 }
+/// No child asks for room.
+pub(crate) fn none_asked() -> Asked
+    ensures { AreAsked [] result }
 {
-    let mut asked = Asked {
+    Asked {
         rooms: [0; 16],
         last: 0,
-    };
-    for child in children {
-        raise(&mut asked, axis, *child);
     }
-    asked
 }
 
 /// Adds what the child asks for.
-fn raise(asked: &mut Asked, axis: Axis, child: Child)
+pub(crate) fn raise(asked: &mut Asked, axis: Axis, child: Child)
     requires { IsMeasured child }
     ensures rooms { (index : ℕ) → index < 16 → slice_index asked.new.rooms index ≡ max (slice_index asked.old.rooms index) (if (need_seen axis child).track == index + 1 then (need_seen axis child).room else 0) }
     ensures last { asked.new.last ≡ max asked.old.last (need_seen axis child).track }

@@ -9,9 +9,9 @@ ghost use Rattle.scene_core.specs.Children.{row_for, AreKnown, IsDeep};
 ghost use Rattle.scene_core.specs.Laid.{AreLaid};
 ghost use Rattle.scene_core.specs.Places.{HasPlaces};
 
-use crate::children::has_children;
+use crate::children::{child_keys, has_children};
 use crate::known::Known;
-use crate::least::{measured, most_levels};
+use crate::least::{as_child, asked_by, most_levels};
 use crate::places::{child_place, sides_of, window_place};
 use geom_core::Rect;
 use tree_core::{Id, Tree};
@@ -30,11 +30,14 @@ fn lay(tree: &mut Tree, known: &mut Known, most: u32, id: Id, place: Rect)
     if !has_children(tree, id) {
         return;
     }
-    let children = measured(tree, known, most, id);
-    let sides = sides_of(tree, id, place, children.as_slice());
-    for child in children.as_slice() {
-        let place = child_place(tree, id, &sides, child);
-        lay(tree, known, most - 1, Id { key: child.key }, place);
+    let keys = child_keys(tree, id);
+    let asked = asked_by(tree, known, most, id, keys.as_slice());
+    let sides = sides_of(tree, id, place, &asked);
+    for key in keys.as_slice() {
+        let kid = Id { key: *key };
+        let child = as_child(tree, known, most - 1, kid);
+        let place = child_place(tree, id, &sides, &child);
+        lay(tree, known, most - 1, kid, place);
     }
 }
 

@@ -4,68 +4,73 @@ ghost use Rattle.std.specs.Option.{option_map};
 ghost use Rattle.widget_model.specs.Trees.{most_levels};
 ghost use Rattle.widget_model.specs.Widgets.{IsLive, IsGrid, rows_of, row_at};
 ghost use Rattle.scene_model.specs.Least.{least_of};
-ghost use Rattle.scene_model.specs.Tracks.{rules_of};
+ghost use Rattle.scene_model.specs.declared.axis.Axis.TheVariants.{Across, Down};
 ghost use Rattle.widget_model.specs.Forest.{IsWidgets};
-ghost use Rattle.scene_core.specs.Children.{row_for, size_of, size_for, needs_for, AreKnown, AreMeasured, IsDeep};
-ghost use Rattle.scene_core.specs.Measured.{AreTracks};
+ghost use Rattle.scene_core.specs.Children.{row_for, size_of, size_for, child_for, needs_for, AreKnown, AreChildren, IsDeep};
+ghost use Rattle.scene_core.specs.Measured.{AreAsked};
 
-use crate::asked::all_asked;
+use crate::asked::{Asked, BothAsked, none_asked, raise};
 use crate::child::Child;
 use crate::children::child_keys;
 use crate::known::Known;
 use crate::own::own_size;
 use crate::reading::{cell_of, kind_of};
 use crate::size::Size;
-use crate::tracks::{Tracks, least_length, tracks_of};
-use arrayvec::ArrayVec;
+use crate::tracks::{least_length, tracks_of};
 use kind_core::Kind;
 use scene_model::Axis;
 use tree_core::{Id, Tree};
 
-/// The tracks in use along the axis of a Grid with these children.
-pub(crate) fn grid_tracks(tree: &Tree, id: Id, axis: Axis, children: &[Child]) -> Tracks
+/// The least length along the axis of a Grid whose children ask for this.
+fn grid_length(tree: &Tree, id: Id, axis: Axis, asked: &Asked) -> u32
     requires valid { IsWidgets tree.now }
     requires grid { IsGrid tree.now id.key }
-    requires children { AreMeasured tree.now id.key children.now }
-    ensures { AreTracks (needs_for axis tree.now id.key) (rules_of axis (row_for tree.now id.key)) result }
-{
-    let asked = all_asked(axis, children);
-    tracks_of(tree, id, axis, &asked)
-}
-
-/// The least length along the axis of a Grid with these children.
-fn grid_length(tree: &Tree, id: Id, axis: Axis, children: &[Child]) -> u32
-    requires valid { IsWidgets tree.now }
-    requires grid { IsGrid tree.now id.key }
-    requires children { AreMeasured tree.now id.key children.now }
+    requires asked { AreAsked (needs_for axis tree.now id.key) asked.now }
     ensures { result ≡ least_of (rows_of tree.now) axis (row_for tree.now id.key) }
 {
-    let tracks = grid_tracks(tree, id, axis, children);
+    let tracks = tracks_of(tree, id, axis, asked);
     least_length(&tracks)
 }
 
-/// The children of the widget, measured.
+/// The widget as a measured child.
 #[cycle(least)]
-pub(crate) fn measured(tree: &Tree, known: &mut Known, most: u32, id: Id) -> ArrayVec<Child, 256>
+pub(crate) fn as_child(tree: &Tree, known: &mut Known, most: u32, id: Id) -> Child
     requires valid { IsWidgets tree.now }
     requires live { IsLive tree.now id.key }
     requires deep { IsDeep tree.now most id.key }
     requires known { AreKnown tree.now known.old.sizes }
-    ensures children { AreMeasured tree.now id.key result.items }
+    ensures child { result ≡ child_for tree.now id.key }
     ensures known { AreKnown tree.now known.new.sizes }
 {
-    let keys = child_keys(tree, id);
-    let mut children = ArrayVec::new();
-    for key in keys.as_slice() {
-        let kid = Id { key: *key };
-        let child = Child {
-            key: *key,
-            cell: cell_of(tree, kid),
-            least: least(tree, known, most - 1, kid),
-        };
-        children.push(child);
+    let cell = cell_of(tree, id);
+    let least = least(tree, known, most, id);
+    Child {
+        key: id.key,
+        cell,
+        least,
     }
-    children
+}
+
+/// What the children of the widget, with these numbers, ask for.
+#[cycle(least)]
+pub(crate) fn asked_by(tree: &Tree, known: &mut Known, most: u32, id: Id, keys: &[u32]) -> BothAsked
+    requires valid { IsWidgets tree.now }
+    requires live { IsLive tree.now id.key }
+    requires deep { IsDeep tree.now most id.key }
+    requires known { AreKnown tree.now known.old.sizes }
+    requires children { AreChildren tree.now id.key keys.now }
+    ensures across { AreAsked (needs_for Across tree.now id.key) result.across }
+    ensures down { AreAsked (needs_for Down tree.now id.key) result.down }
+    ensures known { AreKnown tree.now known.new.sizes }
+{
+    let mut across = none_asked();
+    let mut down = none_asked();
+    for key in keys {
+        let child = as_child(tree, known, most - 1, Id { key: *key });
+        raise(&mut across, Axis::Across, child);
+        raise(&mut down, Axis::Down, child);
+    }
+    BothAsked { across, down }
 }
 
 /// The least size of the widget. It is worked out once, and then known.
@@ -115,9 +120,10 @@ fn grid_size(tree: &Tree, known: &mut Known, most: u32, id: Id) -> Size
     ensures size { result ≡ size_for tree.now id.key }
     ensures known { AreKnown tree.now known.new.sizes }
 {
-    let children = measured(tree, known, most, id);
-    let w = grid_length(tree, id, Axis::Across, children.as_slice());
-    let h = grid_length(tree, id, Axis::Down, children.as_slice());
+    let keys = child_keys(tree, id);
+    let asked = asked_by(tree, known, most, id, keys.as_slice());
+    let w = grid_length(tree, id, Axis::Across, &asked.across);
+    let h = grid_length(tree, id, Axis::Down, &asked.down);
     Size { w, h }
 }
 

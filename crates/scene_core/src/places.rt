@@ -9,14 +9,16 @@ ghost use Rattle.widget_model.specs.Widgets.{IsLive, rows_of, row_at, row_kind};
 ghost use Rattle.scene_model.specs.declared.axis.Axis.TheVariants.{Across, Down};
 ghost use Rattle.scene_model.specs.Placing.{place_in};
 ghost use Rattle.scene_model.specs.Spans.{rect_of, span_of};
-ghost use Rattle.scene_core.specs.Children.{row_for, child_for, AreKnown, AreMeasured};
+ghost use Rattle.scene_core.specs.Children.{row_for, child_for, needs_for, AreKnown};
+ghost use Rattle.scene_core.specs.Measured.{AreAsked};
 ghost use Rattle.scene_core.specs.Places.{IsInWindow};
 ghost use Rattle.scene_core.specs.Sides.{IsSide};
 
+use crate::asked::BothAsked;
 use crate::child::Child;
+use crate::children::child_keys;
 use crate::known::Known;
-use crate::least::{least, measured, most_levels};
-use crate::reading::cell_of;
+use crate::least::{as_child, asked_by, most_levels};
 use crate::sides::{Side, child_span, side_of, window_span};
 use geom_core::Rect;
 use scene_model::{Axis, Span};
@@ -57,11 +59,12 @@ fn span_of(axis: Axis, place: Rect) -> Span
     }
 }
 
-/// Both axes of a widget that has this place and these children.
-pub(crate) fn sides_of(tree: &Tree, id: Id, place: Rect, children: &[Child]) -> Sides
+/// Both axes of a widget that has this place, where its children ask for this.
+pub(crate) fn sides_of(tree: &Tree, id: Id, place: Rect, asked: &BothAsked) -> Sides
     requires valid { IsWidgets tree.now }
     requires live { IsLive tree.now id.key }
-    requires children { AreMeasured tree.now id.key children.now }
+    requires asked_across { AreAsked (needs_for Across tree.now id.key) asked.now.across }
+    requires asked_down { AreAsked (needs_for Down tree.now id.key) asked.now.down }
     requires place { place ≡ place_in (rows_of tree.now) (row_for tree.now id.key) }
     ensures across { IsSide Across tree.now id.key result.across }
     ensures down { IsSide Down tree.now id.key result.down }
@@ -69,8 +72,8 @@ pub(crate) fn sides_of(tree: &Tree, id: Id, place: Rect, children: &[Child]) -> 
     let across = span_of(Axis::Across, place);
     let down = span_of(Axis::Down, place);
     Sides {
-        across: side_of(tree, id, Axis::Across, across, children),
-        down: side_of(tree, id, Axis::Down, down, children),
+        across: side_of(tree, id, Axis::Across, across, &asked.across),
+        down: side_of(tree, id, Axis::Down, down, &asked.down),
     }
 }
 
@@ -100,23 +103,6 @@ pub(crate) fn window_place(tree: &Tree, id: Id) -> Rect
     rect_of(across, down)
 }
 
-/// The widget as a measured child.
-fn as_child(tree: &Tree, known: &mut Known, id: Id) -> Child
-    requires valid { IsWidgets tree.now }
-    requires live { IsLive tree.now id.key }
-    requires known { AreKnown tree.now known.old.sizes }
-    ensures child { result ≡ child_for tree.now id.key }
-    ensures known { AreKnown tree.now known.new.sizes }
-{
-    let cell = cell_of(tree, id);
-    let least = least(tree, known, most_levels(), id);
-    Child {
-        key: id.key,
-        cell,
-        least,
-    }
-}
-
 /// The place of the widget, where going up from it ends within so many levels.
 fn place_up(tree: &Tree, known: &mut Known, most: u32, id: Id) -> Rect
     requires valid { IsWidgets tree.now }
@@ -130,9 +116,10 @@ fn place_up(tree: &Tree, known: &mut Known, most: u32, id: Id) -> Rect
     match tree.parent(id) {
         Some(parent) => {
             let place = place_up(tree, known, most - 1, parent);
-            let children = measured(tree, known, most_levels(), parent);
-            let sides = sides_of(tree, parent, place, children.as_slice());
-            let child = as_child(tree, known, id);
+            let keys = child_keys(tree, parent);
+            let asked = asked_by(tree, known, most_levels(), parent, keys.as_slice());
+            let sides = sides_of(tree, parent, place, &asked);
+            let child = as_child(tree, known, most_levels(), id);
             child_place(tree, parent, &sides, &child)
         }
         None => window_place(tree, id),

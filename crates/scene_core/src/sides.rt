@@ -5,25 +5,26 @@ ghost use Rattle.widget_model.specs.Relatives.{parent_id};
 ghost use Rattle.widget_model.specs.Widgets.{IsLive, rows_of};
 ghost use Rattle.scene_model.specs.Placing.{span_along, window_span};
 ghost use Rattle.scene_model.specs.Values.{offset_of};
-ghost use Rattle.scene_core.specs.Children.{row_for, child_for, AreMeasured};
+ghost use Rattle.scene_core.specs.Children.{row_for, child_for, needs_for};
+ghost use Rattle.scene_core.specs.Measured.{AreAsked};
 ghost use Rattle.widget_model.specs.Forest.{IsWidgets};
 ghost use Rattle.scene_core.specs.Sides.{IsSide};
 
-use crate::asked::{side, track_of};
+use crate::asked::{Asked, side, track_of};
 use crate::child::Child;
-use crate::least::grid_tracks;
 use crate::own::count_of;
 use crate::reading::{kind_of, linked_value, number_of};
 use crate::spans::{content, framed, inset, track_span};
-use crate::tracks::lengths_in;
+use crate::tracks::{lengths_in, tracks_of};
 use kind_core::{Attr, Kind};
 use scene_model::{Axis, Span};
 use tree_core::{Id, Tree};
 
-/// One axis of a widget with children: its span, by how much a Frame moves its child to the left or up, and the lengths
+/// One axis of a widget with children: its kind, its span, by how much a Frame moves its child to the left or up, and the lengths
 /// of a Grid's tracks in use, the first at index 0.
 #[derive(Clone, Copy)]
 pub(crate) struct Side {
+    pub(crate) kind: Kind,
     pub(crate) span: Span,
     pub(crate) offset: i32,
     pub(crate) used: usize,
@@ -81,18 +82,20 @@ pub(crate) fn window_span(tree: &Tree, id: Id, axis: Axis) -> Span
     }
 }
 
-/// One axis of a widget that has this span and these children.
-pub(crate) fn side_of(tree: &Tree, id: Id, axis: Axis, span: Span, children: &[Child]) -> Side
+/// One axis of a widget that has this span, where its children ask for this.
+pub(crate) fn side_of(tree: &Tree, id: Id, axis: Axis, span: Span, asked: &Asked) -> Side
     requires valid { IsWidgets tree.now }
     requires live { IsLive tree.now id.key }
-    requires children { AreMeasured tree.now id.key children.now }
+    requires asked { AreAsked (needs_for axis tree.now id.key) asked.now }
     requires span { span ≡ span_along (rows_of tree.now) axis (row_for tree.now id.key) }
     ensures { IsSide axis tree.now id.key result }
 {
-    match kind_of(tree, id) {
+    let kind = kind_of(tree, id);
+    match kind {
         Kind::Grid => {
-            let tracks = grid_tracks(tree, id, axis, children);
+            let tracks = tracks_of(tree, id, axis, asked);
             Side {
+                kind,
                 span,
                 offset: 0,
                 used: tracks.used,
@@ -100,12 +103,14 @@ pub(crate) fn side_of(tree: &Tree, id: Id, axis: Axis, span: Span, children: &[C
             }
         }
         Kind::Frame => Side {
+            kind,
             span,
             offset: offset_of(tree, id, axis),
             used: 0,
             lengths: [0; 16],
         },
         _ => Side {
+            kind,
             span,
             offset: 0,
             used: 0,
@@ -124,7 +129,7 @@ pub(crate) fn child_span(tree: &Tree, id: Id, axis: Axis, whole: &Side, child: &
     ensures { result ≡ span_along (rows_of tree.now) axis (row_for tree.now child.now.key) }
 {
     let pad = child.cell.pad;
-    match kind_of(tree, id) {
+    match whole.kind {
         Kind::Window => inset(pad, content(axis, whole.span)),
         Kind::Grid => inset(
             pad,

@@ -1,11 +1,11 @@
 //! The tracks of a Grid along one axis.
-ghost use Rattle.std.specs.Prelude.{◌≡◌, ◌≤◌, ◌<◌, ◌+◌, ℕ, ◌||◌, nat_lt, take, sum, min, max, All, slice_index, slice_set, if◌then◌else◌};
+ghost use Rattle.std.specs.Prelude.{◌≡◌, ◌≤◌, ◌<◌, ◌+◌, ◌||◌, nat_lt, take, sum, min, max, All, slice_set, if◌then◌else◌};
 ghost use Rattle.grid_layout.specs.Spread.{widths_of};
 ghost use Rattle.widget_model.specs.Widgets.{IsGrid};
-ghost use Rattle.scene_model.specs.Tracks.{asked_in, last_asked, rules_of};
+ghost use Rattle.scene_model.specs.Tracks.{rules_of};
 ghost use Rattle.widget_model.specs.Forest.{IsWidgets};
 ghost use Rattle.scene_core.specs.Children.{row_for, needs_for};
-ghost use Rattle.scene_core.specs.Measured.{AreTracks};
+ghost use Rattle.scene_core.specs.Measured.{AreAsked, AreTracks};
 
 use crate::asked::Asked;
 use crate::reading::rule_of;
@@ -70,8 +70,7 @@ fn set_track(tracks: &mut Tracks, index: usize, rule: (u32, u32), room: u32)
 pub(crate) fn tracks_of(tree: &Tree, id: Id, axis: Axis, asked: &Asked) -> Tracks
     requires valid { IsWidgets tree.now }
     requires grid { IsGrid tree.now id.key }
-    requires rooms { (index : ℕ) → index < 16 → slice_index asked.now.rooms index ≡ asked_in (needs_for axis tree.now id.key) (index + 1) }
-    requires last { asked.now.last ≡ last_asked (needs_for axis tree.now id.key) }
+    requires asked { AreAsked (needs_for axis tree.now id.key) asked.now }
     ensures { AreTracks (needs_for axis tree.now id.key) (rules_of axis (row_for tree.now id.key)) result }
 {
     let mut tracks = Tracks {

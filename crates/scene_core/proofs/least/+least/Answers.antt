@@ -1,56 +1,60 @@
-use Rattle.std.proofs.Common.{◌∙◌, ◌-◌, ◌<◌, ◌≤◌, ◌++◌, ◌∷◌, [], ℕ, List, length, map, get_or, sym, ap, arith, subst}
-use Rattle.std.proofs.lemmas.List.{map_more, take_all}
+use Rattle.std.proofs.Common.{◌≡◌, ◌-◌, ◌≤◌, ◌∙◌, ℕ, List, Some, get_or, sym, ap, arith, subst}
+use Rattle.widget_model.specs.Relatives.{parent_id}
+use Rattle.scene_model.specs.declared.axis.Axis.TheVariants.{Across, Down}
 use Rattle.scene_core.specs.declared.child.Child.{Child}
 use Rattle.scene_core.specs.Children.{child_for, AreKnown, AreChildren}
+use Rattle.scene_core.specs.Measured.{IsMeasured}
 use Rattle.scene_core.proofs.Numbered.{kind-grid}
-use Rattle.scene_core.proofs.LeastSteps.{deep-child, child-live, known-put}
-use Rattle.scene_core.proofs.Measures.{deep-some, deep-suc, child-same, length-made, size-own}
+use Rattle.scene_core.proofs.AskedSteps.{asked-more, asked-all}
+use Rattle.scene_core.proofs.LeastSteps.{deep-child, child-live, child-measured, known-put}
+use Rattle.scene_core.proofs.Measures.{deep-some, deep-suc, child-same, size-own}
 use Rattle.scene_core.proofs.least.+least.Goals as goal
 
-pub measured-overflow_sub-most : goal.measured-overflow_sub-most
-measured-overflow_sub-most t c = deep-some c.args.tree.now c.args.most c.args.id.key c.requires.valid c.requires.live c.requires.deep
-
-pub measured-least-requires : goal.measured-least-requires
-measured-least-requires t c =
-    let some_more = deep-some c.args.tree.now c.args.most c.args.id.key c.requires.valid c.requires.live c.requires.deep in
-    let each : AreChildren c.args.tree.now c.args.id.key c.as_slice-key-items.result.now = subst (λ (xs : List ℕ). AreChildren c.args.tree.now c.args.id.key xs) (sym c.as_slice-key-items.ensures.value) c.child_keys-keys.ensures.children in
-    let parent = each.each c.loop-key.key-index 0 c.loop-key-test.true in
-    let kid = get_or c.as_slice-key-items.result.now c.loop-key.key-index 0 in
-    let live = child-live c.args.tree.now c.args.id.key kid c.requires.valid parent in
-    let deep = deep-child c.args.tree.now (c.args.most - 1) c.args.id.key kid c.requires.valid (deep-suc c.args.tree.now c.args.most c.args.id.key some_more c.requires.deep) live parent in
-    (omega arith, (c.requires.valid, (live, (deep, c.loop-key.invariant.known))))
-
-pub measured-push-requires : goal.measured-push-requires
-measured-push-requires t c =
-    let made = length-made (child_for c.args.tree.now) c.as_slice-key-items.result.now c.loop-key.key-index c.loop-key.children.items c.loop-key.invariant.children (omega (arith, c.loop-key-test.true)) in
-    let few : length c.as_slice-key-items.result.now ≤ 256 = omega (arith, ap length c.as_slice-key-items.ensures.value, c.child_keys-keys.ensures.few) in
-    let small : length c.loop-key.children.items < 256 = omega (arith, made, few, c.loop-key-test.true) in
-    (omega arith, small)
-
-pub measured-loop-key-init : goal.measured-loop-key-init
-measured-loop-key-init t c = record { children = c.new-children.ensures; known = c.requires.known }
-
-pub measured-loop-key-preserved : goal.measured-loop-key-preserved
-measured-loop-key-preserved t c =
-    let kid = get_or c.as_slice-key-items.result.now c.loop-key.key-index 0 in
-    record {
-      children = c.push.ensures.items
-          ∙ ap (λ (child : Child). c.loop-key.children.items ++ child ∷ []) (child-same c.args.tree.now kid c.cell_of.result c.least.result c.cell_of.ensures c.least.ensures.size)
-          ∙ ap (λ (xs : List Child). xs ++ child_for c.args.tree.now kid ∷ []) c.loop-key.invariant.children
-          ∙ sym (map_more (child_for c.args.tree.now) c.as_slice-key-items.result.now c.loop-key.key-index 0 c.loop-key-test.true);
-      known = c.least.ensures.known;
-    }
-
-pub measured-returns-clause-children : goal.measured-returns-clause-children
-measured-returns-clause-children t c = record {
-  keys = c.child_keys-keys.result.items;
-  each = c.child_keys-keys.ensures.children;
-  measured = c.loop-key.invariant.children
-      ∙ ap (map (child_for c.args.tree.now)) (take_all c.loop-key.key-index c.as_slice-key-items.result.now c.loop-key-test.false ∙ c.as_slice-key-items.ensures.value);
+pub as_child-returns : goal.as_child-returns
+as_child-returns t c = record {
+  child = child-same c.args.tree.now c.args.id.key c.cell_of-cell.result c.least-least.result c.cell_of-cell.ensures c.least-least.ensures.size;
+  known = c.least-least.ensures.known;
 }
 
-pub measured-returns-clause-known : goal.measured-returns-clause-known
-measured-returns-clause-known t c = c.loop-key.invariant.known
+pub asked_by-overflow_sub-most : goal.asked_by-overflow_sub-most
+asked_by-overflow_sub-most t c = deep-some c.args.tree.now c.args.most c.args.id.key c.requires.valid c.requires.live c.requires.deep
+
+pub asked_by-as_child-child-requires : goal.asked_by-as_child-child-requires
+asked_by-as_child-child-requires t c =
+    let w = c.args.tree.now in
+    let some_more = deep-some w c.args.most c.args.id.key c.requires.valid c.requires.live c.requires.deep in
+    let kid = get_or c.args.keys.now c.loop-key.key-index 0 in
+    let parent : parent_id w kid ≡ Some c.args.id.key = c.requires.children.each c.loop-key.key-index 0 c.loop-key-test.true in
+    let live = child-live w c.args.id.key kid c.requires.valid parent in
+    let deep = deep-child w (c.args.most - 1) c.args.id.key kid c.requires.valid (deep-suc w c.args.most c.args.id.key some_more c.requires.deep) live parent in
+    (omega (arith, some_more), (c.requires.valid, (live, (deep, c.loop-key.invariant.known))))
+
+pub asked_by-raise-requires : goal.asked_by-raise-requires
+asked_by-raise-requires t c =
+    let kid = get_or c.args.keys.now c.loop-key.key-index 0 in
+    subst IsMeasured (sym c.as_child-child.ensures.child) (child-measured c.args.tree.now c.args.id.key kid c.requires.valid (c.requires.children.each c.loop-key.key-index 0 c.loop-key-test.true))
+
+pub asked_by-raise-requires-in-loop-key : goal.asked_by-raise-requires-in-loop-key
+asked_by-raise-requires-in-loop-key t c =
+    let kid = get_or c.args.keys.now c.loop-key.key-index 0 in
+    subst IsMeasured (sym c.as_child-child.ensures.child) (child-measured c.args.tree.now c.args.id.key kid c.requires.valid (c.requires.children.each c.loop-key.key-index 0 c.loop-key-test.true))
+
+pub asked_by-loop-key-preserved : goal.asked_by-loop-key-preserved
+asked_by-loop-key-preserved t c =
+    let i = c.loop-key.key-index in
+    let less = c.loop-key-test.true in
+    record {
+      across = asked-more Across c.args.tree.now c.args.keys.now i c.as_child-child.result c.loop-key.across c.raise.new.asked less c.as_child-child.ensures.child c.raise.ensures.rooms c.raise.ensures.last c.loop-key.invariant.across;
+      down = asked-more Down c.args.tree.now c.args.keys.now i c.as_child-child.result c.loop-key.down c.raise-in-loop-key.new.asked less c.as_child-child.ensures.child c.raise-in-loop-key.ensures.rooms c.raise-in-loop-key.ensures.last c.loop-key.invariant.down;
+      known = c.as_child-child.ensures.known;
+    }
+
+pub asked_by-returns : goal.asked_by-returns
+asked_by-returns t c = record {
+  across = asked-all Across c.args.tree.now c.args.id.key c.args.keys.now c.loop-key.key-index c.loop-key.across c.requires.valid c.requires.live c.requires.children c.loop-key-test.false c.loop-key.invariant.across;
+  down = asked-all Down c.args.tree.now c.args.id.key c.args.keys.now c.loop-key.key-index c.loop-key.down c.requires.valid c.requires.live c.requires.children c.loop-key-test.false c.loop-key.invariant.down;
+  known = c.loop-key.invariant.known;
+}
 
 pub least-returns : goal.least-returns
 least-returns t c = record {

@@ -7,5 +7,5 @@ use Rattle.scene_core.proofs.least.grid_length.Goals as goal
 
 pub returns : goal.returns
 returns c =
-    length-read _ _ c.grid_tracks-tracks.result c.least_length.result c.grid_tracks-tracks.ensures c.least_length.ensures
+    length-read _ _ c.tracks_of-tracks.result c.least_length.result c.tracks_of-tracks.ensures c.least_length.ensures
     ∙ sym (least-grid c.args.tree.now c.args.id.key c.args.axis c.requires.valid (grid-live c.args.tree.now c.args.id.key c.requires.grid) (ap is_grid (grid-kind c.args.tree.now c.args.id.key c.requires.grid)))

@@ -15,15 +15,15 @@ use Rattle.scene_core.proofs.sides.child_span.Goals as goal
 pub returns-in-Window : goal.returns-in-Window
 returns-in-Window c =
     in-window c.args.tree.now c.args.id.key c.args.child.now.key c.args.axis c.requires.valid c.requires.live c.requires.parent c.args.whole.now.span c.inset.result c.args.child.now.cell.pad
-    c.requires.side.span (ap (λ (child : Child). child.cell.pad) c.requires.child) (sym c.kind_of.ensures ∙ c.in-Window.is)
+    c.requires.side.span (ap (λ (child : Child). child.cell.pad) c.requires.child) (sym c.requires.side.kind ∙ c.in-Window.is)
     (c.inset.ensures ∙ ap (λ (s : Span). inset c.args.child.now.cell.pad s) c.content.ensures)
 
 pub returns-in-Frame : goal.returns-in-Frame
 returns-in-Frame c =
     let plain : to_z w32 (of_z w32 c.args.whole.now.offset) ≡ c.args.whole.now.offset = to_z-of_z w32 c.args.whole.now.offset (search rules) in
     in-frame c.args.tree.now c.args.id.key c.args.child.now.key c.args.axis c.requires.valid c.requires.live c.requires.parent c.args.whole.now.span c.framed.result c.args.child.now.cell.pad
-    c.requires.side.span (ap (λ (child : Child). child.cell.pad) c.requires.child) c.args.whole.now.offset c.side.result (sym c.kind_of.ensures ∙ c.in-Frame.is)
-    (c.requires.side.offset (sym c.kind_of.ensures ∙ c.in-Frame.is))
+    c.requires.side.span (ap (λ (child : Child). child.cell.pad) c.requires.child) c.args.whole.now.offset c.side.result (sym c.requires.side.kind ∙ c.in-Frame.is)
+    (c.requires.side.offset (sym c.requires.side.kind ∙ c.in-Frame.is))
     (c.side.ensures ∙ ap (λ (child : Child). side c.args.axis child.least) c.requires.child ∙ side-size c.args.axis c.args.tree.now c.args.child.now.key)
     (c.framed.ensures ∙ ap (λ (z : ℤ). framed c.args.child.now.cell.pad z c.side.result c.args.whole.now.span) plain)
 
@@ -31,7 +31,7 @@ pub returns-in-Grid : goal.returns-in-Grid
 returns-in-Grid c =
     let w = c.args.tree.now in
     let lengths = take c.args.whole.now.used c.args.whole.now.lengths in
-    let grid = sym c.kind_of.ensures ∙ c.in-Grid.is in
+    let grid = sym c.requires.side.kind ∙ c.in-Grid.is in
     let tracks = c.requires.side.tracks grid in
     in-grid w c.args.id.key c.args.child.now.key c.args.axis c.requires.valid c.requires.live c.requires.parent c.args.whole.now.span c.inset-in-Grid.result c.args.child.now.cell.pad
     c.requires.side.span (ap (λ (child : Child). child.cell.pad) c.requires.child) lengths grid tracks.lengths
@@ -43,8 +43,8 @@ returns-in_default c =
     let w = c.args.tree.now in
     let span = span_along (rows_of w) c.args.axis (row_for w c.args.id.key) in
     sym (span-child w c.args.id.key c.args.child.now.key c.args.axis c.requires.valid c.requires.live c.requires.parent
-    ∙ ap (λ k. child_span k c.args.axis (rows_of w) (row_for w c.args.id.key) span (row_for w c.args.child.now.key)) (sym c.kind_of.ensures)
-    ∙ other-span c.kind_of.result c.args.axis (rows_of w) (row_for w c.args.id.key) span (row_for w c.args.child.now.key) c.in_default.not-Window c.in_default.not-Grid c.in_default.not-Frame)
+    ∙ ap (λ k. child_span k c.args.axis (rows_of w) (row_for w c.args.id.key) span (row_for w c.args.child.now.key)) (sym c.requires.side.kind)
+    ∙ other-span c.args.whole.now.kind c.args.axis (rows_of w) (row_for w c.args.id.key) span (row_for w c.args.child.now.key) c.in_default.not-Window c.in_default.not-Grid c.in_default.not-Frame)
 
 pub content-requires-clause-low : goal.content-requires-clause-low
 content-requires-clause-low c =
@@ -80,13 +80,13 @@ track_span-requires-clause-first c =
 
 pub track_span-requires-clause-last : goal.track_span-requires-clause-last
 track_span-requires-clause-last c =
-    let tracks = c.requires.side.tracks (sym c.kind_of.ensures ∙ c.in-Grid.is) in
+    let tracks = c.requires.side.tracks (sym c.requires.side.kind ∙ c.in-Grid.is) in
     let within = track-within c.args.axis c.args.tree.now c.args.id.key c.args.child.now c.args.whole.now c.requires.valid c.requires.parent c.requires.child tracks in
     omega (arith, within, c.track_of.ensures, used-length c.args.whole.now tracks.few (let e : length c.args.whole.now.lengths ≡ 16 = search rules in e))
 
 pub track_span-requires-clause-short : goal.track_span-requires-clause-short
 track_span-requires-clause-short c =
-    let tracks = c.requires.side.tracks (sym c.kind_of.ensures ∙ c.in-Grid.is) in
+    let tracks = c.requires.side.tracks (sym c.requires.side.kind ∙ c.in-Grid.is) in
     lengths-short c.args.axis c.args.tree.now c.args.id.key c.args.whole.now c.requires.valid c.requires.live c.requires.side.span tracks
 
 pub track_span-requires-clause-low : goal.track_span-requires-clause-low
@@ -106,7 +106,7 @@ inset-requires-in-Grid-clause-pad c =
 
 pub inset-requires-in-Grid-clause-low : goal.inset-requires-in-Grid-clause-low
 inset-requires-in-Grid-clause-low c =
-    let tracks = c.requires.side.tracks (sym c.kind_of.ensures ∙ c.in-Grid.is) in
+    let tracks = c.requires.side.tracks (sym c.requires.side.kind ∙ c.in-Grid.is) in
     let near = whole-near c.args.tree.now c.args.id.key c.args.axis c.args.whole.now.span c.requires.valid c.requires.live c.requires.side.span in
     let lengths = take c.args.whole.now.used c.args.whole.now.lengths in
     let short = lengths-short c.args.axis c.args.tree.now c.args.id.key c.args.whole.now c.requires.valid c.requires.live c.requires.side.span tracks in
@@ -115,7 +115,7 @@ inset-requires-in-Grid-clause-low c =
 
 pub inset-requires-in-Grid-clause-high : goal.inset-requires-in-Grid-clause-high
 inset-requires-in-Grid-clause-high c =
-    let tracks = c.requires.side.tracks (sym c.kind_of.ensures ∙ c.in-Grid.is) in
+    let tracks = c.requires.side.tracks (sym c.requires.side.kind ∙ c.in-Grid.is) in
     let near = whole-near c.args.tree.now c.args.id.key c.args.axis c.args.whole.now.span c.requires.valid c.requires.live c.requires.side.span in
     let lengths = take c.args.whole.now.used c.args.whole.now.lengths in
     let short = lengths-short c.args.axis c.args.tree.now c.args.id.key c.args.whole.now c.requires.valid c.requires.live c.requires.side.span tracks in
@@ -129,14 +129,14 @@ framed-requires-clause-pad c =
 
 pub framed-requires-clause-left : goal.framed-requires-clause-left
 framed-requires-clause-left c =
-    let frame = sym c.kind_of.ensures ∙ c.in-Frame.is in
+    let frame = sym c.requires.side.kind ∙ c.in-Frame.is in
     let plain : to_z w32 (of_z w32 c.args.whole.now.offset) ≡ c.args.whole.now.offset = to_z-of_z w32 c.args.whole.now.offset (search rules) in
     let moved = moved-between c.args.axis c.args.tree.now c.args.id.key c.args.whole.now.offset c.requires.valid c.requires.live frame (c.requires.side.offset frame) in
     rw plain moved.low
 
 pub framed-requires-clause-right : goal.framed-requires-clause-right
 framed-requires-clause-right c =
-    let frame = sym c.kind_of.ensures ∙ c.in-Frame.is in
+    let frame = sym c.requires.side.kind ∙ c.in-Frame.is in
     let plain : to_z w32 (of_z w32 c.args.whole.now.offset) ≡ c.args.whole.now.offset = to_z-of_z w32 c.args.whole.now.offset (search rules) in
     let moved = moved-between c.args.axis c.args.tree.now c.args.id.key c.args.whole.now.offset c.requires.valid c.requires.live frame (c.requires.side.offset frame) in
     rw plain moved.high

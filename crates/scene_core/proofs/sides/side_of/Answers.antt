@@ -5,8 +5,8 @@ use Rattle.scene_core.proofs.Numbered.{kind-grid}
 use Rattle.scene_core.proofs.SideSteps.{span-near, lengths-read}
 use Rattle.scene_core.proofs.sides.side_of.Goals as goal
 
-pub grid_tracks-tracks-requires-clause-grid : goal.grid_tracks-tracks-requires-clause-grid
-grid_tracks-tracks-requires-clause-grid c = kind-grid c.args.tree.now c.args.id.key c.requires.live (sym c.kind_of.ensures ∙ c.in-Grid.is)
+pub tracks_of-tracks-requires-clause-grid : goal.tracks_of-tracks-requires-clause-grid
+tracks_of-tracks-requires-clause-grid c = kind-grid c.args.tree.now c.args.id.key c.requires.live (sym c.kind_of-kind.ensures ∙ c.in-Grid.is)
 
 pub lengths_in-requires-clause-room_small : goal.lengths_in-requires-clause-room_small
 lengths_in-requires-clause-room_small c =
@@ -15,11 +15,12 @@ lengths_in-requires-clause-room_small c =
 
 pub returns-in-Grid : goal.returns-in-Grid
 returns-in-Grid c = record {
+  kind = c.kind_of-kind.ensures;
   span = c.requires.span;
-  offset = λ frame. let other : c.kind_of.result ≡ Frame = c.kind_of.ensures ∙ frame in absurd (let grid = c.in-Grid.is in cc);
+  offset = λ frame. let other : c.kind_of-kind.result ≡ Frame = c.kind_of-kind.ensures ∙ frame in absurd (let grid = c.in-Grid.is in cc);
   tracks = λ grid. record {
-    few = c.grid_tracks-tracks.ensures.few;
-    used = c.grid_tracks-tracks.ensures.used;
-    lengths = lengths-read _ _ c.grid_tracks-tracks.result c.lengths_in.result c.args.span.len c.grid_tracks-tracks.ensures c.lengths_in.ensures;
+    few = c.tracks_of-tracks.ensures.few;
+    used = c.tracks_of-tracks.ensures.used;
+    lengths = lengths-read _ _ c.tracks_of-tracks.result c.lengths_in.result c.args.span.len c.tracks_of-tracks.ensures c.lengths_in.ensures;
   };
 }

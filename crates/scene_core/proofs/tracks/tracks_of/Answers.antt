@@ -19,7 +19,7 @@ loop-index-preserved c =
     let i = c.loop-index.index in
     let less : i < 16 = c.loop-index-test.true in
     let at : max c.rule_of-rule.result.0 (get_or c.args.asked.now.rooms i 0) ≡ track_least needs rules (i + 1) =
-    ap (λ r. max r.0 (get_or c.args.asked.now.rooms i 0)) c.rule_of-rule.ensures ∙ ap (λ n. max (rule_of rules (i + 1)).0 n) (c.requires.rooms i less) in
+    ap (λ r. max r.0 (get_or c.args.asked.now.rooms i 0)) c.rule_of-rule.ensures ∙ ap (λ n. max (rule_of rules (i + 1)).0 n) (c.requires.asked.rooms i less) in
     record {
       long = ap length c.set_track.ensures.least ∙ length-set c.loop-index.tracks.least i _ ∙ c.loop-index.invariant.long;
       heavy = ap length c.set_track.ensures.weights ∙ length-set c.loop-index.tracks.weights i _ ∙ c.loop-index.invariant.heavy;
