@@ -1,8 +1,7 @@
 -- Kept places change as widgets are laid out; their rows stay.
-use Rattle.std.proofs.Common.{◌≡◌, ℕ, zero, suc, ◌+◌, ◌-◌, ◌<◌, ◌≤◌, true, false, List, [], ◌∷◌, length, map, get_or, slice_get, Option, Some, None, nat_eq, refl, sym, ap, ◌∙◌, arith, subst, inl, inr}
+use Rattle.std.proofs.Common.{◌≡◌, ℕ, zero, suc, ◌+◌, ◌-◌, ◌<◌, ◌≤◌, true, false, List, [], ◌∷◌, length, get_or, slice_get, Option, Some, None, IfSome, nat_eq, refl, sym, ap, ◌∙◌, arith, subst, inl, inr}
 use Rattle.std.proofs.lemmas.Bool.{cases_eq, cases_lt, ne_eqb, true≢false}
-use Rattle.std.proofs.lemmas.List.Elements.{All-head, All-tail, All-nil}
-use Rattle.std.specs.List.{All}
+use Rattle.std.proofs.lemmas.List.Elements.{All-nil}
 use Rattle.std.specs.Option.{option_map}
 use Rattle.geom_core.specs.declared.rectangle.Rect.{Rect}
 use Rattle.kind_core.specs.declared.kinds.Kind.{Kind}
@@ -15,10 +14,11 @@ use Rattle.widget_model.specs.Widgets.{Widgets, rows_of, row_at, place_at, with_
 use Rattle.widget_model.specs.Forest.{IsWidgets}
 use Rattle.scene_model.specs.declared.axis.Axis.{Axis}
 use Rattle.scene_model.specs.Placing.{place_in}
-use Rattle.scene_core.specs.declared.child.Child.{Child}
 use Rattle.scene_core.specs.declared.sides.Side.{Side}
-use Rattle.scene_core.specs.declared.size.Size.{Size}
-use Rattle.scene_core.specs.Children.{row_for, child_for, needs_for, AreKnown, AreChildren, IsDeep}
+use Rattle.scene_core.specs.declared.known.Known.{Known}
+use Rattle.scene_core.specs.declared.tracks.BothTracks.{BothTracks}
+use Rattle.scene_core.specs.Children.{row_for, child_for, AreChildren, IsDeep}
+use Rattle.scene_core.specs.Known.{AreKnown, AreBothTracks}
 use Rattle.scene_core.specs.Places.{HasPlaces}
 use Rattle.scene_core.specs.Sides.{IsSide}
 use Rattle.scene_core.specs.Laid.{with_places, due, IsBelow, AreReplaced, AreLaid}
@@ -27,19 +27,31 @@ use Rattle.scene_core.proofs.ChildNumbers.{parent_id-found}
 use Rattle.scene_core.proofs.Tops.{root-child}
 use Rattle.scene_core.proofs.Roots.{root-alone, ends-some, ends-up, ends-live, parent-live, rooted-live}
 
+if-some : {X : Type 0} {P Q : X → Type 0} → ((x : X) → P x → Q x) → (o : Option X) → IfSome o P → IfSome o Q
+if-some f None h = tt
+if-some f (Some x) h = f x h
+
 -- What rows alone say holds whatever places are kept.
 module _ (places : List (Option Rect)) (widgets : Widgets) where
   deep-places : (most id : ℕ) → IsDeep widgets most id → IsDeep (with_places places widgets) most id
   unfolding row_for
   deep-places most id deep = record { upper = deep.upper; within = deep.within }
 
-  known-places : (sizes : List (Option Size)) → AreKnown widgets sizes → AreKnown (with_places places widgets) sizes
+  both-places : (id : ℕ) (tracks : BothTracks) → AreBothTracks widgets id tracks → AreBothTracks (with_places places widgets) id tracks
   unfolding row_for
-  known-places sizes known id = known id
+  both-places id tracks are = record { across = are.across; down = are.down }
 
-  known-kept : (sizes : List (Option Size)) → AreKnown (with_places places widgets) sizes → AreKnown widgets sizes
+  both-kept : (id : ℕ) (tracks : BothTracks) → AreBothTracks (with_places places widgets) id tracks → AreBothTracks widgets id tracks
   unfolding row_for
-  known-kept sizes known id = known id
+  both-kept id tracks are = record { across = are.across; down = are.down }
+
+  known-places : (known : Known) → AreKnown widgets known → AreKnown (with_places places widgets) known
+  unfolding row_for
+  known-places known are = record { sizes = λ id. are.sizes id; tracks = λ slot. if-some (λ kept. both-places kept.key kept.tracks) (get_or known.tracks slot None) (are.tracks slot) }
+
+  known-kept : (known : Known) → AreKnown (with_places places widgets) known → AreKnown widgets known
+  unfolding row_for
+  known-kept known are = record { sizes = λ id. are.sizes id; tracks = λ slot. if-some (λ kept. both-kept kept.key kept.tracks) (get_or known.tracks slot None) (are.tracks slot) }
 
   side-places : (axis : Axis) (id : ℕ) (side : Side) → IsSide axis widgets id side → IsSide axis (with_places places widgets) id side
   unfolding row_for
@@ -78,11 +90,11 @@ live-same old new id same live = subst (λ (w : Widgets). IsLive w id) (sym same
 pub deep-same : (old new : Widgets) (most id : ℕ) → new ≡ with_places new.places old → IsDeep old most id → IsDeep new most id
 deep-same old new most id same deep = subst (λ (w : Widgets). IsDeep w most id) (sym same) (deep-places new.places old most id deep)
 
-pub known-same : (old new : Widgets) (sizes : List (Option Size)) → new ≡ with_places new.places old → AreKnown old sizes → AreKnown new sizes
-known-same old new sizes same known = subst (λ (w : Widgets). AreKnown w sizes) (sym same) (known-places new.places old sizes known)
+pub known-same : (old new : Widgets) (known : Known) → new ≡ with_places new.places old → AreKnown old known → AreKnown new known
+known-same old new known same are = subst (λ (w : Widgets). AreKnown w known) (sym same) (known-places new.places old known are)
 
-pub known-back : (old new : Widgets) (sizes : List (Option Size)) → new ≡ with_places new.places old → AreKnown new sizes → AreKnown old sizes
-known-back old new sizes same known = known-kept new.places old sizes (subst (λ (w : Widgets). AreKnown w sizes) same known)
+pub known-back : (old new : Widgets) (known : Known) → new ≡ with_places new.places old → AreKnown new known → AreKnown old known
+known-back old new known same are = known-kept new.places old known (subst (λ (w : Widgets). AreKnown w known) same are)
 
 pub side-same : (old new : Widgets) (axis : Axis) (id : ℕ) (side : Side) → new ≡ with_places new.places old → IsSide axis old id side → IsSide axis new id side
 side-same old new axis id side same is = subst (λ (w : Widgets). IsSide axis w id side) (sym same) (side-places new.places old axis id side is)

@@ -1,5 +1,5 @@
 -- The least size of a numbered widget, from its kind and its children.
-use Rattle.std.proofs.Common.{◌≡◌, ℕ, zero, suc, ◌-◌, ◌<◌, ◌≤◌, Bool, true, false, cond, ◌&&◌, nat_eq, List, length, get_or, set, replicate, Option, Some, None, IfSome, refl, sym, ap, ◌∙◌, arith, subst, inl, inr, ◌⊎◌}
+use Rattle.std.proofs.Common.{◌≡◌, ℕ, zero, suc, ◌-◌, ◌%◌, ◌<◌, ◌≤◌, Bool, true, false, cond, ◌&&◌, nat_eq, List, length, get_or, set, replicate, Option, Some, None, IfSome, refl, sym, ap, ◌∙◌, arith, subst, inl, inr, ◌⊎◌}
 use Rattle.std.proofs.lemmas.Bool.{and_parts, eqb-true, true≢false, cases_eq, cases_lt}
 use Rattle.std.specs.Option.{option_map}
 use Rattle.std.proofs.lemmas.List.{get_or-set_other, get_or-set_same, set_past}
@@ -26,7 +26,10 @@ use Rattle.scene_model.proofs.Ranges.{leasts_are_small}
 use Rattle.scene_model.proofs.Parents.{IsChildOf-is_child, ends_within-child}
 use Rattle.scene_model.proofs.FitWidgets.{widgets_are_fit}
 use Rattle.scene_core.specs.declared.size.Size.{Size}
-use Rattle.scene_core.specs.Children.{row_for, size_for, child_for, needs_for, AreKnown, IsDeep}
+use Rattle.scene_core.specs.Children.{row_for, size_for, child_for, needs_for, IsDeep}
+use Rattle.scene_core.specs.declared.known.Known.{Known}
+use Rattle.scene_core.specs.declared.known.KeptTracks.{KeptTracks}
+use Rattle.scene_core.specs.Known.{AreKnown, AreSizes, AreKept, AreBothTracks}
 use Rattle.scene_core.specs.Measured.{IsMeasured}
 use Rattle.scene_core.proofs.Numbered.{live-there, row_of_name}
 use Rattle.scene_core.proofs.ChildNeeds.{child-at}
@@ -127,7 +130,7 @@ child-measured widgets id kid valid parent =
     }
 
 -- one size more is known
-pub known-put : (widgets : Widgets) (sizes : List (Option Size)) (id : ℕ) (size : Size) → AreKnown widgets sizes → size ≡ size_for widgets id → AreKnown widgets (set sizes id (Some size))
+known-put : (widgets : Widgets) (sizes : List (Option Size)) (id : ℕ) (size : Size) → AreSizes widgets sizes → size ≡ size_for widgets id → AreSizes widgets (set sizes id (Some size))
 known-put widgets sizes id size known is other = elim (cases_eq other id) [ inl same ↦ at same (cases_lt id (length sizes)) | inr apart ↦ rw (get_or-set_other sizes id other (Some size) None apart) (known other) ]
   where
     Q : ℕ → Option Size → Type 0
@@ -140,11 +143,44 @@ known-put widgets sizes id size known is other = elim (cases_eq other id) [ inl 
     at same (inr past) =
         subst (λ (xs : List (Option Size)). IfSome (get_or xs other None) (λ (s : Size). s ≡ size_for widgets other)) (sym (set_past sizes id (Some size) past)) (known other)
 
--- at first none is known
-pub none-known : (n i : ℕ) → get_or {A = Option Size} (replicate n None) i None ≡ None
+pub known-sized : (widgets : Widgets) (old new : Known) (id : ℕ) (size : Size) → new.sizes ≡ set old.sizes id (Some size) → new.tracks ≡ old.tracks → AreKnown widgets old → size ≡ size_for widgets id → AreKnown widgets new
+known-sized widgets old new id size sizes tracks known is = record {
+  sizes = subst (AreSizes widgets) (sym sizes) (known-put widgets old.sizes id size known.sizes is);
+  tracks = subst (AreKept widgets) (sym tracks) known.tracks;
+}
+
+-- what holds of each element that is there holds with one put in
+put-each : {X : Type 0} (P : X → Type 0) (slots : List (Option X)) (i : ℕ) (x : X) → ((slot : ℕ) → IfSome (get_or slots slot None) P) → P x → (slot : ℕ) → IfSome (get_or (set slots i (Some x)) slot None) P
+put-each {X} P slots i x each is slot = elim (cases_eq slot i) [ inl same ↦ at same (cases_lt i (length slots)) | inr apart ↦ rw (get_or-set_other slots i slot (Some x) None apart) (each slot) ]
+  where
+    at : slot ≡ i → (i < length slots) ⊎ (length slots ≤ i) → IfSome (get_or (set slots i (Some x)) slot None) P
+    at same (inl less) =
+        subst (λ (n : ℕ). IfSome (get_or (set slots i (Some x)) n None) P) (sym same)
+        (subst (λ (o : Option X). IfSome o P) (sym (get_or-set_same slots i (Some x) None less)) is)
+    at same (inr past) =
+        subst (λ (xs : List (Option X)). IfSome (get_or xs slot None) P) (sym (set_past slots i (Some x) past)) (each slot)
+
+-- the tracks of one Grid more are kept
+pub known-tracked : (widgets : Widgets) (old new : Known) (id : ℕ) (kept : KeptTracks) → new.sizes ≡ old.sizes → new.tracks ≡ set old.tracks (id % 16) (Some kept) → AreKnown widgets old → AreBothTracks widgets kept.key kept.tracks → AreKnown widgets new
+known-tracked widgets old new id kept sizes tracks known are = record {
+  sizes = subst (AreSizes widgets) (sym sizes) known.sizes;
+  tracks = subst (AreKept widgets) (sym tracks) (put-each (λ (k : KeptTracks). AreBothTracks widgets k.key k.tracks) old.tracks (id % 16) kept known.tracks are);
+}
+
+-- kept tracks are those of their Grid
+pub tracks-kept : (widgets : Widgets) (known : Known) (id : ℕ) (kept : KeptTracks) → AreKnown widgets known → kept.key ≡ id → get_or known.tracks (id % 16) None ≡ Some kept → AreBothTracks widgets id kept.tracks
+tracks-kept widgets known id kept are same there =
+    subst (λ (n : ℕ). AreBothTracks widgets n kept.tracks) same
+    (subst (λ (o : Option KeptTracks). IfSome o (λ (k : KeptTracks). AreBothTracks widgets k.key k.tracks)) there (are.tracks (id % 16)))
+
+-- at first nothing is known
+pub none-known : {X : Type 0} (n i : ℕ) → get_or {A = Option X} (replicate n None) i None ≡ None
 none-known zero i = refl
 none-known (suc n) zero = refl
-none-known (suc n) (suc i) = none-known n i
+none-known {X} (suc n) (suc i) = none-known {X = X} n i
 
-pub known-none : (widgets : Widgets) (sizes : List (Option Size)) → ((id : ℕ) → get_or sizes id None ≡ None) → AreKnown widgets sizes
-known-none widgets sizes none id = subst (λ (o : Option Size). IfSome o (λ (s : Size). s ≡ size_for widgets id)) (sym (none id)) tt
+pub known-none : (widgets : Widgets) (known : Known) → ((id : ℕ) → get_or known.sizes id None ≡ None) → ((slot : ℕ) → get_or known.tracks slot None ≡ None) → AreKnown widgets known
+known-none widgets known sizes tracks = record {
+  sizes = λ id. subst (λ (o : Option Size). IfSome o (λ (s : Size). s ≡ size_for widgets id)) (sym (sizes id)) tt;
+  tracks = λ slot. subst (λ (o : Option KeptTracks). IfSome o (λ (k : KeptTracks). AreBothTracks widgets k.key k.tracks)) (sym (tracks slot)) tt;
+}

@@ -1,28 +1,32 @@
 -- The measured children of a widget, and the sizes and tracks that are made of them.
-use Rattle.std.proofs.Common.{◌≡◌, ℕ, zero, suc, ◌-◌, ◌≤◌, false, min, sum, take, List, [], ◌∷◌, map, length, All, Some, refl, sym, ap, ◌∙◌, arith, get_or, length-take}
-use Rattle.std.proofs.lemmas.List.Elements.{All-map}
+use Rattle.std.proofs.Common.{◌≡◌, ℕ, zero, suc, ◌-◌, ◌≤◌, false, min, sum, take, List, Some, refl, sym, ap, ◌∙◌, arith}
 use Rattle.std.specs.Option.{option_map}
 use Rattle.kind_core.specs.declared.kinds.Kind.{Kind}
 use Rattle.kind_core.specs.declared.kinds.Kind.TheVariants.{Window, Grid, Frame, Button, Label, Entry, Scale, Scrollbar, Variable, VScreen}
-use Rattle.widget_model.specs.Widgets.{Widgets, rows_of, row_at, IsLive}
+use Rattle.widget_model.specs.Widgets.{Widgets, rows_of, row_at, IsLive, IsGrid}
 use Rattle.widget_model.specs.Forest.{IsWidgets}
 use Rattle.scene_model.specs.declared.axis.Axis.{Axis}
 use Rattle.scene_model.specs.declared.axis.Axis.TheVariants.{Across, Down}
 use Rattle.scene_model.specs.Least.{own_size, is_grid, least_of}
 use Rattle.kind_core.specs.declared.shapes.Cell.{Cell}
-use Rattle.scene_model.specs.Tracks.{cell_of, Need, asked_in, last_asked, grid_least}
+use Rattle.scene_model.specs.Tracks.{cell_of, Need, rules_of, grid_least}
 use Rattle.scene_core.specs.declared.size.Size.{Size}
 use Rattle.scene_core.specs.declared.child.Child.{Child}
 use Rattle.scene_core.specs.declared.tracks.Tracks.{Tracks}
 use Rattle.scene_core.specs.Children.{row_for, size_of, size_for, child_for, needs_for, IsDeep}
-use Rattle.scene_core.specs.Measured.{IsMeasured, AreTracks, needs_seen}
-use Rattle.scene_core.proofs.Numbered.{live-there}
-use Rattle.scene_core.proofs.ChildNeeds.{asked-children, last-children}
-use Rattle.scene_core.proofs.LeastSteps.{child-measured, deep-none, least-own}
+use Rattle.scene_core.specs.Measured.{AreTracks}
+use Rattle.scene_core.proofs.Numbered.{live-there, grid-live, grid-kind}
+use Rattle.scene_core.proofs.LeastSteps.{deep-none, least-own, least-grid}
 
-pub length-read : (needs : List Need) (rules : List (ℕ × ℕ)) (tracks : Tracks) (n : ℕ) → AreTracks needs rules tracks → n ≡ min (sum (take tracks.used tracks.least)) 4096 → n ≡ grid_least needs rules
+length-read : (needs : List Need) (rules : List (ℕ × ℕ)) (tracks : Tracks) (n : ℕ) → AreTracks needs rules tracks → n ≡ min (sum (take tracks.used tracks.least)) 4096 → n ≡ grid_least needs rules
 unfolding grid_least
 length-read needs rules tracks n are is = is ∙ ap (λ (lengths : List ℕ). min (sum lengths) 4096) are.least
+
+pub length-grid : (axis : Axis) (widgets : Widgets) (id : ℕ) (tracks : Tracks) (n : ℕ) → IsWidgets widgets → IsGrid widgets id → AreTracks (needs_for axis widgets id) (rules_of axis (row_for widgets id)) tracks → n ≡ min (sum (take tracks.used tracks.least)) 4096
+    → n ≡ least_of (rows_of widgets) axis (row_for widgets id)
+length-grid axis widgets id tracks n valid grid are is =
+    length-read (needs_for axis widgets id) (rules_of axis (row_for widgets id)) tracks n are is
+    ∙ sym (least-grid widgets id axis valid (grid-live widgets id grid) (ap is_grid (grid-kind widgets id grid)))
 
 pair-size : (a b c d : ℕ) → a ≡ c → b ≡ d → (let s : Size = record { w = a; h = b } in s) ≡ (let s : Size = record { w = c; h = d } in s)
 pair-size a b c d p q = ap (λ (n : ℕ). let s : Size = record { w = n; h = b } in s) p ∙ ap (λ (n : ℕ). let s : Size = record { w = c; h = n } in s) q

@@ -1,5 +1,5 @@
 -- An inner word of the proofs: the row of a number, the least size of that row, and the numbers of a widget's children.
-use Rattle.std.specs.Prelude.{ℕ, ◌≡◌, ◌≤◌, ◌-◌, false, List, [], ◌∷◌, Some, IfSome, slice_index_or, Option, None}
+use Rattle.std.specs.Prelude.{ℕ, ◌≡◌, ◌≤◌, ◌-◌, false, List, [], ◌∷◌, Some, Option, None}
 use Rattle.std.specs.List.{All, Contains}
 use Rattle.std.specs.Option.{option_map_or}
 use Rattle.kind_core.specs.declared.kinds.Kind.TheVariants.{Variable}
@@ -42,10 +42,6 @@ one_or_none (Some id) = id ∷ []
 pub record AreChildren (widgets : Widgets) (id : ℕ) (keys : List ℕ) : Type 0 where
   pub each : All (λ kid. parent_id widgets kid ≡ Some id) keys
   pub all : (kid : ℕ) → parent_id widgets kid ≡ Some id → Contains keys kid
-
--- a size that is known is the number's least size
-abbrev pub AreKnown : Widgets → List (Option Size) → Type 0
-AreKnown widgets sizes = (id : ℕ) → IfSome (slice_index_or sizes id None) (λ size. size ≡ size_for widgets id)
 
 -- what the children of the numbered widget ask for along the axis
 abbrev pub needs_for : Axis → Widgets → ℕ → List Need

@@ -5,13 +5,14 @@ ghost use Rattle.widget_model.specs.Forest.{IsWidgets};
 ghost use Rattle.widget_model.specs.Relatives.{root_id};
 ghost use Rattle.widget_model.specs.Widgets.{IsLive, KeepsLive, rows_of, row_kind, place_at};
 ghost use Rattle.scene_model.specs.Placing.{place_in};
-ghost use Rattle.scene_core.specs.Children.{row_for, AreKnown, IsDeep};
+ghost use Rattle.scene_core.specs.Children.{row_for, IsDeep};
+ghost use Rattle.scene_core.specs.Known.{AreKnown};
 ghost use Rattle.scene_core.specs.Laid.{AreLaid};
 ghost use Rattle.scene_core.specs.Places.{HasPlaces};
 
 use crate::children::{child_keys, has_children};
 use crate::known::Known;
-use crate::least::{as_child, asked_by, most_levels};
+use crate::least::{as_child, most_levels, tracks_for};
 use crate::places::{child_place, sides_of, window_place};
 use geom_core::Rect;
 use tree_core::{Id, Tree};
@@ -21,18 +22,18 @@ fn lay(tree: &mut Tree, known: &mut Known, most: u32, id: Id, place: Rect)
     requires valid { IsWidgets tree.old }
     requires live { IsLive tree.old id.key }
     requires deep { IsDeep tree.old most id.key }
-    requires known { AreKnown tree.old known.old.sizes }
+    requires known { AreKnown tree.old known.old }
     requires place { place ≡ place_in (rows_of tree.old) (row_for tree.old id.key) }
     ensures laid { AreLaid most tree.old id.key tree.new }
-    ensures known { AreKnown tree.old known.new.sizes }
+    ensures known { AreKnown tree.old known.new }
 {
     tree.set_place(id, Some(place));
     if !has_children(tree, id) {
         return;
     }
+    let tracks = tracks_for(tree, known, most, id);
+    let sides = sides_of(tree, id, place, &tracks);
     let keys = child_keys(tree, id);
-    let asked = asked_by(tree, known, most, id, keys.as_slice());
-    let sides = sides_of(tree, id, place, &asked);
     for key in keys.as_slice() {
         let kid = Id { key: *key };
         let child = as_child(tree, known, most - 1, kid);
@@ -42,9 +43,11 @@ fn lay(tree: &mut Tree, known: &mut Known, most: u32, id: Id, place: Rect)
 }
 
 /// Makes the kept place of the Window, and of each widget under it, its place. No row and no other kept place changes.
-/// The least size of each widget is worked out once, from the leaves up; the places go from the Window down, with one
-/// `spread` for each side of a Grid. So it visits each widget twice, a Grid with its 256 cells each time, and a visit
-/// costs a few look-ups in hash maps. See docs/MACHINE.md, "Layout".
+/// The least size of each widget is worked out once, from the leaves up, and with it the tracks of each Grid; the places
+/// go from the Window down, with one `spread` for each side of a Grid. A widget costs some six look-ups in hash maps, a
+/// Grid one more for the rule of each of its 32 tracks, and its 256 cells are read twice. Where numbers of two Grids are
+/// alike modulo 16, the tracks of one may be worked out again. It takes no memory: a table of 28 KB on the stack has what
+/// is known. See docs/MACHINE.md, "Layout".
 pub fn relayout(tree: &mut Tree, window: Id)
     requires valid { IsWidgets tree.old }
     requires window { row_kind tree.old.entries window.key ≡ Some Window }

@@ -1,7 +1,7 @@
 //! The places of widgets from scratch.
 ghost use Rattle.std.specs.Prelude.{◌≡◌, true, Some};
 ghost use Rattle.std.specs.Option.{option_map};
-ghost use Rattle.kind_core.specs.declared.kinds.Kind.TheVariants.{Window};
+ghost use Rattle.kind_core.specs.declared.kinds.Kind.TheVariants.{Window, Grid};
 ghost use Rattle.widget_model.specs.Forest.{IsWidgets};
 ghost use Rattle.widget_model.specs.Relatives.{parent_id};
 ghost use Rattle.widget_model.specs.Trees.{ends_within};
@@ -9,17 +9,16 @@ ghost use Rattle.widget_model.specs.Widgets.{IsLive, rows_of, row_at, row_kind};
 ghost use Rattle.scene_model.specs.declared.axis.Axis.TheVariants.{Across, Down};
 ghost use Rattle.scene_model.specs.Placing.{place_in};
 ghost use Rattle.scene_model.specs.Spans.{rect_of, span_of};
-ghost use Rattle.scene_core.specs.Children.{row_for, child_for, needs_for, AreKnown};
-ghost use Rattle.scene_core.specs.Measured.{AreAsked};
+ghost use Rattle.scene_core.specs.Children.{row_for, child_for};
+ghost use Rattle.scene_core.specs.Known.{AreKnown, AreBothTracks};
 ghost use Rattle.scene_core.specs.Places.{IsInWindow};
 ghost use Rattle.scene_core.specs.Sides.{IsSide};
 
-use crate::asked::BothAsked;
 use crate::child::Child;
-use crate::children::child_keys;
 use crate::known::Known;
-use crate::least::{as_child, asked_by, most_levels};
+use crate::least::{as_child, most_levels, tracks_for};
 use crate::sides::{Side, child_span, side_of, window_span};
+use crate::tracks::BothTracks;
 use geom_core::Rect;
 use scene_model::{Axis, Span};
 use tree_core::{Id, Tree};
@@ -59,12 +58,11 @@ fn span_of(axis: Axis, place: Rect) -> Span
     }
 }
 
-/// Both axes of a widget that has this place, where its children ask for this.
-pub(crate) fn sides_of(tree: &Tree, id: Id, place: Rect, asked: &BothAsked) -> Sides
+/// Both axes of a widget that has this place and, where it is a Grid, these tracks.
+pub(crate) fn sides_of(tree: &Tree, id: Id, place: Rect, tracks: &BothTracks) -> Sides
     requires valid { IsWidgets tree.now }
     requires live { IsLive tree.now id.key }
-    requires asked_across { AreAsked (needs_for Across tree.now id.key) asked.now.across }
-    requires asked_down { AreAsked (needs_for Down tree.now id.key) asked.now.down }
+    requires tracks { (row_for tree.now id.key).kind ≡ Grid → AreBothTracks tree.now id.key tracks.now }
     requires place { place ≡ place_in (rows_of tree.now) (row_for tree.now id.key) }
     ensures across { IsSide Across tree.now id.key result.across }
     ensures down { IsSide Down tree.now id.key result.down }
@@ -72,8 +70,8 @@ pub(crate) fn sides_of(tree: &Tree, id: Id, place: Rect, asked: &BothAsked) -> S
     let across = span_of(Axis::Across, place);
     let down = span_of(Axis::Down, place);
     Sides {
-        across: side_of(tree, id, Axis::Across, across, &asked.across),
-        down: side_of(tree, id, Axis::Down, down, &asked.down),
+        across: side_of(tree, id, Axis::Across, across, &tracks.across),
+        down: side_of(tree, id, Axis::Down, down, &tracks.down),
     }
 }
 
@@ -109,16 +107,15 @@ fn place_up(tree: &Tree, known: &mut Known, most: u32, id: Id) -> Rect
     requires live { IsLive tree.now id.key }
     requires ends { ends_within most (rows_of tree.now) (row_for tree.now id.key).client (row_for tree.now id.key).name ≡ true }
     requires window { IsInWindow tree.now id.key }
-    requires known { AreKnown tree.now known.old.sizes }
+    requires known { AreKnown tree.now known.old }
     ensures place { result ≡ place_in (rows_of tree.now) (row_for tree.now id.key) }
-    ensures known { AreKnown tree.now known.new.sizes }
+    ensures known { AreKnown tree.now known.new }
 {
     match tree.parent(id) {
         Some(parent) => {
             let place = place_up(tree, known, most - 1, parent);
-            let keys = child_keys(tree, parent);
-            let asked = asked_by(tree, known, most_levels(), parent, keys.as_slice());
-            let sides = sides_of(tree, parent, place, &asked);
+            let tracks = tracks_for(tree, known, most_levels(), parent);
+            let sides = sides_of(tree, parent, place, &tracks);
             let child = as_child(tree, known, most_levels(), id);
             child_place(tree, parent, &sides, &child)
         }
@@ -126,9 +123,9 @@ fn place_up(tree: &Tree, known: &mut Known, most: u32, id: Id) -> Rect
     }
 }
 
-/// The place of the widget, in pixels of the screen, from its Window down. It is worked out from scratch, with the least
-/// sizes of all children of each widget above it: `relayout` keeps the places of a whole Window in one pass. See
-/// docs/MACHINE.md, "Layout".
+/// The place of the widget, in pixels of the screen, from its Window down. It is worked out from scratch, with the tracks
+/// of each Grid above it, for which the least sizes of all that is below are measured once: `relayout` keeps the places of
+/// a whole Window in one pass. See docs/MACHINE.md, "Layout".
 pub fn place(tree: &Tree, id: Id) -> Rect
     requires valid { IsWidgets tree.now }
     requires live { IsLive tree.now id.key }

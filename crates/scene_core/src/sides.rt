@@ -1,21 +1,23 @@
 //! What a widget has for its children, along one axis.
 ghost use Rattle.std.specs.Prelude.{◌≡◌, ◌≤◌, pos, ◌≤ℤ◌, Some};
 ghost use Rattle.kind_core.specs.Effective.{clamp, frame_offset};
+ghost use Rattle.kind_core.specs.declared.kinds.Kind.TheVariants.{Grid};
 ghost use Rattle.widget_model.specs.Relatives.{parent_id};
 ghost use Rattle.widget_model.specs.Widgets.{IsLive, rows_of};
 ghost use Rattle.scene_model.specs.Placing.{span_along, window_span};
+ghost use Rattle.scene_model.specs.Tracks.{rules_of};
 ghost use Rattle.scene_model.specs.Values.{offset_of};
 ghost use Rattle.scene_core.specs.Children.{row_for, child_for, needs_for};
-ghost use Rattle.scene_core.specs.Measured.{AreAsked};
+ghost use Rattle.scene_core.specs.Measured.{AreTracks};
 ghost use Rattle.widget_model.specs.Forest.{IsWidgets};
 ghost use Rattle.scene_core.specs.Sides.{IsSide};
 
-use crate::asked::{Asked, side, track_of};
+use crate::asked::{side, track_of};
 use crate::child::Child;
 use crate::own::count_of;
 use crate::reading::{kind_of, linked_value, number_of};
 use crate::spans::{content, framed, inset, track_span};
-use crate::tracks::{lengths_in, tracks_of};
+use crate::tracks::{Tracks, lengths_in};
 use kind_core::{Attr, Kind};
 use scene_model::{Axis, Span};
 use tree_core::{Id, Tree};
@@ -82,26 +84,23 @@ pub(crate) fn window_span(tree: &Tree, id: Id, axis: Axis) -> Span
     }
 }
 
-/// One axis of a widget that has this span, where its children ask for this.
-pub(crate) fn side_of(tree: &Tree, id: Id, axis: Axis, span: Span, asked: &Asked) -> Side
+/// One axis of a widget that has this span and, where it is a Grid, these tracks.
+pub(crate) fn side_of(tree: &Tree, id: Id, axis: Axis, span: Span, tracks: &Tracks) -> Side
     requires valid { IsWidgets tree.now }
     requires live { IsLive tree.now id.key }
-    requires asked { AreAsked (needs_for axis tree.now id.key) asked.now }
+    requires tracks { (row_for tree.now id.key).kind ≡ Grid → AreTracks (needs_for axis tree.now id.key) (rules_of axis (row_for tree.now id.key)) tracks.now }
     requires span { span ≡ span_along (rows_of tree.now) axis (row_for tree.now id.key) }
     ensures { IsSide axis tree.now id.key result }
 {
     let kind = kind_of(tree, id);
     match kind {
-        Kind::Grid => {
-            let tracks = tracks_of(tree, id, axis, asked);
-            Side {
-                kind,
-                span,
-                offset: 0,
-                used: tracks.used,
-                lengths: lengths_in(&tracks, span.len),
-            }
-        }
+        Kind::Grid => Side {
+            kind,
+            span,
+            offset: 0,
+            used: tracks.used,
+            lengths: lengths_in(tracks, span.len),
+        },
         Kind::Frame => Side {
             kind,
             span,

@@ -23,6 +23,24 @@ pub(crate) struct Tracks {
     pub(crate) weights: [u32; 16],
 }
 
+/// The tracks in use of a Grid along both axes.
+#[derive(Clone, Copy)]
+pub(crate) struct BothTracks {
+    pub(crate) across: Tracks,
+    pub(crate) down: Tracks,
+}
+
+/// No tracks.
+pub(crate) fn no_tracks() -> Tracks
+    ensures { result.used ≡ 0 }
+{
+    Tracks {
+        used: 0,
+        least: [0; 16],
+        weights: [0; 16],
+    }
+}
+
 /// The lengths of the tracks in that room, the first at index 0.
 pub(crate) fn lengths_in(tracks: &Tracks, room: u32) -> [u32; 16]
     requires few { tracks.now.used ≤ 16 }

@@ -13,15 +13,15 @@ use Rattle.scene_core.proofs.Measures.{deep-some, deep-suc}
 use Rattle.scene_core.proofs.LaySteps.{live-same, deep-same, known-same, known-back, side-same, side-back, parent-same, parent-back, due-same, set-same, replaced-set, replaced-then, kept-then, under-then, laid-under, laid-alone, under-more, at-most, kind-back}
 use Rattle.scene_core.proofs.laying.+lay.Goals as goal
 
-pub asked_by-asked-requires-clause-deep : goal.asked_by-asked-requires-clause-deep
-asked_by-asked-requires-clause-deep t c =
+pub tracks_for-tracks-requires-clause-deep : goal.tracks_for-tracks-requires-clause-deep
+tracks_for-tracks-requires-clause-deep t c =
     let s0 = set-same c.args.tree.now c.set_place.new.self c.args.id.key (Some c.args.place) c.set_place.ensures.place in
     deep-same c.args.tree.now c.set_place.new.self c.args.most c.args.id.key s0 c.requires.deep
 
-pub asked_by-asked-requires-clause-known : goal.asked_by-asked-requires-clause-known
-asked_by-asked-requires-clause-known t c =
+pub tracks_for-tracks-requires-clause-known : goal.tracks_for-tracks-requires-clause-known
+tracks_for-tracks-requires-clause-known t c =
     let s0 = set-same c.args.tree.now c.set_place.new.self c.args.id.key (Some c.args.place) c.set_place.ensures.place in
-    known-same c.args.tree.now c.set_place.new.self c.args.known.now.sizes s0 c.requires.known
+    known-same c.args.tree.now c.set_place.new.self c.args.known.now s0 c.requires.known
 
 pub sides_of-sides-requires-clause-place : goal.sides_of-sides-requires-clause-place
 sides_of-sides-requires-clause-place t c =
@@ -34,7 +34,7 @@ loop-key-init t c =
     record {
       replaced = replaced-set c.args.tree.now c.set_place.new.self c.args.id.key c.args.place s0 c.set_place.ensures.valid c.requires.place c.set_place.ensures.now c.set_place.ensures.others;
       own = c.set_place.ensures.now ∙ ap (λ (place : Rect). Some place) c.requires.place;
-      known = known-back c.args.tree.now c.set_place.new.self c.asked_by-asked.new.known.sizes s0 c.asked_by-asked.ensures.known;
+      known = known-back c.args.tree.now c.set_place.new.self c.tracks_for-tracks.new.known s0 c.tracks_for-tracks.ensures.known;
       under = λ i kid less. absurd (omega (arith, less));
     }
 
@@ -68,7 +68,7 @@ as_child-child-requires-clause-deep t c =
     deep-same c.args.tree.now c.loop-key.tree (c.args.most - 1) kid same deep
 
 pub as_child-child-requires-clause-known : goal.as_child-child-requires-clause-known
-as_child-child-requires-clause-known t c = known-same c.args.tree.now c.loop-key.tree c.loop-key.known.sizes c.loop-key.invariant.replaced.same c.loop-key.invariant.known
+as_child-child-requires-clause-known t c = known-same c.args.tree.now c.loop-key.tree c.loop-key.known c.loop-key.invariant.replaced.same c.loop-key.invariant.known
 
 pub child_place-place-requires-clause-across : goal.child_place-place-requires-clause-across
 child_place-place-requires-clause-across t c =
@@ -116,7 +116,7 @@ loop-key-preserved t c =
     record {
       replaced = replaced-then c.args.tree.now c.loop-key.tree c.lay.new.tree c.args.id.key kid c.requires.live c.requires.valid first parent laid.replaced;
       own = kept-then c.args.tree.now c.loop-key.tree c.lay.new.tree c.args.id.key kid c.requires.live c.requires.valid first parent c.args.id.key laid.replaced c.loop-key.invariant.own;
-      known = known-back c.args.tree.now c.loop-key.tree c.lay.new.known.sizes same c.lay.ensures.known;
+      known = known-back c.args.tree.now c.loop-key.tree c.lay.new.known same c.lay.ensures.known;
       under = under-more c.as_slice-key-items.result.now c.loop-key.key-index (λ (n : ℕ). (other : ℕ) → IsBelow (c.args.most - 1) c.args.tree.now n other → place_at c.lay.new.tree other ≡ due c.args.tree.now other)
           (λ i n less at other below. kept-then c.args.tree.now c.loop-key.tree c.lay.new.tree c.args.id.key kid c.requires.live c.requires.valid first parent other laid.replaced (c.loop-key.invariant.under i n less at other below))
           c.loop-key-test.true

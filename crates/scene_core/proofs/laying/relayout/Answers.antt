@@ -2,6 +2,7 @@ use Rattle.std.proofs.Common.{◌∙◌, ℕ, subst}
 use Rattle.scene_core.specs.Laid.{AreLaid}
 use Rattle.scene_core.proofs.Tops.{root-window, window-open}
 use Rattle.scene_core.proofs.LaySteps.{has-places}
+use Rattle.scene_core.proofs.LeastSteps.{known-none}
 use Rattle.scene_core.proofs.laying.relayout.Goals as goal
 
 pub returns-clause-placed : goal.returns-clause-placed
@@ -12,3 +13,6 @@ returns-clause-placed c =
 pub returns-clause-others : goal.returns-clause-others
 returns-clause-others c = λ other apart.
     c.lay.ensures.laid.replaced.others other (λ same. apart (same ∙ root-window c.args.tree.now c.args.window.key c.requires.valid (window-open c.args.tree.now c.args.window.key c.requires.window)))
+
+pub lay-requires-clause-known : goal.lay-requires-clause-known
+lay-requires-clause-known c = known-none c.args.tree.now c.new-known.result c.new-known.ensures.sizes c.new-known.ensures.tracks

@@ -1,13 +1,11 @@
-use Rattle.std.proofs.Common.{◌≡◌, ◌-◌, ◌≤◌, ◌∙◌, ℕ, List, Some, get_or, sym, ap, arith, subst}
+use Rattle.std.proofs.Common.{◌≡◌, ◌-◌, ◌∙◌, Some, get_or, sym, arith, subst}
 use Rattle.widget_model.specs.Relatives.{parent_id}
 use Rattle.scene_model.specs.declared.axis.Axis.TheVariants.{Across, Down}
-use Rattle.scene_core.specs.declared.child.Child.{Child}
-use Rattle.scene_core.specs.Children.{child_for, AreKnown, AreChildren}
 use Rattle.scene_core.specs.Measured.{IsMeasured}
 use Rattle.scene_core.proofs.Numbered.{kind-grid}
 use Rattle.scene_core.proofs.AskedSteps.{asked-more, asked-all}
-use Rattle.scene_core.proofs.LeastSteps.{deep-child, child-live, child-measured, known-put}
-use Rattle.scene_core.proofs.Measures.{deep-some, deep-suc, child-same, size-own}
+use Rattle.scene_core.proofs.LeastSteps.{deep-child, child-live, child-measured, known-sized, known-tracked, tracks-kept}
+use Rattle.scene_core.proofs.Measures.{deep-some, deep-suc, child-same, size-own, size-both, length-grid}
 use Rattle.scene_core.proofs.least.+least.Goals as goal
 
 pub as_child-returns : goal.as_child-returns
@@ -59,7 +57,33 @@ asked_by-returns t c = record {
 pub least-returns : goal.least-returns
 least-returns t c = record {
   size = c.fresh-size.ensures.size;
-  known = subst (λ xs. AreKnown c.args.tree.now xs) (sym c.put.ensures) (known-put c.args.tree.now c.fresh-size.new.known.sizes c.args.id.key c.fresh-size.result c.fresh-size.ensures.known c.fresh-size.ensures.size);
+  known = known-sized c.args.tree.now c.fresh-size.new.known c.put.new.self c.args.id.key c.fresh-size.result c.put.ensures.sizes c.put.ensures.tracks c.fresh-size.ensures.known c.fresh-size.ensures.size;
+}
+
+pub grid_size-returns : goal.grid_size-returns
+grid_size-returns t c = record {
+  size = size-both c.args.tree.now c.args.id.key (record { w = c.least_length-w.result; h = c.least_length-h.result })
+      (length-grid Across c.args.tree.now c.args.id.key c.grid_tracks-tracks.result.across c.least_length-w.result c.requires.valid c.requires.grid c.grid_tracks-tracks.ensures.tracks.across c.least_length-w.ensures)
+      (length-grid Down c.args.tree.now c.args.id.key c.grid_tracks-tracks.result.down c.least_length-h.result c.requires.valid c.requires.grid c.grid_tracks-tracks.ensures.tracks.down c.least_length-h.ensures);
+  known = c.grid_tracks-tracks.ensures.known;
+}
+
+pub grid_tracks-returns-in-Some : goal.grid_tracks-returns-in-Some
+grid_tracks-returns-in-Some t c = record {
+  tracks = tracks-kept c.args.tree.now c.args.known.now c.args.id.key c.in-Some.kept c.requires.known c.in-Some.ensures.0 c.in-Some.ensures.1;
+  known = c.requires.known;
+}
+
+pub grid_tracks-returns : goal.grid_tracks-returns
+grid_tracks-returns t c = record {
+  tracks = c.fresh_tracks-tracks.ensures.tracks;
+  known = known-tracked c.args.tree.now c.fresh_tracks-tracks.new.known c.put_tracks.new.self c.args.id.key (record { key = c.args.id.key; tracks = c.fresh_tracks-tracks.result }) c.put_tracks.ensures.sizes c.put_tracks.ensures.tracks c.fresh_tracks-tracks.ensures.known c.fresh_tracks-tracks.ensures.tracks;
+}
+
+pub fresh_tracks-returns : goal.fresh_tracks-returns
+fresh_tracks-returns t c = record {
+  tracks = record { across = c.tracks_of-across.ensures; down = c.tracks_of-down.ensures };
+  known = c.asked_by-asked.ensures.known;
 }
 
 pub fresh-grid_size-requires : goal.fresh-grid_size-requires

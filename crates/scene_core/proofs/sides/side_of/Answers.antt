@@ -1,12 +1,17 @@
 use Rattle.std.proofs.Common.{◌≡◌, ◌∙◌, sym, ap, arith}
 use Rattle.kind_core.specs.declared.kinds.Kind.TheVariants.{Frame}
 use Rattle.scene_model.specs.declared.axis.Span.{Span}
-use Rattle.scene_core.proofs.Numbered.{kind-grid}
 use Rattle.scene_core.proofs.SideSteps.{span-near, lengths-read}
 use Rattle.scene_core.proofs.sides.side_of.Goals as goal
 
-pub tracks_of-tracks-requires-clause-grid : goal.tracks_of-tracks-requires-clause-grid
-tracks_of-tracks-requires-clause-grid c = kind-grid c.args.tree.now c.args.id.key c.requires.live (sym c.kind_of-kind.ensures ∙ c.in-Grid.is)
+pub lengths_in-requires-clause-few : goal.lengths_in-requires-clause-few
+lengths_in-requires-clause-few c = (c.requires.tracks (sym c.kind_of-kind.ensures ∙ c.in-Grid.is)).few
+
+pub lengths_in-requires-clause-least_small : goal.lengths_in-requires-clause-least_small
+lengths_in-requires-clause-least_small c = (c.requires.tracks (sym c.kind_of-kind.ensures ∙ c.in-Grid.is)).least_small
+
+pub lengths_in-requires-clause-weights_small : goal.lengths_in-requires-clause-weights_small
+lengths_in-requires-clause-weights_small c = (c.requires.tracks (sym c.kind_of-kind.ensures ∙ c.in-Grid.is)).weights_small
 
 pub lengths_in-requires-clause-room_small : goal.lengths_in-requires-clause-room_small
 lengths_in-requires-clause-room_small c =
@@ -19,8 +24,8 @@ returns-in-Grid c = record {
   span = c.requires.span;
   offset = λ frame. let other : c.kind_of-kind.result ≡ Frame = c.kind_of-kind.ensures ∙ frame in absurd (let grid = c.in-Grid.is in cc);
   tracks = λ grid. record {
-    few = c.tracks_of-tracks.ensures.few;
-    used = c.tracks_of-tracks.ensures.used;
-    lengths = lengths-read _ _ c.tracks_of-tracks.result c.lengths_in.result c.args.span.len c.tracks_of-tracks.ensures c.lengths_in.ensures;
+    few = (c.requires.tracks grid).few;
+    used = (c.requires.tracks grid).used;
+    lengths = lengths-read _ _ c.args.tracks.now c.lengths_in.result c.args.span.len (c.requires.tracks grid) c.lengths_in.ensures;
   };
 }
