@@ -27,3 +27,4 @@ mod PointerKept
 mod CallSteps
 mod Calls
 mod Views
+mod TouchedLooks
