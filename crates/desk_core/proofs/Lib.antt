@@ -30,3 +30,4 @@ mod PointerKept
 mod CallSteps
 mod Calls
 mod Views
+mod TouchedLooks

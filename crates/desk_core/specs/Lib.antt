@@ -1,6 +1,7 @@
 pub mod ClientList
 pub mod Pointer
 pub mod View
+pub mod Touching
 pub mod Parts
 pub mod Laid
 pub mod Stays

@@ -1,5 +1,5 @@
 -- What contracts see of the desk: the desk itself, whether the last call changed it, the numbered rows with the places
--- that are kept of them, and the numbers of the open windows.
+-- that are kept of them, the numbers of the open windows, and those of the looks that the last call touched.
 use Rattle.std.specs.Prelude.{ℕ, ◌≡◌, ◌↔◌, Bool, IsTrue, List, Some}
 use Rattle.widget_model.specs.Rows.{Row}
 use Rattle.widget_model.specs.Widgets.{Widgets, rows_of, row_at, key_at, place_at}
@@ -14,6 +14,8 @@ pub record DeskView : Type 0 where
   pub widgets : Widgets
   -- the open windows by their numbers, from top to bottom
   pub windows : List ℕ
+  -- the numbers of the widgets whose look the last call touched
+  pub touched : List ℕ
 
 -- whether the call says rightly that it changed the rows, the open windows or their order
 abbrev pub TellsChange : DeskView → DeskView → Type 0

@@ -8,6 +8,7 @@ ghost use Rattle.scene_model.specs.Shapes.{IsShape};
 ghost use Rattle.desk_model.specs.Commands.{is_built, step};
 ghost use Rattle.desk_model.specs.OwnPart.{LeavesOthers};
 ghost use Rattle.desk_core.specs.View.{TellsChange, KeepsNumbers, HaveDuePlaces};
+ghost use Rattle.desk_core.specs.Touching.{TellsTouched};
 ghost use Rattle.desk_model.specs.Seen as seen;
 ghost use Rattle.scene_core.specs.View.{scene_of, IsView, KeepsPlaces};
 ghost use Rattle.desk_model.specs.Refusals.{is_memory};
@@ -17,10 +18,13 @@ use crate::commands::obey;
 use crate::laying::settle;
 use crate::moves::may_move;
 use crate::pointer::let_go;
+use crate::touching::{forget, keep_looks, tell_looks};
 use crate::windows::{close_windows, place_of};
+use arrayvec::ArrayVec;
 use cmd_words::{Command, Refusal, Reply};
 use scene_core::View;
 use scene_model::Shape;
+use shot_core::Touched;
 use stack_core::Stack;
 use std::alloc::Global;
 use std::marker::Model;
@@ -28,7 +32,8 @@ use tree_core::{Grab, Id, Pointer, Tree};
 
 /// The desk: the connected clients, their widgets, the order of the open windows and the pointer. It answers each
 /// client's command, and keeps the places of the widgets. Contracts see the record `DeskView`: the desk of desk_model,
-/// whether the last call changed it, the numbered widgets with their places, and the numbers of the open windows. See docs/MACHINE.md, "The desk".
+/// whether the last call changed it, the numbered widgets with their places, the numbers of the open windows, and those
+/// whose look the last call touched. See docs/MACHINE.md, "The desk".
 pub struct Desk {
     shape: Shape,
     pointer: Pointer,
@@ -36,6 +41,7 @@ pub struct Desk {
     tree: Tree,
     windows: Stack,
     changed: bool,
+    touched: Touched,
 }
 
 impl Model for Desk {
@@ -44,7 +50,7 @@ impl Model for Desk {
 
     ghost Value = { DeskView };
 
-    ghost view = { λ d. record { desk = desk_of (stage_of d.shape d.tree d.pointer) d.tree d.windows; changed = d.changed; widgets = d.tree; windows = d.windows } };
+    ghost view = { λ d. record { desk = desk_of (stage_of d.shape d.tree d.pointer) d.tree d.windows; changed = d.changed; widgets = d.tree; windows = d.windows; touched = d.touched.looks.items } };
 
     ghost invariant = { λ d. IsKept d.shape d.pointer d.clients d.tree d.windows };
 }
@@ -58,6 +64,7 @@ impl Drop for Desk {
             tree: _,
             windows: _,
             changed: _,
+            touched: Touched { looks: _ },
         } = self;
     }
 }
@@ -69,6 +76,7 @@ impl Desk {
         ensures opening { result.desk ≡ opening_desk shape }
         ensures valid { IsDesk result.desk }
         ensures changed { result.changed ≡ false }
+        ensures untouched { result.touched ≡ [] }
     {
         let pointer = Pointer {
             x: 0,
@@ -84,6 +92,9 @@ impl Desk {
             tree: Tree::new(alloc),
             windows: Stack::new(),
             changed: false,
+            touched: Touched {
+                looks: ArrayVec::new(),
+            },
         }
     }
 
@@ -98,8 +109,10 @@ impl Desk {
         ensures changed { TellsChange self.old self.new }
         ensures unchanged { self.new.changed ≡ false }
         ensures numbered { KeepsNumbers self.old.widgets.entries self.new.widgets.entries }
+        ensures touched { TellsTouched self.old self.new }
     {
         self.changed = false;
+        forget(&mut self.touched);
         if self.clients.has(client) {
             return Reply::Refused(Refusal::Connected);
         }
@@ -120,8 +133,10 @@ impl Desk {
         ensures changed { TellsChange self.old self.new }
         ensures unchanged { self.new.changed ≡ false }
         ensures numbered { KeepsNumbers self.old.widgets.entries self.new.widgets.entries }
+        ensures touched { TellsTouched self.old self.new }
     {
         self.changed = false;
+        forget(&mut self.touched);
         let client = match self.clients.free() {
             Some(client) => client,
             None => return Reply::Refused(Refusal::Full { limit: 16 }),
@@ -148,15 +163,27 @@ impl Desk {
         ensures others { LeavesOthers client self.old.desk self.new.desk }
         ensures valid { IsDesk self.new.desk }
         ensures numbered { KeepsNumbers self.old.widgets.entries self.new.widgets.entries }
+        ensures touched { TellsTouched self.old self.new }
     {
         self.changed = false;
+        forget(&mut self.touched);
         if !self.clients.has(client) {
             return Reply::Refused(Refusal::NotConnected);
         }
         let moves = may_move(&self.tree, client, command);
+        let before = keep_looks(&self.tree, &self.windows, &self.pointer, self.shape, client);
         let answer = obey(&mut self.tree, &mut self.windows, client, command);
         settle(&mut self.tree, client, answer.changed, moves);
         let_go(&self.tree, &self.windows, &mut self.pointer);
+        tell_looks(
+            &before,
+            &self.tree,
+            &self.windows,
+            &self.pointer,
+            self.shape,
+            client,
+            &mut self.touched,
+        );
         self.changed = answer.changed;
         answer.reply
     }
@@ -171,8 +198,10 @@ impl Desk {
         ensures changed { TellsChange self.old self.new }
         ensures valid { IsDesk self.new.desk }
         ensures numbered { KeepsNumbers self.old.widgets.entries self.new.widgets.entries }
+        ensures touched { TellsTouched self.old self.new }
     {
         self.changed = false;
+        forget(&mut self.touched);
         if !self.clients.has(client) {
             return Reply::Refused(Refusal::NotConnected);
         }
@@ -226,6 +255,15 @@ impl Desk {
         ensures { result ≡ self.now.changed }
     {
         self.changed
+    }
+
+    /// The numbers of the widgets that were shown before the last call of `connect`, `hello`, `step` or `bye`, are shown
+    /// after it and look different, but for width and height; none before the first. See docs/MACHINE.md, "The reach of
+    /// a change".
+    pub fn touched(&self) -> &Touched
+        ensures { result.now.looks.items ≡ self.now.touched }
+    {
+        &self.touched
     }
 
     /// How many clients are connected, 0 to 16. See docs/MACHINE.md, "The desk".

@@ -17,6 +17,7 @@ mod placement;
 mod pointer;
 mod ranges;
 mod rule_options;
+mod touching;
 mod tracks;
 mod widgets;
 mod windows;

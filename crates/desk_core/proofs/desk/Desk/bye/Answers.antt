@@ -18,6 +18,13 @@ use Rattle.widget_model.specs.Widgets.{Widgets}
 use Rattle.desk_core.specs.View.{KeepsNumbers}
 use Rattle.desk_core.proofs.KeyNumbers.{numbers-same}
 use Rattle.desk_core.proofs.LeftPlaces.{departed-numbers}
+use Rattle.std.proofs.Common.{ℕ, not, nat_eq, refl}
+use Rattle.std.specs.List.{filter}
+use Rattle.widget_model.specs.Rows.{Row}
+use Rattle.widget_model.specs.Widgets.{rows_of}
+use Rattle.widget_model.specs.Forest.{IsWidgets}
+use Rattle.desk_model.specs.Seen as seen
+use Rattle.desk_core.proofs.TouchedLooks.{stayed-touched, left-touched}
 use Rattle.desk_core.proofs.desk.Desk.bye.Goals as goal
 
 pub returns-then-not-has-clause-step : goal.returns-then-not-has-clause-step
@@ -85,3 +92,31 @@ returns-clause-numbered c =
     let N : DeskView → Type 0 = λ s. KeepsNumbers s.widgets.entries c.drop_client.new.self.entries in
     let D : Widgets → Type 0 = λ w. KeepsNumbers i.tree.entries w.entries in
     subst N c.self.view_is (subst D (sym c.drop_client.ensures.left) (departed-numbers i.tree c.args.client c.self.invariant.parts.tree c.requires.low))
+
+pub returns-then-not-has-clause-touched : goal.returns-then-not-has-clause-touched
+returns-then-not-has-clause-touched c =
+    let i = c.self.inside in
+    let new : DeskView = record { desk = desk_of (stage_of i.shape i.tree i.pointer) i.tree i.windows; changed = false; widgets = i.tree; windows = i.windows; touched = c.forget.new.touched.looks.items } in
+    stayed-touched c.args.self.now new (ap (λ (s : DeskView). s.widgets.entries) c.self.view_is) (ap (λ (s : DeskView). seen.scene_of s.desk) c.self.view_is) c.forget.ensures
+
+pub returns-clause-touched : goal.returns-clause-touched
+returns-clause-touched c =
+    let i = c.self.inside in
+    let tree = c.drop_client.new.self in
+    let windows = c.close_windows.new.windows in
+    let new : DeskView = record { desk = desk_of (stage_of i.shape tree c.let_go.new.pointer) tree windows; changed = nat_lt 0 c.count-count.result; widgets = tree; windows = windows; touched = c.forget.new.touched.looks.items } in
+    let kept = invariant_of-self-2 c in
+    let W : DeskView → Type 0 = λ s. IsWidgets s.widgets in
+    let R : DeskView → Type 0 = λ s. s.desk.rows ≡ rows_of s.widgets in
+    left-touched c.args.client c.args.self.now new
+    (record {
+      some = c.requires.low;
+      before = subst W c.self.view_is c.self.invariant.parts.tree;
+      after = kept.parts.tree;
+      rows = subst R c.self.view_is refl;
+      rows_after = refl;
+      numbers = returns-clause-numbered c;
+      others = returns-clause-others c;
+    })
+    (ap (λ (w : Widgets). w.entries) c.drop_client.ensures.left ∙ ap (λ (s : DeskView). filter (λ (e : ℕ × Row). not (nat_eq c.args.client e.1.client)) s.widgets.entries) c.self.view_is)
+    c.forget.ensures

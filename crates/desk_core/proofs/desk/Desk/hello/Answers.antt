@@ -16,6 +16,8 @@ use Rattle.desk_core.proofs.CallSteps.{hello-full, hello-short}
 use Rattle.desk_core.proofs.Calls.{free-joined, greeted-step, greeted-kept}
 use Rattle.desk_core.specs.View.{KeepsNumbers}
 use Rattle.desk_core.proofs.KeyNumbers.{numbers-same, numbers-equal}
+use Rattle.desk_model.specs.Seen as seen
+use Rattle.desk_core.proofs.TouchedLooks.{stayed-touched}
 use Rattle.desk_core.proofs.desk.Desk.hello.Goals as goal
 
 -- the clause on the others follows from that on the step
@@ -92,3 +94,29 @@ returns-clause-numbered c =
     let N : DeskView → Type 0 = λ s. KeepsNumbers s.widgets.entries c.join_client.new.self.entries in
     let same : c.join_client.new.self.entries ≡ i.tree.entries = ap (λ (w : Widgets). w.entries) c.in-Ok.ensures.ok in
     subst N c.self.view_is (numbers-equal i.tree.entries c.join_client.new.self.entries c.self.invariant.parts.tree.forest.own_names same)
+
+pub returns-in-None-clause-touched : goal.returns-in-None-clause-touched
+returns-in-None-clause-touched c =
+    let i = c.self.inside in
+    let new : DeskView = record { desk = desk_of (stage_of i.shape i.tree i.pointer) i.tree i.windows; changed = false; widgets = i.tree; windows = i.windows; touched = c.forget.new.touched.looks.items } in
+    stayed-touched c.args.self.now new (ap (λ (s : DeskView). s.widgets.entries) c.self.view_is) (ap (λ (s : DeskView). seen.scene_of s.desk) c.self.view_is) c.forget.ensures
+
+pub returns-in-Err-clause-touched : goal.returns-in-Err-clause-touched
+returns-in-Err-clause-touched c =
+    let i = c.self.inside in
+    let tree = c.join_client.new.self in
+    let new : DeskView = record { desk = desk_of (stage_of i.shape tree i.pointer) tree i.windows; changed = false; widgets = tree; windows = i.windows; touched = c.forget.new.touched.looks.items } in
+    stayed-touched c.args.self.now new
+    (ap (λ (w : Widgets). w.entries) c.in-Err.ensures.err ∙ ap (λ (s : DeskView). s.widgets.entries) c.self.view_is)
+    (ap (λ (w : Widgets). seen.scene_of (desk_of (stage_of i.shape w i.pointer) w i.windows)) c.in-Err.ensures.err ∙ ap (λ (s : DeskView). seen.scene_of s.desk) c.self.view_is)
+    c.forget.ensures
+
+pub returns-clause-touched : goal.returns-clause-touched
+returns-clause-touched c =
+    let i = c.self.inside in
+    let tree = c.join_client.new.self in
+    let new : DeskView = record { desk = desk_of (stage_of i.shape tree i.pointer) tree i.windows; changed = false; widgets = tree; windows = i.windows; touched = c.forget.new.touched.looks.items } in
+    stayed-touched c.args.self.now new
+    (ap (λ (w : Widgets). w.entries) c.in-Ok.ensures.ok ∙ ap (λ (s : DeskView). s.widgets.entries) c.self.view_is)
+    (ap (λ (w : Widgets). seen.scene_of (desk_of (stage_of i.shape w i.pointer) w i.windows)) c.in-Ok.ensures.ok ∙ ap (λ (s : DeskView). seen.scene_of s.desk) c.self.view_is)
+    c.forget.ensures

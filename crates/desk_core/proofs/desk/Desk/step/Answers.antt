@@ -10,6 +10,15 @@ use Rattle.desk_core.proofs.CallSteps.{step-absent}
 use Rattle.desk_core.proofs.Calls.{connected-joined, obeyed-tree, obeyed-numbers, obeyed-parts, obeyed-held, obeyed-step, obeyed-kept}
 use Rattle.desk_core.specs.View.{KeepsNumbers}
 use Rattle.desk_core.proofs.KeyNumbers.{numbers-same}
+use Rattle.std.proofs.Common.{ℕ, ◌&&◌, nat_eq, refl}
+use Rattle.std.specs.List.{list_any}
+use Rattle.look_data.specs.Kept.{differ}
+use Rattle.widget_model.specs.Nodes.{is_number_of}
+use Rattle.widget_model.specs.Forest.{IsWidgets}
+use Rattle.desk_model.specs.Seen as seen
+use Rattle.touch_rules.specs.Laws.{kept_of}
+use Rattle.desk_core.specs.Touching.{numbered_of}
+use Rattle.desk_core.proofs.TouchedLooks.{obeyed-touched, stayed-touched, kept-told}
 use Rattle.desk_core.proofs.desk.Desk.step.Goals as goal
 
 pub returns-then-not-has-clause-step : goal.returns-then-not-has-clause-step
@@ -84,3 +93,40 @@ returns-clause-changed c =
     let T : DeskView → Type 0 = λ s. IsTrue changed ↔ ((rows_of c.settle.new.tree ≡ s.desk.rows) × (windows_at (nodes c.settle.new.tree.entries) keys ≡ s.desk.windows) → ⊥) in
     let L : Widgets → Type 0 = λ w. IsTrue changed ↔ ((rows_of w ≡ rows_of i.tree) × (windows_at (nodes w.entries) keys ≡ windows_at (nodes i.tree.entries) i.windows) → ⊥) in
     subst T c.self.view_is (subst L (sym c.settle.ensures.changed.same) c.obey-answer.ensures.tells)
+
+pub returns-then-not-has-clause-touched : goal.returns-then-not-has-clause-touched
+returns-then-not-has-clause-touched c =
+    let i = c.self.inside in
+    let new : DeskView = record { desk = desk_of (stage_of i.shape i.tree i.pointer) i.tree i.windows; changed = false; widgets = i.tree; windows = i.windows; touched = c.forget.new.touched.looks.items } in
+    stayed-touched c.args.self.now new (ap (λ (s : DeskView). s.widgets.entries) c.self.view_is) (ap (λ (s : DeskView). seen.scene_of s.desk) c.self.view_is) c.forget.ensures
+
+pub keep_looks-before-requires-clause-widgets : goal.keep_looks-before-requires-clause-widgets
+keep_looks-before-requires-clause-widgets c = c.self.invariant.parts.tree
+
+pub tell_looks-requires-clause-widgets : goal.tell_looks-requires-clause-widgets
+tell_looks-requires-clause-widgets c = c.settle.ensures.changed.valid
+
+pub returns-clause-touched : goal.returns-clause-touched
+returns-clause-touched c =
+    let i = c.self.inside in
+    let tree = c.settle.new.tree in
+    let windows = c.obey-answer.new.windows in
+    let pointer = c.let_go.new.pointer in
+    let touched = c.tell_looks.new.touched.looks.items in
+    let new : DeskView = record { desk = desk_of (stage_of i.shape tree pointer) tree windows; changed = c.obey-answer.result.changed; widgets = tree; windows = windows; touched = touched } in
+    let kept = invariant_of-self-2 c in
+    let W : DeskView → Type 0 = λ s. IsWidgets s.widgets in
+    let R : DeskView → Type 0 = λ s. s.desk.rows ≡ rows_of s.widgets in
+    let T : DeskView → Type 0 = λ s. (id : ℕ) → list_any (nat_eq id) touched ≡ (is_number_of c.args.client id && differ (kept_of (numbered_of s) id) (kept_of (numbered_of new) id)) in
+    obeyed-touched c.args.client c.args.self.now new c.args.command.now (is_memory c.obey-answer.result.reply) c.obey-answer.result.reply
+    (record {
+      some = c.requires.low;
+      before = subst W c.self.view_is c.self.invariant.parts.tree;
+      after = kept.parts.tree;
+      rows = subst R c.self.view_is refl;
+      rows_after = refl;
+      numbers = returns-clause-numbered c;
+      others = returns-clause-others c;
+    })
+    (returns-clause-step c)
+    (subst T c.self.view_is (kept-told c.args.client c.keep_looks-before.result i.shape i.pointer pointer i.tree tree i.windows windows touched c.self.invariant.parts.windows kept.parts.windows c.keep_looks-before.ensures c.tell_looks.ensures))

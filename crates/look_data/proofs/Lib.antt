@@ -1,0 +1,4 @@
+pub mod OneNumber
+pub mod LookSteps
+pub mod KeptLemmas
+pub mod OpenSteps

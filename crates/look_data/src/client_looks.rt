@@ -1,0 +1,57 @@
+ghost use Rattle.std.specs.Prelude.{◌≡◌, ◌≤◌, ℕ};
+ghost use Rattle.std.specs.List.{list_any};
+ghost use Rattle.look_data.specs.Kept.{AreKeptOf, is_changed};
+ghost use Rattle.widget_model.specs.Forest.{IsWidgets};
+ghost use Rattle.std.specs.Prelude.{nat_eq};
+
+use crate::data::LookData;
+use crate::keeping::{keep_looks, tell_looks};
+use scene_core::View;
+use shot_core::Touched;
+use std::marker::Model;
+
+/// The looks of a client's shown widgets at one moment, but for films' bytes, so that it can be told later which of
+/// them have changed. Contracts see a list with a look, or none, for each of the client's 128 numbers. See
+/// docs/MACHINE.md, "The reach of a change".
+#[derive(Drop)]
+pub struct ClientLooks {
+    looks: [Option<LookData>; 128],
+}
+
+impl Model for ClientLooks {
+    ghost use Rattle.std.specs.Prelude.{List, map};
+    ghost use Rattle.std.specs.Prelude.{Option};
+    ghost use Rattle.std.specs.Option.{option_map};
+    ghost use Rattle.look_core.specs.Seen.{Seen};
+    ghost use Rattle.look_data.specs.Data.{seen_in};
+
+    ghost Value = { List (Option Seen) };
+
+    ghost view = { λ kept. map (option_map seen_in) kept.looks };
+}
+
+impl ClientLooks {
+    /// The looks of the client's shown widgets in the view, of a client from 1 to 16. It asks each of the client's 128
+    /// numbers whether it is live, and of each that is for its root and its look.
+    pub fn keep(view: &View<'_>, client: u32) -> ClientLooks
+        requires widgets { IsWidgets view.now.tree.now }
+        requires low { 1 ≤ client }
+        requires high { client ≤ 16 }
+        ensures { AreKeptOf client view.now result }
+    {
+        ClientLooks {
+            looks: keep_looks(view, client),
+        }
+    }
+
+    /// Tells which of the client's widgets have a kept look, are shown in the view and look different there, in place
+    /// of what was told before.
+    pub fn tell_changed(&self, view: &View<'_>, client: u32, touched: &mut Touched)
+        requires widgets { IsWidgets view.now.tree.now }
+        requires low { 1 ≤ client }
+        requires high { client ≤ 16 }
+        ensures { (id : ℕ) → list_any (nat_eq id) touched.new.looks.items ≡ is_changed client self.now view.now id }
+    {
+        tell_looks(&self.looks, view, client, &mut touched.looks);
+    }
+}

@@ -1,0 +1,4 @@
+pub mod SameBytes
+pub mod OthersLooks
+pub mod OwnLooks
+pub mod FilmsStay

@@ -1,0 +1,4 @@
+//! Which looks an event of a client touched, by the definitions alone.
+#![tactic(auto)]
+
+pub mod laws;
