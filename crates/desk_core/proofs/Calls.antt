@@ -32,7 +32,7 @@ use Rattle.desk_model.proofs.Sound.{let_go-again}
 use Rattle.desk_model.proofs.ByePointer.{closed, others-inside, let_go-closed}
 use Rattle.desk_core.proofs.OthersLists.{list_all-filter, windows_at-filter, key_at-others}
 use Rattle.desk_model.proofs.OwnPart.{commands_leave_others}
-use Rattle.desk_core.proofs.KeyNumbers.{others-due, numbers-fewer}
+use Rattle.desk_core.proofs.KeyNumbers.{others-due}
 use Rattle.desk_core.proofs.Layouts.{laid-due}
 use Rattle.desk_core.proofs.LeftPlaces.{departed-due}
 use Rattle.desk_core.proofs.Unmoved.{unmoved-untold, unmoved-due}

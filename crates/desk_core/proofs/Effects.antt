@@ -1,5 +1,5 @@
 -- What a command did: it found its widget or not, it refused, or it changed one row.
-use Rattle.std.proofs.Common.{◌≡◌, ℕ, true, false, List, [], ◌∷◌, Option, Some, None, is_some, refl, sym, ap, ap₂, ◌∙◌, subst}
+use Rattle.std.proofs.Common.{◌≡◌, ℕ, true, false, List, [], ◌∷◌, Option, Some, None, is_some, refl, sym, ap, ◌∙◌, subst}
 use Rattle.std.proofs.lemmas.Bool.{true≢false, and_parts, and_from}
 use Rattle.std.specs.List.{list_all}
 use Rattle.std.specs.Option.{option_map, option_map_or}
@@ -17,9 +17,9 @@ use Rattle.widget_model.proofs.Naming.{id_named-row, row_named-found, row_named-
 use Rattle.tree_core.proofs.Listed.{row_named-row}
 use Rattle.tree_core.proofs.ForestLemmas.{nodes-with_row, node_at-nodes}
 use Rattle.widget_model.specs.Kinds.{is_window_kind}
-use Rattle.desk_core.specs.Parts.{windows_at, desk_of, names_window, AreParts}
+use Rattle.desk_core.specs.Parts.{windows_at, names_window}
 use Rattle.widget_model.specs.Keys.{key_of}
-use Rattle.desk_core.specs.Effects.{Did, DidAll, with_rows}
+use Rattle.desk_core.specs.Effects.{Did, with_rows}
 use Rattle.desk_core.specs.Lookup.{IsFound}
 
 -- the widget that has the name's number

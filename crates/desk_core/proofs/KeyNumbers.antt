@@ -1,16 +1,15 @@
 -- Numbers stay with their widgets, and so the kept places of the others stay the ones that they are due.
-use Rattle.std.proofs.Common.{◌≡◌, ℕ, Bool, true, false, not, nat_eq, List, [], ◌∷◌, Option, Some, None, is_some, refl, sym, ap, ◌∙◌, subst}
-use Rattle.std.proofs.lemmas.Bool.{true≢false, eqb-true}
+use Rattle.std.proofs.Common.{◌≡◌, ℕ, true, false, not, nat_eq, List, Option, Some, None, is_some, refl, sym, ap, ◌∙◌, subst}
+use Rattle.std.proofs.lemmas.Bool.{eqb-true}
 use Rattle.std.specs.Option.{option_map}
-use Rattle.std.specs.List.{filter}
 use Rattle.widget_model.specs.Rows.{Row}
-use Rattle.widget_model.specs.Nodes.{Node, node_at, id_named}
+use Rattle.widget_model.specs.Nodes.{node_at, id_named}
 use Rattle.widget_model.specs.Named.{has_name, own_rows, rows_of_others, row_named}
 use Rattle.widget_model.specs.Keys.{key_of}
 use Rattle.widget_model.specs.Widgets.{Widgets, nodes, rows_of, row_at, key_at, place_at}
 use Rattle.widget_model.specs.Forest.{HaveOwnNames, IsWidgets}
 use Rattle.widget_model.proofs.Hanging.{find-element}
-use Rattle.widget_model.proofs.Naming.{id_named-row, row_named-parts}
+use Rattle.widget_model.proofs.Naming.{id_named-row}
 use Rattle.widget_model.proofs.OwnRows.{row_named-agree}
 use Rattle.tree_core.proofs.Listed.{listed_number, row_named-row}
 use Rattle.scene_model.specs.DuePlaces.{due_place}

@@ -1,8 +1,7 @@
 -- A client's widgets as they are laid out: its slots are emptied, and then one Window after the other is laid out.
-use Rattle.std.proofs.Common.{◌≡◌, ◌≢◌, ◌+◌, ◌-◌, ◌*◌, ◌<◌, ◌≤◌, ℕ, Bool, true, false, cond, ◌&&◌, nat_eq, nat_lt, nat_le, List, Option, Some, None, is_some, refl, sym, ap, ap₂, ◌∙◌, subst, arith, inl, inr}
-use Rattle.std.proofs.lemmas.Bool.{true≢false, false≢true, cases_eq, eqb-true, eqb-false, eq-eqb, ne_eqb, and_parts, and_from, le-leb, lt-ltb, leb-true, ltb-true, ltb-false, le-ltb}
+use Rattle.std.proofs.Common.{◌≡◌, ◌≢◌, ◌+◌, ◌<◌, ◌≤◌, ℕ, Bool, true, false, cond, ◌&&◌, nat_eq, nat_lt, nat_le, List, Option, Some, None, is_some, refl, sym, ap, ap₂, ◌∙◌, subst, arith, inl, inr}
+use Rattle.std.proofs.lemmas.Bool.{true≢false, false≢true, cases_eq, eqb-true, ne_eqb, and_parts, and_from, le-leb, lt-ltb, leb-true, ltb-true, ltb-false, le-ltb}
 use Rattle.std.specs.Option.{option_map, option_map_or, option_and_then}
-use Rattle.geom_core.specs.declared.rectangle.Rect.{Rect}
 use Rattle.widget_model.specs.Rows.{Row}
 use Rattle.widget_model.specs.Named.{row_named, is_kind_of}
 use Rattle.widget_model.specs.Nodes.{Node, id_named, first_number, is_number_of}
@@ -23,7 +22,7 @@ use Rattle.scene_core.specs.Places.{HasPlaces}
 use Rattle.scene_core.proofs.LaySteps.{set-same}
 use Rattle.desk_core.specs.View.{HaveDuePlaces}
 use Rattle.desk_core.specs.Stays.{IsSettled}
-use Rattle.desk_core.specs.Laid.{is_window_at, ChangesPlacesOf, AreEmptied, place_below, AreLaidTo, AreLaidOut}
+use Rattle.desk_core.specs.Laid.{is_window_at, AreEmptied, place_below, AreLaidTo, AreLaidOut}
 
 -- a live number is one of its client's
 pub own-number : (w : Widgets) (id : ℕ) (row : Row) → IsWidgets w → row_at w.entries id ≡ Some row → is_number_of row.client id ≡ true

@@ -10,7 +10,6 @@ use Rattle.kind_core.specs.declared.kinds.Kind.TheVariants.{Window, Grid, Frame,
 use Rattle.kind_core.specs.declared.kinds.Attr.{Attr}
 use Rattle.kind_core.specs.declared.kinds.Attr.TheVariants.{X, Y, W, H, Title, Text, Caret, Cols, Value, Max, Real, View, Vert}
 use Rattle.kind_core.specs.declared.kinds.EventKind.{EventKind}
-use Rattle.kind_core.specs.declared.shapes.Cell.{Cell}
 use Rattle.kind_core.specs.declared.values.Value as value
 use Rattle.kind_core.specs.Effective.{label_text, frame_offset}
 use Rattle.vscreen_core.specs.FilmState.{FilmState}
@@ -26,7 +25,6 @@ use Rattle.widget_model.proofs.Hanging.{LeavesNames, changed, row_named-map, row
 use Rattle.scene_model.specs.declared.axis.Axis.{Axis}
 use Rattle.scene_model.specs.declared.axis.Axis.TheVariants.{Across, Down}
 use Rattle.scene_model.specs.declared.axis.Span.{Span}
-use Rattle.scene_model.specs.Spans.{along}
 use Rattle.scene_model.specs.Values.{number_in, text_in, number_of, text_of, linked_value, offset_of}
 use Rattle.scene_model.specs.Tracks.{rules_of}
 use Rattle.scene_model.specs.Least.{bar_size, own_size}

@@ -1,27 +1,25 @@
 -- Changes of rows that move nothing, and what then holds of the kept places.
-use Rattle.std.proofs.Common.{◌≡◌, ◌⊎◌, ◌↔◌, ℕ, ℤ, pos, negsuc, zero, suc, Bool, true, false, IsTrue, cond, nat_eq, List, map, slice_get, Option, Some, None, refl, sym, ap, ap₂, ◌∙◌, subst, inl, inr}
+use Rattle.std.proofs.Common.{◌≡◌, ◌⊎◌, ◌↔◌, ℕ, ℤ, pos, negsuc, zero, suc, Bool, false, IsTrue, cond, List, map, slice_get, Option, Some, None, refl, sym, ap, ap₂, ◌∙◌, subst, inl, inr}
 use Rattle.std.proofs.lemmas.Bool.{true≢false, cases_eq}
 use Rattle.std.specs.Option.{option_map, option_map_or, option_and_then}
-use Rattle.kind_core.specs.declared.kinds.Kind.{Kind}
 use Rattle.kind_core.specs.declared.shapes.Cell.{Cell}
 use Rattle.geom_core.specs.declared.rectangle.Rect.{Rect}
 use Rattle.widget_model.specs.Rows.{Row}
 use Rattle.widget_model.specs.Named.{has_name, row_named, is_kind_of}
-use Rattle.widget_model.specs.Keys.{key_of, row_of, root_key}
+use Rattle.widget_model.specs.Keys.{key_of, row_of}
 use Rattle.widget_model.specs.Kinds.{is_window_kind}
 use Rattle.widget_model.specs.Trees.{parent_of, root_in, root_of, most_levels}
-use Rattle.widget_model.specs.Widgets.{Widgets, rows_of, row_at, key_at, place_at, nodes}
+use Rattle.widget_model.specs.Widgets.{Widgets, rows_of, row_at, place_at}
 use Rattle.widget_model.specs.Forest.{IsWidgets}
 use Rattle.widget_model.proofs.Hanging.{LeavesNames, row_named-map, find-element}
 use Rattle.tree_core.proofs.Listed.{row_named-row}
-use Rattle.scene_model.specs.Placing.{place_in}
 use Rattle.scene_model.specs.DuePlaces.{due_place}
 use Rattle.scene_model.specs.Still.{MovesNothing}
 use Rattle.scene_model.proofs.Still.{still_places}
 use Rattle.scene_model.proofs.Parents.{key_of-found}
 use Rattle.desk_core.specs.View.{HaveDuePlaces, KeepsNumbers}
 use Rattle.desk_core.specs.Stays.{due_of, MoveNothing}
-use Rattle.desk_core.proofs.KeyNumbers.{number-named, key-row}
+use Rattle.desk_core.proofs.KeyNumbers.{number-named}
 
 -- the same rows
 pub unmoved-same : (rows : List Row) → MoveNothing rows rows

@@ -1,5 +1,5 @@
 -- The view of a desk is its scene, by numbers, and has the places that are due.
-use Rattle.std.proofs.Common.{◌≡◌, ◌+◌, ◌<◌, ℕ, Bool, true, false, cond, ◌&&◌, nat_lt, List, [], ◌∷◌, Option, Some, None, refl, sym, ap, ap₂, ◌∙◌, arith}
+use Rattle.std.proofs.Common.{◌≡◌, ◌+◌, ℕ, Bool, true, false, cond, ◌&&◌, nat_lt, List, [], ◌∷◌, Option, Some, None, refl, sym, ap, ap₂, ◌∙◌, arith}
 use Rattle.std.proofs.lemmas.Bool.{true≢false, and_parts, lt-ltb}
 use Rattle.std.proofs.lemmas.List.Elements.{All-nil, All-cons}
 use Rattle.std.specs.List.{All, Contains, list_all}
@@ -13,7 +13,7 @@ use Rattle.widget_model.specs.Nodes.{Node, node_of, node_at, id_named}
 use Rattle.widget_model.specs.Kinds.{is_window_kind}
 use Rattle.widget_model.specs.Trees.{root_of}
 use Rattle.widget_model.specs.Relatives.{root_id}
-use Rattle.widget_model.specs.Widgets.{Widgets, nodes, rows_of, row_at, row_kind, key_at, place_at}
+use Rattle.widget_model.specs.Widgets.{Widgets, nodes, rows_of, row_at, row_kind, place_at}
 use Rattle.tree_core.specs.declared.pointer.Pointer.{Pointer}
 use Rattle.tree_core.proofs.ForestLemmas.{node_at-nodes}
 use Rattle.scene_model.specs.Placing.{place_in}
@@ -21,7 +21,7 @@ use Rattle.desk_model.specs.Seen as seen
 use Rattle.scene_core.specs.View.{keys_of, scene_from, AreWindows, KeepsPlaces}
 use Rattle.scene_core.proofs.Numbered.{live-there}
 use Rattle.scene_core.proofs.Tops.{window-among}
-use Rattle.desk_core.specs.Parts.{stage_of, title_at, windows_at, desk_of, names_window, AreParts}
+use Rattle.desk_core.specs.Parts.{stage_of, windows_at, desk_of, names_window, AreParts}
 use Rattle.desk_core.specs.View.{HaveDuePlaces}
 use Rattle.desk_core.specs.Laid.{is_window_at}
 use Rattle.desk_core.proofs.Layouts.{below-due}

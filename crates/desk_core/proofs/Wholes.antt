@@ -1,5 +1,5 @@
 -- What a command did to the widgets is what it did to all parts of the desk, where it leaves the open windows.
-use Rattle.std.proofs.Common.{◌≡◌, ℕ, List, Option, refl, ap, ap₂, ◌∙◌}
+use Rattle.std.proofs.Common.{ℕ, List, Option, refl, ap, ap₂, ◌∙◌}
 use Rattle.geom_core.specs.declared.rectangle.Rect.{Rect}
 use Rattle.cmd_words.specs.declared.replies.Reply.{Reply}
 use Rattle.widget_model.specs.KeptPlaces.{place_in}

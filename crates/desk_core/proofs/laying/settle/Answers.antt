@@ -1,5 +1,4 @@
-use Rattle.std.proofs.Common.{◌≡◌, ◌&&◌, Bool, true, false, refl, sym, ap, ◌∙◌}
-use Rattle.desk_core.specs.Stays.{IsSettled}
+use Rattle.std.proofs.Common.{◌&&◌, Bool, ap, ◌∙◌}
 use Rattle.desk_core.proofs.Layouts.{settled-none, settled-laid}
 use Rattle.desk_core.proofs.laying.settle.Goals as goal
 
