@@ -37,6 +37,8 @@ use Rattle.desk_core.proofs.Layouts.{laid-due}
 use Rattle.desk_core.proofs.LeftPlaces.{departed-due}
 use Rattle.desk_core.proofs.Unmoved.{unmoved-untold, unmoved-due}
 use Rattle.desk_core.proofs.StillCommands.{unmoved-command}
+use Rattle.scene_model.specs.WindowRows.{AreHung}
+use Rattle.tree_core.proofs.Listed.{AreNamedApart-rows}
 use Rattle.desk_core.proofs.PointerKept.{Holds, pointer-holds}
 use Rattle.desk_core.proofs.Departures.{desk_of-departed, AreParts-departed}
 use Rattle.desk_core.proofs.CallSteps.{connect-joined, hello-joined, bye-gone, step-obeyed}
@@ -142,8 +144,14 @@ module _ (shape : Shape) (pointer : Pointer) (clients : List ℕ) (w new : Widge
       by None did unmoved some = absurd (false≢true some)
       by (Some row) did unmoved some = subst (λ (rows : List Row). MoveNothing (rows_of w) rows) (sym (ap (λ (done : Reply × Desk). done.1.rows) (did.answer (stage_of shape w pointer)))) unmoved
 
+      hung : (row : Option (Desk → ℕ → Bool → Reply × Desk)) → IfSome row (λ row. DidAll (λ desk. row desk client (is_memory reply)) w new keys keys' reply) → IfSome row (λ row. AreHung (row (desk_of (stage_of shape w pointer) w keys) client (is_memory reply)).1.rows)
+      hung None did = tt
+      hung (Some row) did =
+          let after : AreHung (rows_of new) = record { names = AreNamedApart-rows new.entries obeyed-tree.forest.own_names; planted = obeyed-tree.planted } in
+          subst AreHung (ap (λ (done : Reply × Desk). done.1.rows) (did.answer (stage_of shape w pointer))) after
+
       told : (b : Bool) → changed ≡ b → MoveNothing (rows_of w) (rows_of new)
-      told true q = by (row_of command) did (unmoved-command command (desk_of (stage_of shape w pointer) w keys) client (is_memory reply) kept.desk (ap (λ (b : Bool). b && may_move (rows_of w) client command) (sym q) ∙ still)) built
+      told true q = by (row_of command) did (unmoved-command command (desk_of (stage_of shape w pointer) w keys) client (is_memory reply) kept.desk (hung (row_of command) did) (ap (λ (b : Bool). b && may_move (rows_of w) client command) (sym q) ∙ still)) built
       told false q = unmoved-untold (rows_of w) (rows_of new) (windows_at (nodes new.entries) keys' ≡ windows_at (nodes w.entries) keys) changed tells q
 
   module _ (moves : Bool) (laid : Widgets) (is : IsSettled client moves new laid) where

@@ -6,6 +6,7 @@ pub mod Layouts
 pub mod Wholes
 pub mod LeftPlaces
 mod Unmoved
+mod NewStays
 mod StillCommands
 pub mod LinkSteps
 pub mod Edits

@@ -1,5 +1,5 @@
 -- Commands that move nothing: they open a window, change what an event is bound to, or set what layout doesn't read.
-use Rattle.std.proofs.Common.{◌≡◌, ◌+◌, ◌*◌, ℕ, ℤ, pos, Bool, true, false, cond, int_lt, unsigned_abs, length, get_or, List, [], ◌∷◌, map, slice_get, Option, Some, None, refl, sym, ap, ap₂, ◌∙◌, subst}
+use Rattle.std.proofs.Common.{◌≡◌, ◌+◌, ◌*◌, ℕ, ℤ, pos, Bool, true, false, cond, int_lt, unsigned_abs, length, get_or, List, [], ◌∷◌, map, slice_get, Option, Some, None, is_some, refl, sym, ap, ap₂, ◌∙◌, subst}
 use Rattle.std.proofs.lemmas.Bool.{true≢false, or_parts}
 use Rattle.std.proofs.lemmas.List.{get_or-set_other}
 use Rattle.std.specs.List.{list_any}
@@ -17,8 +17,8 @@ use Rattle.cmd_words.specs.declared.commands.Command.{Command}
 use Rattle.cmd_words.specs.declared.commands.Command.TheVariants.{New, Set, Get, Place, Lift, ColumnConfig, RowConfig, Link, Unlink, Bind, Unbind, OpenWindow, CloseWindow, TopWindow, Mode, Admit, Leave, SendFrame, DropWidget, Poll}
 use Rattle.cmd_words.specs.declared.replies.Reply.{Reply}
 use Rattle.cmd_words.specs.declared.replies.Refusal.{Refusal}
-use Rattle.widget_model.specs.Rows.{Row, all_attrs, attr_of, attr_slot, with_attr, with_binding}
-use Rattle.widget_model.specs.Kinds.{is_variable_kind}
+use Rattle.widget_model.specs.Rows.{Row, all_attrs, attr_of, attr_slot, with_attr, with_binding, new_row}
+use Rattle.widget_model.specs.Kinds.{is_variable_kind, is_window_kind}
 use Rattle.widget_model.specs.Named.{has_name, row_named, with_named, is_kind_of}
 use Rattle.widget_model.proofs.Naming.{has_name-parts, with_named-absent}
 use Rattle.widget_model.proofs.Hanging.{LeavesNames, changed, row_named-map, row_named-own, all_at, find-element}
@@ -33,8 +33,11 @@ use Rattle.scene_model.specs.Still.{AsksTheSame, MovesNothing}
 use Rattle.desk_model.specs.Desk.{Desk}
 use Rattle.desk_model.specs.DeskFacts.{IsDesk, links_right}
 use Rattle.desk_model.specs.AttrOptions.{with_attrs}
-use Rattle.desk_model.specs.WidgetCommands.{step_set, set_refusal, set_effect}
-use Rattle.desk_model.specs.Refusals.{outcome}
+use Rattle.scene_model.specs.WindowRows.{AreHung}
+use Rattle.desk_model.specs.WidgetCommands.{step_new, new_refusal, new_effect, step_set, set_refusal, set_effect}
+use Rattle.cmd_words.specs.declared.replies.Refusal.TheVariants.{NameTaken}
+use Rattle.desk_core.proofs.NewStays.{unmoved-more}
+use Rattle.desk_model.specs.Refusals.{outcome, first_refusal, when}
 use Rattle.desk_model.specs.Bindings.{step_bind, bind_refusal, bind_effect}
 use Rattle.desk_model.specs.Windows.{step_open, open_refusal, open_effect}
 use Rattle.desk_model.specs.Commands.{row_of}
@@ -239,25 +242,37 @@ unfolding step_set
 unmoved-set desk client name options kept still =
     unmoved-outcome desk (set_refusal desk client name options) (set_effect desk client name options) (set-unmoved desk client name options kept (row_named desk.rows client name) refl still)
 
+named-none : (o : Option Row) (refusals : List (Option Refusal)) → first_refusal (when (is_some o) NameTaken ∷ refusals) ≡ None → o ≡ None
+named-none None refusals h = refl
+named-none (Some row) refusals h = absurd (cc)
+
+unmoved-new : (desk : Desk) (client : ℕ) (name : List ℕ) (kind : Kind) (short : Bool) → IsDesk desk → is_window_kind kind ≡ false → AreHung (step_new desk client name kind short).1.rows → MoveNothing desk.rows (step_new desk client name kind short).1.rows
+unfolding step_new new_row
+unmoved-new desk client name kind short kept plain hung = by (new_refusal desk client name kind short) refl hung
+  where
+    by : (o : Option Refusal) → new_refusal desk client name kind short ≡ o → AreHung (outcome desk o (new_effect desk client name kind)).1.rows → MoveNothing desk.rows (outcome desk o (new_effect desk client name kind)).1.rows
+    by (Some refusal) q after = unmoved-same desk.rows
+    by None q after = unmoved-more desk.rows (new_row client name kind) refl (named-none (row_named desk.rows client name) _ q) (record { names = kept.names; planted = kept.planted }) after kept.linked plain
+
 -- the commands of which nothing is to be laid out
-pub unmoved-command : (command : Command) (desk : Desk) (client : ℕ) (short : Bool) → IsDesk desk → may_move desk.rows client command ≡ false → IfSome (row_of command) (λ row. MoveNothing desk.rows (row desk client short).1.rows)
-unmoved-command (New name kind) desk client short kept still = absurd (true≢false still)
-unmoved-command (Set name options) desk client short kept still = unmoved-set desk client name options kept still
-unmoved-command (Get name attr) desk client short kept still = absurd (true≢false still)
-unmoved-command (Place parent child options) desk client short kept still = absurd (true≢false still)
-unmoved-command (Lift parent child) desk client short kept still = absurd (true≢false still)
-unmoved-command (ColumnConfig name index options) desk client short kept still = absurd (true≢false still)
-unmoved-command (RowConfig name index options) desk client short kept still = absurd (true≢false still)
-unmoved-command (Link name variable) desk client short kept still = absurd (true≢false still)
-unmoved-command (Unlink name) desk client short kept still = absurd (true≢false still)
-unmoved-command (Bind name event tag) desk client short kept still = unmoved-bind desk client name event (Some tag)
-unmoved-command (Unbind name event) desk client short kept still = unmoved-bind desk client name event None
-unmoved-command (OpenWindow name) desk client short kept still = unmoved-open desk client name
-unmoved-command (CloseWindow name) desk client short kept still = absurd (true≢false still)
-unmoved-command (TopWindow name) desk client short kept still = absurd (true≢false still)
-unmoved-command (Mode name w h) desk client short kept still = absurd (true≢false still)
-unmoved-command (Admit name period) desk client short kept still = absurd (true≢false still)
-unmoved-command (Leave name) desk client short kept still = absurd (true≢false still)
-unmoved-command (SendFrame name size) desk client short kept still = absurd (true≢false still)
-unmoved-command (DropWidget name) desk client short kept still = absurd (true≢false still)
-unmoved-command Poll desk client short kept still = absurd (true≢false still)
+pub unmoved-command : (command : Command) (desk : Desk) (client : ℕ) (short : Bool) → IsDesk desk → IfSome (row_of command) (λ row. AreHung (row desk client short).1.rows) → may_move desk.rows client command ≡ false → IfSome (row_of command) (λ row. MoveNothing desk.rows (row desk client short).1.rows)
+unmoved-command (New name kind) desk client short kept hung still = unmoved-new desk client name kind short kept still hung
+unmoved-command (Set name options) desk client short kept hung still = unmoved-set desk client name options kept still
+unmoved-command (Get name attr) desk client short kept hung still = absurd (true≢false still)
+unmoved-command (Place parent child options) desk client short kept hung still = absurd (true≢false still)
+unmoved-command (Lift parent child) desk client short kept hung still = absurd (true≢false still)
+unmoved-command (ColumnConfig name index options) desk client short kept hung still = absurd (true≢false still)
+unmoved-command (RowConfig name index options) desk client short kept hung still = absurd (true≢false still)
+unmoved-command (Link name variable) desk client short kept hung still = absurd (true≢false still)
+unmoved-command (Unlink name) desk client short kept hung still = absurd (true≢false still)
+unmoved-command (Bind name event tag) desk client short kept hung still = unmoved-bind desk client name event (Some tag)
+unmoved-command (Unbind name event) desk client short kept hung still = unmoved-bind desk client name event None
+unmoved-command (OpenWindow name) desk client short kept hung still = unmoved-open desk client name
+unmoved-command (CloseWindow name) desk client short kept hung still = absurd (true≢false still)
+unmoved-command (TopWindow name) desk client short kept hung still = absurd (true≢false still)
+unmoved-command (Mode name w h) desk client short kept hung still = absurd (true≢false still)
+unmoved-command (Admit name period) desk client short kept hung still = absurd (true≢false still)
+unmoved-command (Leave name) desk client short kept hung still = absurd (true≢false still)
+unmoved-command (SendFrame name size) desk client short kept hung still = absurd (true≢false still)
+unmoved-command (DropWidget name) desk client short kept hung still = absurd (true≢false still)
+unmoved-command Poll desk client short kept hung still = absurd (true≢false still)

@@ -9,10 +9,10 @@ use Rattle.kind_core.specs.declared.kinds.Kind.TheVariants.{Entry}
 use Rattle.kind_core.specs.declared.kinds.Attr.{Attr}
 use Rattle.kind_core.specs.declared.kinds.Attr.TheVariants.{X, Y, W, H, Text, Cols, Value, Vert}
 use Rattle.cmd_words.specs.declared.commands.Command.{Command}
-use Rattle.cmd_words.specs.declared.commands.Command.TheVariants.{Set, Bind, Unbind, OpenWindow}
+use Rattle.cmd_words.specs.declared.commands.Command.TheVariants.{New, Set, Bind, Unbind, OpenWindow}
 use Rattle.widget_model.specs.Rows.{Row}
 use Rattle.widget_model.specs.Widgets.{Widgets}
-use Rattle.widget_model.specs.Kinds.{is_variable_kind}
+use Rattle.widget_model.specs.Kinds.{is_variable_kind, is_window_kind}
 use Rattle.widget_model.specs.Named.{row_named}
 use Rattle.widget_model.specs.Keys.{row_of}
 use Rattle.scene_model.specs.DuePlaces.{due_place}
@@ -41,8 +41,10 @@ is_asked kind Text = not (is_entry kind)
 is_asked kind Value = is_variable_kind kind
 is_asked kind _ = false
 
--- Opening a window, binding an event and setting what layout doesn't read move nothing; any other command may.
+-- A new widget that is no Window, opening a window, binding an event and setting what layout doesn't read move nothing;
+-- any other command may.
 abbrev pub may_move : List Row → ℕ → Command → Bool
+may_move rows client (New name kind) = is_window_kind kind
 may_move rows client (Set name options) = option_map_or (λ row. list_any (λ option. is_asked row.kind option.0) options) (row_named rows client name) false
 may_move rows client (Bind name event tag) = false
 may_move rows client (Unbind name event) = false

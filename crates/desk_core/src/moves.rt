@@ -7,7 +7,7 @@ ghost use Rattle.widget_model.specs.Named.{row_named};
 ghost use Rattle.widget_model.specs.Widgets.{rows_of};
 ghost use Rattle.desk_core.specs.Stays.{is_asked, may_move};
 
-use crate::kinds::{is_entry, is_variable};
+use crate::kinds::{is_entry, is_variable, is_window};
 use crate::lookup::find;
 use cmd_words::Command;
 use kind_core::{Attr, Kind, Name, Value};
@@ -47,6 +47,7 @@ pub(crate) fn may_move(tree: &Tree, client: u32, command: &Command) -> bool
     ensures { result ≡ may_move (rows_of tree.now) client command.now }
 {
     match command {
+        Command::New { kind, .. } => is_window(*kind),
         Command::Set { name, options } => set_moves(tree, client, name, options.as_slice()),
         Command::Bind { .. } | Command::Unbind { .. } | Command::OpenWindow { .. } => false,
         _ => true,
