@@ -5,10 +5,14 @@
 #[cfg(test)]
 mod changing;
 #[cfg(test)]
+mod edges;
+#[cfg(test)]
 mod nests;
 #[cfg(test)]
 mod places;
 #[cfg(test)]
 mod playing;
+#[cfg(test)]
+mod shown;
 #[cfg(test)]
 mod words;

@@ -4,6 +4,7 @@ ghost use Rattle.widget_model.specs.Widgets.{IsLive};
 ghost use Rattle.widget_model.specs.Clients.{is_joined};
 
 use crate::changing::change;
+use crate::shown::{is_bare, is_top};
 use crate::words::{rect, widget, word};
 use geom_core::Rect;
 use kind_core::Kind;
@@ -59,6 +60,8 @@ pub fn play_row(rt: &impl Abort, alloc: Global, tree: &mut Tree, row: &str) -> R
     match word(&mut words)? {
         "at" => is_at(rt, tree, &mut words, row),
         "none" => is_nowhere(rt, tree, &mut words, row),
+        "top" => is_top(rt, tree, &mut words, row),
+        "bare" => is_bare(rt, tree, &mut words, row),
         call => change(alloc, tree, call, &mut words),
     }
 }
