@@ -5,21 +5,21 @@ use tree_core::Tree;
 
 const ENTRIES: &str = "
 add e Entry
-bind e key
-bind e change
+bind e key t
+bind e change t
 add b Entry
-bind b key
+bind b key t
 text b a
 add c Entry
-bind c key
-bind c change
+bind c key t
+bind c change t
 text c a
 set c caret 1
 add f Entry
 text f abcdefghabcdefghabcdefghabcdefghabcdefghabcdefghabcdefghabcdefgh
 add g Entry
-bind g key
-bind g change
+bind g key t
+bind g change t
 text g abcdefghabcdefghabcdefghabcdefghabcdefghabcdefghabcdefghabcdefgh
 set g caret 64
 ";

@@ -7,22 +7,19 @@ ghost use Rattle.geom_core.specs.Rect.{IsInRange};
 ghost use Rattle.widget_model.specs.Widgets.{IsLive};
 ghost use Rattle.input_core.specs.Live.{HoldsLive, IsLiveGrab};
 
-use crate::tables::{count, number, widget, word};
 use cmd_words::Input;
 use geom_core::Rect;
 use input_core::Hit;
 use std::str::SplitWhitespace;
 use std::test::Fail;
+use test_tables::{number, rect, widget, word};
 use tree_core::{Grab, Id, Pointer, Tree};
 
 /// The next place of a row.
 fn place(words: &mut SplitWhitespace<'_>) -> Result<Rect, Fail>
     ensures { IfOk result IsInRange }
 {
-    let x = number(words)?;
-    let y = number(words)?;
-    let w = count(words)?;
-    let h = count(words)?;
+    let Rect { x, y, w, h } = rect(words)?;
     if x < -5000 || x > 5000 || y < -5000 || y > 5000 || w > 5000 || h > 5000 {
         return Err("a place is too far away".into());
     }
@@ -40,8 +37,8 @@ fn grab(tree: &Tree, words: &mut SplitWhitespace<'_>) -> Result<Grab, Fail>
         }),
         "drag" => {
             let id = widget(tree, words)?;
-            let dx = count(words)?;
-            let dy = count(words)?;
+            let dx = number(words)?;
+            let dy = number(words)?;
             Ok(Grab::Drag { id, dx, dy })
         }
         _ => Err("a word is no grab".into()),
@@ -68,8 +65,8 @@ pub fn pointer(tree: &Tree, words: &mut SplitWhitespace<'_>) -> Result<Pointer, 
     if word(words)? != "at" {
         return Err("a row begins with the pointer".into());
     }
-    let x = count(words)?;
-    let y = count(words)?;
+    let x = number(words)?;
+    let y = number(words)?;
     if x >= 64 || y >= 64 {
         return Err("the pointer is off the screen".into());
     }
@@ -116,8 +113,8 @@ pub fn held(words: &mut SplitWhitespace<'_>) -> Result<Option<Rect>, Fail>
 pub fn input(words: &mut SplitWhitespace<'_>) -> Result<Input, Fail> {
     match word(words)? {
         "motion" => {
-            let x = count(words)?;
-            let y = count(words)?;
+            let x = number(words)?;
+            let y = number(words)?;
             Ok(Input::Motion { x, y })
         }
         "press" => Ok(Input::Press),

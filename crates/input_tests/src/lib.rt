@@ -7,9 +7,9 @@ mod edits;
 #[cfg(test)]
 mod given;
 #[cfg(test)]
-mod pointing;
+mod keys;
 #[cfg(test)]
-mod tables;
+mod pointing;
 #[cfg(test)]
 mod troughs;
 #[cfg(test)]

@@ -6,16 +6,16 @@ use tree_core::Tree;
 const TWO_WINDOWS: &str = "
 add p Window
 add b Button
-into p b
+hang p b 1 1 0
 add q Window
 add d Button
-into q d
-bind b press
-bind b release
-bind b click
-bind d press
-bind d release
-bind d click
+hang q d 1 1 0
+bind b press t
+bind b release t
+bind b click t
+bind d press t
+bind d release t
+bind d click t
 ";
 
 /// Windows p at (0, 0) and q at (20, 0), q in front, both 40 by 40: their Buttons are at (1, 12) and (21, 12), 38 by 27.
@@ -33,8 +33,8 @@ at 30 20 down on b nobody hit d 21 12 38 27 held 1 12 38 27 release => at 30 20 
 const A_SCREEN: &str = "
 add w Window
 add v VScreen
-into w v
-bind v key
+hang w v 1 1 0
+bind v key t
 ";
 
 /// A VScreen at (1, 12), 38 by 27, of whose events only its keys are bound.
@@ -50,22 +50,22 @@ const ALL: &str = "
 add w Window
 set w x 10
 set w y 20
-bind w move
+bind w move t
 add g Grid
-into w g
+hang w g 1 1 0
 add e Entry
-hang g e 1
+hang g e 1 1 0
 text e abc
 add s Scale
-hang g s 2
-bind s change
+hang g s 2 1 0
+bind s change t
 add l Label
-hang g l 3
+hang g l 3 1 0
 add v VScreen
-hang g v 4
-bind v press
-bind v release
-bind v motion
+hang g v 4 1 0
+bind v press t
+bind v release t
+bind v motion t
 ";
 
 const EACH: &str = "

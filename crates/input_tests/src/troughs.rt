@@ -6,16 +6,16 @@ use tree_core::Tree;
 const BARS: &str = "
 add s Scale
 set s value 50
-bind s change
+bind s change t
 add z Scale
 set z vert 1
 add n Variable
 set n value -5
 add k Scale
 link k n
-bind k change
+bind k change t
 add r Scrollbar
-bind r change
+bind r change t
 add h Scrollbar
 set h view 50
 add f Scrollbar

@@ -7,13 +7,13 @@ ghost use Rattle.widget_model.specs.Clients.{is_joined};
 ghost use Rattle.widget_model.specs.Forest.{IsWidgets};
 
 use crate::given::{held, hit, input, pointer};
-use crate::tables::{event, number, rows, widget, word};
-use crate::widgets::make;
+use crate::widgets::make_all;
 use input_core::{Effects, Post, route};
 use kind_core::{Text, text_from};
 use std::process::Abort;
 use std::str::SplitWhitespace;
 use std::test::Fail;
+use test_tables::{event, integer, rows, widget, word};
 use tree_core::{Grab, Id, Pointer, Tree};
 
 /// The effects of a row's answer.
@@ -44,8 +44,8 @@ fn text(words: &mut SplitWhitespace<'_>) -> Result<Text, Fail> {
 fn post(tree: &Tree, words: &mut SplitWhitespace<'_>) -> Result<Post, Fail> {
     let id = widget(tree, words)?;
     let event = event(words)?;
-    let a = number(words)?;
-    let b = number(words)?;
+    let a = integer(words)?;
+    let b = integer(words)?;
     Ok(Post { id, event, a, b })
 }
 
@@ -53,10 +53,10 @@ fn post(tree: &Tree, words: &mut SplitWhitespace<'_>) -> Result<Post, Fail> {
 fn add(tree: &Tree, wanted: &mut Wanted, words: &mut SplitWhitespace<'_>) -> Result<(), Fail> {
     match word(words)? {
         "raise" => wanted.raise = Some(widget(tree, words)?),
-        "value" => wanted.value = Some((widget(tree, words)?, number(words)?)),
+        "value" => wanted.value = Some((widget(tree, words)?, integer(words)?)),
         "text" => wanted.text = Some((widget(tree, words)?, text(words)?)),
-        "caret" => wanted.caret = Some((widget(tree, words)?, number(words)?)),
-        "moved" => wanted.moved = Some((widget(tree, words)?, number(words)?, number(words)?)),
+        "caret" => wanted.caret = Some((widget(tree, words)?, integer(words)?)),
+        "moved" => wanted.moved = Some((widget(tree, words)?, integer(words)?, integer(words)?)),
         "post" => {
             let post = post(tree, words)?;
             if wanted.first.is_none() {
@@ -146,7 +146,7 @@ fn is_answered(rt: &impl Abort, tree: &Tree, row: &str) -> Result<(), Fail>
 fn play(rt: &impl Abort, tree: &Tree, table: &str) -> Result<(), Fail>
     requires { IsWidgets tree.now }
 {
-    for row in rows(rt, table) {
+    for row in rows(table)? {
         is_answered(rt, tree, row)?;
     }
     Ok(())
@@ -156,7 +156,7 @@ fn play(rt: &impl Abort, tree: &Tree, table: &str) -> Result<(), Fail>
 pub fn plays(rt: &impl Abort, tree: &mut Tree, widgets: &str, table: &str) -> Result<(), Fail>
     requires { is_joined tree.old.clients 1 ≡ false }
 {
-    make(rt, tree, widgets)?;
+    make_all(tree, widgets)?;
     if tree.count(1) == 0 {
         return Err("a table has no widgets".into());
     }
