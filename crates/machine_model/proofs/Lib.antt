@@ -3,7 +3,6 @@ pub mod Reach
 pub mod Opening
 pub mod Pixels
 pub mod Steps
-pub mod Telling
 pub mod Progress
 pub mod Ticks
 pub mod Runs
