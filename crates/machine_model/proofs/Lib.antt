@@ -15,3 +15,4 @@ pub mod DamageScenes
 pub mod OutsideDamage
 pub mod DamageByKeys
 pub mod DeskDamage
+pub mod Still
