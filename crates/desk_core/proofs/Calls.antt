@@ -1,5 +1,5 @@
 -- What each call of the desk makes of its parts: the desk of its event's step, and parts that keep what they kept.
-use Rattle.std.proofs.Common.{◌≡◌, ℕ, Bool, true, false, not, nat_eq, List, [], ◌∷◌, ◌++◌, Option, Some, None, refl, sym, ap, ap₂, ◌∙◌, subst}
+use Rattle.std.proofs.Common.{◌≡◌, ◌≤◌, ℕ, Bool, true, false, not, nat_eq, List, [], ◌∷◌, ◌++◌, Option, Some, None, refl, sym, ap, ap₂, ◌∙◌, subst}
 use Rattle.std.specs.Prelude.{IfSome, pos}
 use Rattle.std.specs.List.{filter}
 use Rattle.cmd_words.specs.declared.commands.Command.{Command}
@@ -7,7 +7,9 @@ use Rattle.cmd_words.specs.declared.replies.Reply.{Reply}
 use Rattle.cmd_words.specs.declared.replies.Reply.TheVariants.{Done, Number}
 use Rattle.stack_core.specs.Stack.{IsStack}
 use Rattle.scene_model.specs.Shapes.{IsShape}
-use Rattle.widget_model.specs.Widgets.{Widgets, nodes, no_widgets, joined, departed, key_at}
+use Rattle.widget_model.specs.Rows.{Row}
+use Rattle.widget_model.specs.Named.{rows_of_others}
+use Rattle.widget_model.specs.Widgets.{Widgets, nodes, no_widgets, joined, departed, key_at, row_at, rows_of, place_at}
 use Rattle.widget_model.specs.Clients.{is_joined, is_client}
 use Rattle.widget_model.specs.Forest.{IsWidgets}
 use Rattle.desk_model.specs.Desk.{Desk, opening_desk, is_connected}
@@ -19,8 +21,8 @@ use Rattle.desk_model.specs.Commands.{row_of, is_built, step}
 use Rattle.desk_model.proofs.Desks.{IsDesk-opening, IsDesk-connect, IsDesk-hello, IsDesk-bye, IsDesk-command}
 use Rattle.desk_core.specs.Parts.{Stage, stage_of, windows_at, desk_of, names_window, is_others, AreParts, IsKept}
 use Rattle.desk_core.specs.Pointer.{HoldsLive}
-use Rattle.desk_core.specs.Parts.{Stage, stage_of, windows_at, desk_of, names_window, is_others, AreParts, IsKept}
-use Rattle.desk_core.specs.Pointer.{HoldsLive}
+use Rattle.desk_core.specs.View.{HaveDuePlaces, KeepsNumbers}
+use Rattle.desk_core.specs.Laid.{AreLaidOut}
 use Rattle.desk_core.specs.Effects.{DidAll}
 use Rattle.kind_core.specs.declared.shapes.Shape.{Shape}
 use Rattle.widget_model.specs.Pointer as model
@@ -28,6 +30,10 @@ use Rattle.tree_core.specs.declared.pointer.Pointer.{Pointer}
 use Rattle.desk_model.proofs.Sound.{let_go-again}
 use Rattle.desk_model.proofs.ByePointer.{closed, others-inside, let_go-closed}
 use Rattle.desk_core.proofs.OthersLists.{list_all-filter, windows_at-filter, key_at-others}
+use Rattle.desk_model.proofs.OwnPart.{commands_leave_others}
+use Rattle.desk_core.proofs.KeyNumbers.{others-due, numbers-fewer}
+use Rattle.desk_core.proofs.Layouts.{laid-due}
+use Rattle.desk_core.proofs.LeftPlaces.{departed-due}
 use Rattle.desk_core.proofs.PointerKept.{Holds, pointer-holds}
 use Rattle.desk_core.proofs.Departures.{desk_of-departed, AreParts-departed}
 use Rattle.desk_core.proofs.CallSteps.{connect-joined, hello-joined, bye-gone, step-obeyed}
@@ -48,6 +54,7 @@ IsKept-opening shape pointer clients w keys is opening held none_connected none 
       parts = record { clients = refl; tree = tree; stack = stack; windows = refl };
       held = held;
       desk = subst IsDesk (sym opening) (IsDesk-opening shape is);
+      placed = record { each = λ id row there. absurd (cc) };
     }))) tree stack
 
 -- a client joins: the rows and the open windows stay
@@ -64,6 +71,9 @@ AreParts-joined clients now old new client keys kept tree left added =
 joined-held : (pointer : Pointer) (w new : Widgets) (client : ℕ) → new ≡ joined client w → HoldsLive w.entries pointer → HoldsLive new.entries pointer
 joined-held pointer w new client left held = subst (λ (v : Widgets). HoldsLive v.entries pointer) (sym left) held
 
+joined-placed : (w new : Widgets) (client : ℕ) → new ≡ joined client w → HaveDuePlaces w → HaveDuePlaces new
+joined-placed w new client left placed = subst HaveDuePlaces (sym left) (record { each = λ id row there. placed.each id row there })
+
 -- `connect`
 pub connected-step : (shape : Shape) (pointer : Pointer) (w new : Widgets) (keys : List ℕ) (client : ℕ) → let_go (desk_of (stage_of shape w pointer) w keys) ≡ desk_of (stage_of shape w pointer) w keys → is_connected (desk_of (stage_of shape w pointer) w keys) client ≡ false → new ≡ joined client w → (Done, desk_of (stage_of shape new pointer) new keys) ≡ step_connect (desk_of (stage_of shape w pointer) w keys) client false
 connected-step shape pointer w new keys client held absent left =
@@ -75,6 +85,7 @@ connected-kept shape pointer clients now w new keys client kept range absent lef
     record {
       parts = AreParts-joined clients now w new client keys kept.parts tree left added;
       held = joined-held pointer w new client left kept.held;
+      placed = joined-placed w new client left kept.placed;
       desk = subst IsDesk (sym (ap (λ (done : Reply × Desk). done.1) steps)) (IsDesk-connect (desk_of (stage_of shape w pointer) w keys) client false range kept.desk);
     }
 
@@ -89,16 +100,19 @@ greeted-kept shape pointer clients now w new keys client kept free left tree add
     record {
       parts = AreParts-joined clients now w new client keys kept.parts tree left added;
       held = joined-held pointer w new client left kept.held;
+      placed = joined-placed w new client left kept.placed;
       desk = subst IsDesk (sym (ap (λ (done : Reply × Desk). done.1) steps)) (IsDesk-hello (desk_of (stage_of shape w pointer) w keys) false kept.desk);
     }
 
--- a command, after which the pointer lets go
+-- a command, after which the client's widgets are laid out and the pointer lets go
 module _ (shape : Shape) (pointer : Pointer) (clients : List ℕ) (w new : Widgets) (keys keys' : List ℕ) (client : ℕ) (command : Command) (reply : Reply) (kept : IsKept shape pointer clients w keys) (built : is_built command ≡ true) (did : IfSome (row_of command) (λ row. DidAll (λ desk. row desk client (is_memory reply)) w new keys keys' reply)) where
   -- what the row of a built command did
   record DidRow : Type 0 where
     clients_same : new.clients ≡ w.clients
     parts : AreParts new.clients new keys'
     holds : Holds w.entries new.entries pointer
+    numbers : KeepsNumbers w.entries new.entries
+    places : (id : ℕ) (row : Row) → row_at new.entries id ≡ Some row → place_at new id ≡ place_at w id
 
   did-row : DidRow
   did-row = by (row_of command) refl did
@@ -106,31 +120,57 @@ module _ (shape : Shape) (pointer : Pointer) (clients : List ℕ) (w new : Widge
       by : (row : Option (Desk → ℕ → Bool → Reply × Desk)) → row_of command ≡ row → IfSome row (λ row. DidAll (λ desk. row desk client (is_memory reply)) w new keys keys' reply) → DidRow
       by None none did = absurd (cc)
       by (Some row) some did =
-          record { clients_same = did.clients; parts = did.kept; holds = pointer-holds w.entries new.entries (desk_of (stage_of shape w pointer) w keys) pointer refl kept.desk.held kept.held (did.names (stage_of shape w pointer)) }
+          record {
+            clients_same = did.clients;
+            parts = did.kept;
+            holds = pointer-holds w.entries new.entries (desk_of (stage_of shape w pointer) w keys) pointer refl kept.desk.held kept.held (did.names (stage_of shape w pointer));
+            numbers = did.numbers;
+            places = did.places;
+          }
 
-  pub obeyed-parts : AreParts new.clients new keys'
-  obeyed-parts = did-row.parts
+  pub obeyed-tree : IsWidgets new
+  obeyed-tree = did-row.parts.tree
 
-  pub obeyed-held : HoldsLive new.entries pointer
-  obeyed-held = did-row.holds.live
+  module _ (laid : Widgets) (is : AreLaidOut client new laid) where
+    pub obeyed-parts : AreParts laid.clients laid keys'
+    obeyed-parts =
+        let P : Widgets → Type 0 = λ v. IsWidgets v → AreParts v.clients v keys' in
+        subst P (sym is.changed.same) (λ tree. record { clients = refl; tree = tree; stack = did-row.parts.stack; windows = did-row.parts.windows }) is.changed.valid
 
-  module _ (there : is_connected (desk_of (stage_of shape w pointer) w keys) client ≡ true) (after : Pointer) (end : desk_of (stage_of shape new after) new keys' ≡ let_go (desk_of (stage_of shape new pointer) new keys')) where
-    pub obeyed-step : step (desk_of (stage_of shape w pointer) w keys) client command (is_memory reply) ≡ Some (reply, desk_of (stage_of shape new after) new keys')
-    obeyed-step =
-        step-obeyed (desk_of (stage_of shape w pointer) w keys) client command (is_memory reply) reply (desk_of (stage_of shape w pointer) new keys') (desk_of (stage_of shape new after) new keys') built there (by (row_of command) did)
-        (end ∙ ap (λ (p : model.Pointer). let_go (desk_of (record { shape = shape; pointer = p }) new keys')) did-row.holds.same)
-      where
-        by : (row : Option (Desk → ℕ → Bool → Reply × Desk)) → IfSome row (λ row. DidAll (λ desk. row desk client (is_memory reply)) w new keys keys' reply) → IfSome row (λ row. (reply, desk_of (stage_of shape w pointer) new keys') ≡ row (desk_of (stage_of shape w pointer) w keys) client (is_memory reply))
-        by None did = tt
-        by (Some row) did = did.answer (stage_of shape w pointer)
+    pub obeyed-held : HoldsLive laid.entries pointer
+    obeyed-held = subst (λ (v : Widgets). HoldsLive v.entries pointer) (sym is.changed.same) did-row.holds.live
 
-    pub obeyed-kept : HoldsLive new.entries after → IsKept shape after clients new keys'
-    obeyed-kept held =
-        record {
-          parts = subst (λ (cs : List ℕ). AreParts cs new keys') (did-row.clients_same ∙ sym kept.parts.clients) did-row.parts;
-          held = held;
-          desk = IsDesk-command (desk_of (stage_of shape w pointer) w keys) client command (is_memory reply) reply (desk_of (stage_of shape new after) new keys') kept.desk obeyed-step;
-        }
+    pub obeyed-numbers : KeepsNumbers w.entries laid.entries
+    obeyed-numbers = subst (λ (v : Widgets). KeepsNumbers w.entries v.entries) (sym is.changed.same) did-row.numbers
+
+    module _ (there : is_connected (desk_of (stage_of shape w pointer) w keys) client ≡ true) (after : Pointer) (end : desk_of (stage_of shape laid after) laid keys' ≡ let_go (desk_of (stage_of shape laid pointer) laid keys')) where
+      -- the desk has no word on places
+      end_new : desk_of (stage_of shape new after) new keys' ≡ let_go (desk_of (stage_of shape new pointer) new keys')
+      end_new = subst (λ (v : Widgets). desk_of (stage_of shape v after) v keys' ≡ let_go (desk_of (stage_of shape v pointer) v keys')) is.changed.same end
+
+      pub obeyed-step : step (desk_of (stage_of shape w pointer) w keys) client command (is_memory reply) ≡ Some (reply, desk_of (stage_of shape laid after) laid keys')
+      obeyed-step =
+          step-obeyed (desk_of (stage_of shape w pointer) w keys) client command (is_memory reply) reply (desk_of (stage_of shape w pointer) new keys') (desk_of (stage_of shape new after) new keys') built there (by (row_of command) did)
+          (end_new ∙ ap (λ (p : model.Pointer). let_go (desk_of (record { shape = shape; pointer = p }) new keys')) did-row.holds.same)
+          ∙ ap (λ (v : Widgets). Some (reply, desk_of (stage_of shape v after) v keys')) (sym is.changed.same)
+        where
+          by : (row : Option (Desk → ℕ → Bool → Reply × Desk)) → IfSome row (λ row. DidAll (λ desk. row desk client (is_memory reply)) w new keys keys' reply) → IfSome row (λ row. (reply, desk_of (stage_of shape w pointer) new keys') ≡ row (desk_of (stage_of shape w pointer) w keys) client (is_memory reply))
+          by None did = tt
+          by (Some row) did = did.answer (stage_of shape w pointer)
+
+      others : rows_of_others client (rows_of new) ≡ rows_of_others client (rows_of w)
+      others =
+          ap (λ (v : Widgets). rows_of_others client (rows_of v)) (sym is.changed.same)
+          ∙ (commands_leave_others (desk_of (stage_of shape w pointer) w keys) client command (is_memory reply) reply (desk_of (stage_of shape laid after) laid keys') kept.desk obeyed-step).rows
+
+      pub obeyed-kept : 1 ≤ client → HoldsLive laid.entries after → IsKept shape after clients laid keys'
+      obeyed-kept low held =
+          record {
+            parts = subst (λ (cs : List ℕ). AreParts cs laid keys') (ap (λ (v : Widgets). v.clients) is.changed.same ∙ did-row.clients_same ∙ sym kept.parts.clients) obeyed-parts;
+            held = held;
+            desk = IsDesk-command (desk_of (stage_of shape w pointer) w keys) client command (is_memory reply) reply (desk_of (stage_of shape laid after) laid keys') kept.desk obeyed-step;
+            placed = laid-due client new laid low is (others-due client w new kept.parts.tree obeyed-tree kept.placed did-row.numbers did-row.places others);
+          }
 
 -- `bye`: the client's windows close, the pointer lets go, and then the client's widgets go
 pub closed-parts : (clients : List ℕ) (w : Widgets) (keys keys' : List ℕ) (client : ℕ) → AreParts clients w keys → keys' ≡ filter (is_others (nodes w.entries) client) keys → IsStack keys' → AreParts w.clients w keys'
@@ -179,10 +219,11 @@ module _ (shape : Shape) (pointer after : Pointer) (clients now : List ℕ) (w n
       ∙ ap (λ (d : Desk). (Done, d)) (sym (let_go-closed client desk))
       ∙ bye-gone desk client there
 
-  pub gone-kept : now ≡ filter (λ other. not (nat_eq client other)) clients → IsWidgets new → IsStack keys' → IsKept shape after now new keys'
-  gone-kept gone tree stack =
+  pub gone-kept : 1 ≤ client → now ≡ filter (λ other. not (nat_eq client other)) clients → IsWidgets new → IsStack keys' → IsKept shape after now new keys'
+  gone-kept low gone tree stack =
       record {
         parts = gone-parts clients now w new keys keys' client kept.parts left closes gone tree stack;
         held = holds.live;
         desk = subst IsDesk (sym (ap (λ (done : Reply × Desk). done.1) gone-step)) (IsDesk-bye desk client kept.desk);
+        placed = subst HaveDuePlaces (sym left) (departed-due w client kept.parts.tree low (subst IsWidgets left tree) kept.placed);
       }

@@ -26,6 +26,8 @@ use Rattle.desk_model.specs.LetGo.{is_in_window}
 use Rattle.desk_core.specs.Effects.{DidAll, TellsAll}
 use Rattle.desk_core.specs.Lookup.{IsFound}
 use Rattle.desk_core.proofs.Effects.{found-parts, key_at-kept}
+use Rattle.desk_core.proofs.KeyNumbers.{numbers-fewer}
+use Rattle.desk_core.proofs.LeftPlaces.{without-left, removed-place}
 use Rattle.desk_core.proofs.WindowSteps.{is_open-holds_key}
 use Rattle.desk_core.proofs.InWindows.{root_in-alone}
 
@@ -109,6 +111,8 @@ dropped_all w new client name key kind keys reply kept found closed unused left 
       clients = refl;
       kept = record { clients = refl; tree = sound; stack = kept.stack; windows = windows_left w.entries key keys closed kept.windows };
       names = λ stage. names_left w client name key kind keys stage found shut unused;
+      numbers = numbers-fewer w.entries (without_row key w.entries) kept.tree.forest.own_names (λ id row there. (without-left w.entries key id row there).was);
+      places = λ id row there. removed-place w key id row there;
     })
     valid
 

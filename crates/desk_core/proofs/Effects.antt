@@ -41,7 +41,7 @@ found-parts w client name key kind found = row_named-parts (rows_of w) client na
 
 -- a call that leaves the widgets
 pub same_did : (step : Desk → Reply × Desk) (w : Widgets) (reply : Reply) → ((desk : Desk) → (reply, with_rows (rows_of w) desk) ≡ step (with_rows (rows_of w) desk)) → Did step w w reply
-same_did step w reply answer = record { answer = answer; clients = refl; kept = λ id h. refl }
+same_did step w reply answer = record { answer = answer; clients = refl; kept = λ id h. refl; places = refl }
 
 pub refused_did : (step : Desk → Reply × Desk) (w : Widgets) (reply : Reply) (refusal : Refusal) → reply ≡ Refused refusal → ((desk : Desk) → step (with_rows (rows_of w) desk) ≡ (Refused refusal, with_rows (rows_of w) desk)) → Did step w w reply
 refused_did step w reply refusal is answer = same_did step w reply (λ desk. ap (λ (r : Reply). (r, with_rows (rows_of w) desk)) is ∙ sym (answer desk))
@@ -53,6 +53,7 @@ edited_did step w client name key change reply kept id same answer =
       answer = λ desk. ap (λ (rs : List Row). (reply, with_rows rs desk)) (rows-with_row w.entries client name key change kept.forest.own_numbers kept.forest.own_names id) ∙ sym (answer desk);
       clients = refl;
       kept = λ other h. ap (λ (ns : List (ℕ × Node)). node_at ns other) (nodes-with_row w.entries key change same);
+      places = refl;
     }
 
 -- the same, where what the call left is known by an equation
@@ -76,7 +77,7 @@ titles_kept old new (k ∷ ks) kept windows =
     let parts = and_parts (names_window old k) (list_all (names_window old) ks) windows in
     rw (named_windows old new k kept parts.0, titles_kept old new ks kept parts.1) refl
 
-windows_kept : (old new : List (ℕ × Node)) (keys : List ℕ) → ((id : ℕ) → is_some (node_at old id) ≡ true → node_at new id ≡ node_at old id) → list_all (names_window old) keys ≡ true → list_all (names_window new) keys ≡ true
+pub windows_kept : (old new : List (ℕ × Node)) (keys : List ℕ) → ((id : ℕ) → is_some (node_at old id) ≡ true → node_at new id ≡ node_at old id) → list_all (names_window old) keys ≡ true → list_all (names_window new) keys ≡ true
 windows_kept old new [] kept windows = refl
 windows_kept old new (k ∷ ks) kept windows =
     let parts = and_parts (names_window old k) (list_all (names_window old) ks) windows in
@@ -98,15 +99,3 @@ key_at-kept old new id key kept named = by (node_at (nodes old) id) refl (sym (k
     by : (o : Option Node) → node_at (nodes old) id ≡ o → option_map (λ (node : Node). (node.client, node.name)) o ≡ Some key → key_at new id ≡ Some key
     by None p h = absurd (cc)
     by (Some node) p h = key_at-node new id ∙ ap (option_map (λ (node : Node). (node.client, node.name))) (kept (ap is_some p) ∙ p) ∙ h
-
-pub did_all : (step : Desk → Reply × Desk) (old new : Widgets) (keys : List ℕ) (reply : Reply) → Did step old new reply → AreParts old.clients old keys → IsWidgets new → DidAll step old new keys keys reply
-did_all step old new keys reply did parts valid =
-    let titles = titles_kept (nodes old.entries) (nodes new.entries) keys did.kept parts.windows in
-    record {
-      answer = λ stage.
-          ap₂ (λ (clients : List ℕ) (windows : List (ℕ × List ℕ)). (reply, record (desk_of stage old keys) { clients = clients; rows = rows_of new; windows = windows })) did.clients titles
-          ∙ did.answer (desk_of stage old keys);
-      clients = did.clients;
-      kept = record { clients = refl; tree = valid; stack = parts.stack; windows = windows_kept (nodes old.entries) (nodes new.entries) keys did.kept parts.windows };
-      names = λ stage id key named inside. key_at-kept old.entries new.entries id key (did.kept id) named;
-    }

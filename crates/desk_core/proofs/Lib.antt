@@ -1,6 +1,10 @@
 pub mod Counting
 pub mod ClientLists
 pub mod Effects
+pub mod KeyNumbers
+pub mod Layouts
+pub mod Wholes
+pub mod LeftPlaces
 pub mod LinkSteps
 pub mod Edits
 pub mod AttrSteps
@@ -22,3 +26,4 @@ mod InWindows
 mod PointerKept
 mod CallSteps
 mod Calls
+mod Views

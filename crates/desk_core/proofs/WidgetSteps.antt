@@ -86,6 +86,7 @@ make_did w new client name kind id reply replied left allowed =
       answer = λ desk. ap₂ (λ (r : Reply) (rs : List Row). (r, with_rows rs desk)) replied (rows-push w.entries id row) ∙ sym (effect desk);
       clients = refl;
       kept = λ other there. node_at-push w.entries id row other there;
+      places = refl;
     })
 
 pub make_refused : (w new : Widgets) (client : ℕ) (name : List ℕ) (kind : Kind) (refusal : AddRefusal) (reply : Reply) → reply ≡ Refused (refusal_of_add refusal) → new ≡ w → AnswersRefusal (add_refusal (nodes w.entries) client name kind) refusal → Did (λ desk. step_new desk client name kind (is_memory reply)) w new reply

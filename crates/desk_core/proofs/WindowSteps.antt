@@ -28,6 +28,7 @@ use Rattle.desk_core.specs.Parts.{title_at, windows_at, desk_of, names_window, A
 use Rattle.desk_core.specs.Effects.{DidAll}
 use Rattle.desk_core.specs.Lookup.{IsFound}
 use Rattle.desk_core.proofs.Counting.{no_longer}
+use Rattle.desk_core.proofs.KeyNumbers.{numbers-same}
 use Rattle.desk_core.proofs.Effects.{found-parts}
 
 -- one key further on, and past the last one
@@ -196,7 +197,7 @@ step_open-by desk client name row b h k = rw (h, k) refl
 -- a step that leaves the widgets and the windows
 pub refused_all : (step : Desk → Reply × Desk) (w : Widgets) (keys : List ℕ) (reply : Reply) (refusal : Refusal) → AreParts w.clients w keys → reply ≡ Refused refusal → ((stage : Stage) → step (desk_of stage w keys) ≡ (Refused refusal, desk_of stage w keys)) → DidAll step w w keys keys reply
 refused_all step w keys reply refusal kept replied answer =
-    record { answer = λ stage. ap (λ (r : Reply). (r, desk_of stage w keys)) replied ∙ sym (answer stage); clients = refl; kept = kept; names = λ stage id key named inside. named }
+    record { answer = λ stage. ap (λ (r : Reply). (r, desk_of stage w keys)) replied ∙ sym (answer stage); clients = refl; kept = kept; names = λ stage id key named inside. named; numbers = numbers-same w.entries kept.tree.forest.own_names; places = λ id row there. refl }
 
 pub opened_all : (w : Widgets) (client : ℕ) (name : List ℕ) (key : ℕ) (kind : Kind) (keys keys' : List ℕ) (reply : Reply) → AreParts w.clients w keys → IsFound w client name key kind → is_window_kind kind ≡ true → holds_key keys key ≡ false → keys' ≡ key ∷ keys → IsStack keys' → reply ≡ Done → DidAll (λ desk. step_open desk client name) w w keys keys' reply
 opened_all w client name key kind keys keys' reply kept found window new pushed stack replied =
@@ -212,4 +213,6 @@ opened_all w client name key kind keys keys' reply kept found window new pushed 
       clients = refl;
       kept = record { clients = kept.clients; tree = kept.tree; stack = stack; windows = subst P (sym pushed) (and_from _ _ (found-window w client name key kind found window) kept.windows) };
       names = λ stage id key named inside. named;
+      numbers = numbers-same w.entries kept.tree.forest.own_names;
+      places = λ id row there. refl;
     }

@@ -1,7 +1,8 @@
 pub mod ClientList
 pub mod Pointer
-pub mod Parts
 pub mod View
+pub mod Parts
+pub mod Laid
 pub mod Effects
 pub mod Lookup
 pub mod TreeRefusals

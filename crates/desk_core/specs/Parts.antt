@@ -14,6 +14,7 @@ use Rattle.tree_core.specs.Holds.{pointer_seen}
 use Rattle.desk_model.specs.Desk.{Desk}
 use Rattle.desk_model.specs.DeskFacts.{IsDesk}
 use Rattle.desk_core.specs.Pointer.{HoldsLive}
+use Rattle.desk_core.specs.View.{HaveDuePlaces}
 
 -- what no command of a client touches: the desk's numbers, and the pointer, which names widgets by their keys
 pub record Stage : Type 0 where
@@ -60,8 +61,9 @@ pub record AreParts (joined : List ℕ) (widgets : Widgets) (keys : List ℕ) : 
   pub stack : IsStack keys
   pub windows : list_all (names_window (nodes widgets.entries)) keys ≡ true
 
--- the same, and what holds of the pointer and of the desk that they make up
+-- the same, and what holds of the pointer, of the desk that they make up and of the kept places
 pub record IsKept (shape : Shape) (pointer : Pointer) (joined : List ℕ) (widgets : Widgets) (keys : List ℕ) : Type 0 where
   pub parts : AreParts joined widgets keys
   pub held : HoldsLive widgets.entries pointer
   pub desk : IsDesk (desk_of (stage_of shape widgets pointer) widgets keys)
+  pub placed : HaveDuePlaces widgets

@@ -7,14 +7,18 @@ ghost use Rattle.desk_model.specs.Clients.{free_client, step_bye, step_connect, 
 ghost use Rattle.scene_model.specs.Shapes.{IsShape};
 ghost use Rattle.desk_model.specs.Commands.{is_built, step};
 ghost use Rattle.desk_model.specs.OwnPart.{LeavesOthers};
-ghost use Rattle.desk_core.specs.View.{TellsChange};
+ghost use Rattle.desk_core.specs.View.{TellsChange, KeepsNumbers, HaveDuePlaces};
+ghost use Rattle.desk_model.specs.Seen as seen;
+ghost use Rattle.scene_core.specs.View.{scene_of, IsView, KeepsPlaces};
 ghost use Rattle.desk_model.specs.Refusals.{is_memory};
 
 use crate::clients::Clients;
 use crate::commands::obey;
+use crate::laying::lay_out;
 use crate::pointer::let_go;
 use crate::windows::{close_windows, place_of};
 use cmd_words::{Command, Refusal, Reply};
+use scene_core::View;
 use scene_model::Shape;
 use stack_core::Stack;
 use std::alloc::Global;
@@ -22,8 +26,8 @@ use std::marker::Model;
 use tree_core::{Grab, Id, Pointer, Tree};
 
 /// The desk: the connected clients, their widgets, the order of the open windows and the pointer. It answers each
-/// client's command. Contracts see the record `DeskView`: the desk of desk_model, and whether the last call changed it.
-/// See docs/MACHINE.md, "The desk".
+/// client's command, and keeps the places of the widgets. Contracts see the record `DeskView`: the desk of desk_model,
+/// whether the last call changed it, the numbered widgets with their places, and the numbers of the open windows. See docs/MACHINE.md, "The desk".
 pub struct Desk {
     shape: Shape,
     pointer: Pointer,
@@ -39,7 +43,7 @@ impl Model for Desk {
 
     ghost Value = { DeskView };
 
-    ghost view = { λ d. record { desk = desk_of (stage_of d.shape d.tree d.pointer) d.tree d.windows; changed = d.changed } };
+    ghost view = { λ d. record { desk = desk_of (stage_of d.shape d.tree d.pointer) d.tree d.windows; changed = d.changed; widgets = d.tree; windows = d.windows } };
 
     ghost invariant = { λ d. IsKept d.shape d.pointer d.clients d.tree d.windows };
 }
@@ -92,6 +96,7 @@ impl Desk {
         ensures valid { IsDesk self.new.desk }
         ensures changed { TellsChange self.old self.new }
         ensures unchanged { self.new.changed ≡ false }
+        ensures numbered { KeepsNumbers self.old.widgets.entries self.new.widgets.entries }
     {
         self.changed = false;
         if self.clients.has(client) {
@@ -113,6 +118,7 @@ impl Desk {
         ensures valid { IsDesk self.new.desk }
         ensures changed { TellsChange self.old self.new }
         ensures unchanged { self.new.changed ≡ false }
+        ensures numbered { KeepsNumbers self.old.widgets.entries self.new.widgets.entries }
     {
         self.changed = false;
         let client = match self.clients.free() {
@@ -140,12 +146,14 @@ impl Desk {
         ensures step { step self.old.desk client command.now (is_memory result) ≡ Some (result, self.new.desk) }
         ensures others { LeavesOthers client self.old.desk self.new.desk }
         ensures valid { IsDesk self.new.desk }
+        ensures numbered { KeepsNumbers self.old.widgets.entries self.new.widgets.entries }
     {
         self.changed = false;
         if !self.clients.has(client) {
             return Reply::Refused(Refusal::NotConnected);
         }
         let answer = obey(&mut self.tree, &mut self.windows, client, command);
+        lay_out(&mut self.tree, client);
         let_go(&self.tree, &self.windows, &mut self.pointer);
         self.changed = answer.changed;
         answer.reply
@@ -160,6 +168,7 @@ impl Desk {
         ensures others { LeavesOthers client self.old.desk self.new.desk }
         ensures changed { TellsChange self.old self.new }
         ensures valid { IsDesk self.new.desk }
+        ensures numbered { KeepsNumbers self.old.widgets.entries self.new.widgets.entries }
     {
         self.changed = false;
         if !self.clients.has(client) {
@@ -173,6 +182,26 @@ impl Desk {
         self.clients.leave(client);
         self.changed = count > 0;
         Reply::Done
+    }
+
+    /// What the desk shows, lent for a look: the widgets by their numbers with the places that are kept of them, the
+    /// numbers of the open windows, the pointer and the screen's size. The kept place of each Window and of each widget
+    /// under one is its place, in pixels of the screen; no other widget has one. See docs/MACHINE.md, "Layout".
+    pub fn view(&self) -> View<'_>
+        ensures scene { scene_of result ≡ seen.scene_of self.now.desk }
+        ensures tree { result.tree.now ≡ self.now.widgets }
+        ensures stack { result.stack.now ≡ self.now.windows }
+        ensures placed { HaveDuePlaces self.now.widgets }
+        ensures kept { KeepsPlaces self.now.widgets self.now.windows }
+        ensures view { IsView result }
+    {
+        View {
+            tree: &self.tree,
+            stack: &self.windows,
+            pointer: &self.pointer,
+            width: self.shape.width,
+            height: self.shape.height,
+        }
     }
 
     /// The place of the open window with that index, counted from 0 at the top: x, y, width and height in

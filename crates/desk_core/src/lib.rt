@@ -8,6 +8,7 @@ mod commands;
 mod desk;
 mod kinds;
 pub mod laws;
+mod laying;
 mod links;
 mod lookup;
 mod place_options;

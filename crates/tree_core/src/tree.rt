@@ -1,4 +1,4 @@
-ghost use Rattle.std.specs.Prelude.{ℕ, ◌≡◌, ◌<◌, ◌≤◌, nat_eq, Some, None, true, false, is_err, IfSome, OnOk, OnErr, IfOk, IfErr};
+ghost use Rattle.std.specs.Prelude.{ℕ, ◌≡◌, ◌<◌, ◌≤◌, nat_eq, Some, None, true, false, is_some, is_err, IfSome, OnOk, OnErr, IfOk, IfErr};
 ghost use Rattle.std.specs.Option.{option_copied, option_map, option_map_or, option_and_then};
 ghost use Rattle.std.specs.Result.{result_err};
 ghost use Rattle.kind_core.specs.declared.kinds.Kind.TheVariants.{VScreen};
@@ -169,6 +169,14 @@ impl Tree {
             Some(key) => Some(Id { key }),
             None => None,
         }
+    }
+
+    /// Whether the number, any one, names a widget. It costs one look-up in a hash map.
+    pub fn is_live(&self, id: Id) -> bool
+        ensures live { result ≡ is_some (row_at self.now.entries id.key) }
+        ensures valid { IsWidgets self.now }
+    {
+        self.store.get(id.key).is_some()
     }
 
     /// The kind of the widget. It costs one look-up in a hash map.

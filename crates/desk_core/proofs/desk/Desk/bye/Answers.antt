@@ -14,6 +14,10 @@ use Rattle.desk_core.specs.View.{DeskView}
 use Rattle.desk_core.proofs.ByeChanges.{tells_bye}
 use Rattle.desk_core.proofs.CallSteps.{bye-absent}
 use Rattle.desk_core.proofs.Calls.{connected-joined, closed-parts, gone-desk, gone-step, gone-kept}
+use Rattle.widget_model.specs.Widgets.{Widgets}
+use Rattle.desk_core.specs.View.{KeepsNumbers}
+use Rattle.desk_core.proofs.KeyNumbers.{numbers-same}
+use Rattle.desk_core.proofs.LeftPlaces.{departed-numbers}
 use Rattle.desk_core.proofs.desk.Desk.bye.Goals as goal
 
 pub returns-then-not-has-clause-step : goal.returns-then-not-has-clause-step
@@ -33,7 +37,7 @@ invariant_of-self-2 c =
     gone-kept i.shape i.pointer c.let_go.new.pointer i.clients c.leave.new.self i.tree c.drop_client.new.self i.windows c.close_windows.new.windows c.args.client c.self.invariant
     (connected-joined (stage_of i.shape i.tree i.pointer) i.clients i.tree i.windows c.args.client true c.self.invariant.parts c.if-not-has.ensures)
     c.drop_client.ensures.left c.close_windows.ensures.closed (c.let_go.ensures.left i.shape) c.let_go.ensures.live
-    c.leave.ensures.left c.drop_client.ensures.valid c.close_windows.ensures.valid
+    c.requires.low c.leave.ensures.left c.drop_client.ensures.valid c.close_windows.ensures.valid
 
 pub returns-clause-step : goal.returns-clause-step
 returns-clause-step c =
@@ -68,3 +72,16 @@ returns-clause-changed c =
 
 pub returns-clause-valid : goal.returns-clause-valid
 returns-clause-valid c = (invariant_of-self-2 c).desk
+
+pub returns-then-not-has-clause-numbered : goal.returns-then-not-has-clause-numbered
+returns-then-not-has-clause-numbered c =
+    let i = c.self.inside in
+    let N : DeskView → Type 0 = λ s. KeepsNumbers s.widgets.entries i.tree.entries in
+    subst N c.self.view_is (numbers-same i.tree.entries c.self.invariant.parts.tree.forest.own_names)
+
+pub returns-clause-numbered : goal.returns-clause-numbered
+returns-clause-numbered c =
+    let i = c.self.inside in
+    let N : DeskView → Type 0 = λ s. KeepsNumbers s.widgets.entries c.drop_client.new.self.entries in
+    let D : Widgets → Type 0 = λ w. KeepsNumbers i.tree.entries w.entries in
+    subst N c.self.view_is (subst D (sym c.drop_client.ensures.left) (departed-numbers i.tree c.args.client c.self.invariant.parts.tree c.requires.low))

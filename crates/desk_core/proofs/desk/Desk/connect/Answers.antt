@@ -1,4 +1,4 @@
-use Rattle.std.proofs.Common.{true, false, ap, ◌∙◌}
+use Rattle.std.proofs.Common.{sym, subst, ◌≡◌, true, false, ap, ◌∙◌}
 use Rattle.std.proofs.lemmas.Bool.{and_from, le-leb}
 use Rattle.cmd_words.specs.declared.replies.Reply.TheVariants.{Refused}
 use Rattle.cmd_words.specs.declared.replies.Refusal.TheVariants.{Memory}
@@ -8,6 +8,8 @@ use Rattle.desk_core.specs.Parts.{desk_of, stage_of}
 use Rattle.desk_core.specs.View.{DeskView}
 use Rattle.desk_core.proofs.CallSteps.{connect-connected, connect-short}
 use Rattle.desk_core.proofs.Calls.{connected-joined, connected-step, connected-kept}
+use Rattle.desk_core.specs.View.{KeepsNumbers}
+use Rattle.desk_core.proofs.KeyNumbers.{numbers-same, numbers-equal}
 use Rattle.desk_core.proofs.desk.Desk.connect.Goals as goal
 
 pub returns-then-has-clause-step : goal.returns-then-has-clause-step
@@ -41,3 +43,23 @@ returns-clause-step c =
 
 pub returns-clause-valid : goal.returns-clause-valid
 returns-clause-valid c = (invariant_of-self-2 c).desk
+
+pub returns-then-has-clause-numbered : goal.returns-then-has-clause-numbered
+returns-then-has-clause-numbered c =
+    let i = c.self.inside in
+    let N : DeskView → Type 0 = λ s. KeepsNumbers s.widgets.entries i.tree.entries in
+    subst N c.self.view_is (numbers-same i.tree.entries c.self.invariant.parts.tree.forest.own_names)
+
+pub returns-in-Err-clause-numbered : goal.returns-in-Err-clause-numbered
+returns-in-Err-clause-numbered c =
+    let i = c.self.inside in
+    let N : DeskView → Type 0 = λ s. KeepsNumbers s.widgets.entries c.join_client.new.self.entries in
+    let same : c.join_client.new.self.entries ≡ i.tree.entries = ap (λ (w : Widgets). w.entries) c.in-Err.ensures.err in
+    subst N c.self.view_is (numbers-equal i.tree.entries c.join_client.new.self.entries c.self.invariant.parts.tree.forest.own_names same)
+
+pub returns-clause-numbered : goal.returns-clause-numbered
+returns-clause-numbered c =
+    let i = c.self.inside in
+    let N : DeskView → Type 0 = λ s. KeepsNumbers s.widgets.entries c.join_client.new.self.entries in
+    let same : c.join_client.new.self.entries ≡ i.tree.entries = ap (λ (w : Widgets). w.entries) c.in-Ok.ensures.ok in
+    subst N c.self.view_is (numbers-equal i.tree.entries c.join_client.new.self.entries c.self.invariant.parts.tree.forest.own_names same)

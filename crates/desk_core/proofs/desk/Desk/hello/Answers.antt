@@ -14,6 +14,8 @@ use Rattle.desk_core.specs.Parts.{desk_of, stage_of}
 use Rattle.desk_core.specs.View.{DeskView}
 use Rattle.desk_core.proofs.CallSteps.{hello-full, hello-short}
 use Rattle.desk_core.proofs.Calls.{free-joined, greeted-step, greeted-kept}
+use Rattle.desk_core.specs.View.{KeepsNumbers}
+use Rattle.desk_core.proofs.KeyNumbers.{numbers-same, numbers-equal}
 use Rattle.desk_core.proofs.desk.Desk.hello.Goals as goal
 
 -- the clause on the others follows from that on the step
@@ -70,3 +72,23 @@ pub returns-clause-others : goal.returns-clause-others
 returns-clause-others c =
     let D : DeskView → Type 0 = λ s. IsDesk s.desk in
     others_of _ _ false _ (subst D c.self.view_is c.self.invariant.desk) (returns-clause-step c)
+
+pub returns-in-None-clause-numbered : goal.returns-in-None-clause-numbered
+returns-in-None-clause-numbered c =
+    let i = c.self.inside in
+    let N : DeskView → Type 0 = λ s. KeepsNumbers s.widgets.entries i.tree.entries in
+    subst N c.self.view_is (numbers-same i.tree.entries c.self.invariant.parts.tree.forest.own_names)
+
+pub returns-in-Err-clause-numbered : goal.returns-in-Err-clause-numbered
+returns-in-Err-clause-numbered c =
+    let i = c.self.inside in
+    let N : DeskView → Type 0 = λ s. KeepsNumbers s.widgets.entries c.join_client.new.self.entries in
+    let same : c.join_client.new.self.entries ≡ i.tree.entries = ap (λ (w : Widgets). w.entries) c.in-Err.ensures.err in
+    subst N c.self.view_is (numbers-equal i.tree.entries c.join_client.new.self.entries c.self.invariant.parts.tree.forest.own_names same)
+
+pub returns-clause-numbered : goal.returns-clause-numbered
+returns-clause-numbered c =
+    let i = c.self.inside in
+    let N : DeskView → Type 0 = λ s. KeepsNumbers s.widgets.entries c.join_client.new.self.entries in
+    let same : c.join_client.new.self.entries ≡ i.tree.entries = ap (λ (w : Widgets). w.entries) c.in-Ok.ensures.ok in
+    subst N c.self.view_is (numbers-equal i.tree.entries c.join_client.new.self.entries c.self.invariant.parts.tree.forest.own_names same)
