@@ -13,3 +13,4 @@ pub mod SideSteps
 pub mod Roots
 pub mod PlaceSteps
 pub mod LaySteps
+pub mod ShotSteps

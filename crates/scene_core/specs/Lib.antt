@@ -4,3 +4,5 @@ pub mod Measured
 pub mod Sides
 pub mod Places
 pub mod Laid
+pub mod Shots
+pub mod Spots

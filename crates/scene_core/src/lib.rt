@@ -1,4 +1,5 @@
-//! The layout of the widgets and what is on top: least sizes, places, and the widget on top at a pixel.
+//! The layout of the widgets and what is on top: least sizes, places, the widget on top at a pixel, and the shot of what
+//! the screen shows.
 #![tactic(auto)]
 
 mod asked;
@@ -11,6 +12,7 @@ mod least;
 mod own;
 mod places;
 mod reading;
+mod shots;
 mod shown;
 mod sides;
 mod size;
@@ -23,6 +25,7 @@ pub use geom_core::Rect;
 pub use laying::relayout;
 pub use least::least_size;
 pub use places::place;
+pub use shots::shot;
 pub use size::Size;
 pub use top::top_at;
 pub use tree_core::{Grab, Pointer};
