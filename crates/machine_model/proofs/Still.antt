@@ -1,5 +1,5 @@
 -- Where a scene stays as it is, nothing is reached.
-use Rattle.std.proofs.Common.{◌≡◌, ℕ, ℤ, Bool, true, false, not, cond, ◌&&◌, ◌||◌, nat_eq, List, [], ◌∷◌, ◌++◌, Option, Some, None, refl, sym, ap, ◌∙◌}
+use Rattle.std.proofs.Common.{◌≡◌, ℕ, ℤ, pos, Bool, true, false, not, cond, ◌&&◌, ◌||◌, nat_eq, List, [], ◌∷◌, ◌++◌, Option, Some, None, refl, sym, ap, ◌∙◌}
 use Rattle.std.specs.List.{list_any}
 use Rattle.std.specs.Ordering.{int_eq}
 use Rattle.std.proofs.lemmas.Bool.{true≢false, eq-eqb, and_from, cond-false}
@@ -12,8 +12,11 @@ use Rattle.widget_model.specs.Keys.{same_key}
 use Rattle.scene_model.specs.Scene.{Scene}
 use Rattle.scene_model.specs.Showing.{place_of, parent_in, shows_at, is_open_in, is_under}
 use Rattle.scene_model.specs.Colours.{look_at}
-use Rattle.desk_model.specs.DeskFacts.{AreOpenOnce}
+use Rattle.desk_model.specs.Desk.{Desk}
+use Rattle.desk_model.specs.DeskFacts.{IsDesk, AreOpenOnce}
+use Rattle.desk_model.specs.Seen.{scene_of}
 use Rattle.machine_model.specs.Damage.{same_place, same_parent, is_over, is_put_higher, is_shifted, is_altered, keys_in, in_widget, in_window, in_reach_of, in_reach}
+use Rattle.machine_model.specs.Reach.{is_reached}
 use Rattle.machine_model.proofs.DamageKeys.{same_key-own, same_key-is}
 
 same_place-own : (a : Rect) → same_place a a ≡ true
@@ -115,3 +118,8 @@ unfolding in_reach
 still_unreached scene once x y =
     none_if (in_reach_of scene scene x y) (scene.windows ++ scene.windows) (λ window there.
     not_in_window scene x y window once (or_twice (is_open_in scene window) (sym (list_any-append (same_key window) scene.windows scene.windows) ∙ there)))
+
+-- the same of a desk
+pub unreached_still : (desk : Desk) → IsDesk desk → (x y : ℕ) → is_reached desk desk x y ≡ false
+unfolding is_reached
+unreached_still desk is x y = still_unreached (scene_of desk) is.once (pos x) (pos y)
