@@ -36,7 +36,7 @@ higher_from below window higher (other ∷ others) =
     cond (nat_eq other window) higher (higher_from below window (higher || below other) others)
 
 -- a window that isn't in the list is under none of it
-not_over : (windows : List ℕ) (upper lower : ℕ) → list_any (nat_eq lower) windows ≡ false → is_over nat_eq windows upper lower ≡ false
+pub not_over : (windows : List ℕ) (upper lower : ℕ) → list_any (nat_eq lower) windows ≡ false → is_over nat_eq windows upper lower ≡ false
 not_over [] upper lower absent = refl
 not_over (window ∷ windows) upper lower absent = by (nat_eq upper window) (not_over windows upper lower parts.1)
   where
@@ -63,7 +63,7 @@ skip_first first window below all (other ∷ others) absent =
     λ i. same i || skip_first first window below all others parts.1 i
 
 -- nothing of a list is over a window that isn't in it
-none_tested : (window : ℕ) (below : ℕ → Bool) (all others : List ℕ) → list_any (nat_eq window) all ≡ false → list_any (tested all below window) others ≡ false
+pub none_tested : (window : ℕ) (below : ℕ → Bool) (all others : List ℕ) → list_any (nat_eq window) all ≡ false → list_any (tested all below window) others ≡ false
 none_tested window below all [] absent = refl
 none_tested window below all (other ∷ others) absent =
     or_from _ _ (ap (λ b. b && below other) (not_over all other window absent)) (none_tested window below all others absent)

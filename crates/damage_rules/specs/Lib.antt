@@ -1,2 +1,4 @@
 pub mod Areas
+pub mod Raised
 pub mod Numbering
+pub mod Views

@@ -2,6 +2,7 @@
 //! reach of a change".
 
 ghost use Rattle.damage_rules.specs.Numbering.{ReachByNumbers, NothingOfOtherNumbers, ReachIsTheirUnion};
+ghost use Rattle.damage_rules.specs.Views.{ReachOfViews};
 ghost use Rattle.machine_model.specs.DamageKeys.{ReachIsByKeys};
 ghost use Rattle.machine_model.specs.DamageLaws.{SameOutsideReach};
 ghost use Rattle.machine_model.specs.DeskDamage.{DesksSameOutsideReach};
@@ -28,4 +29,10 @@ pub fn reach_by_numbers()
     ensures each { ReachByNumbers }
     ensures others { NothingOfOtherNumbers }
     ensures together { ReachIsTheirUnion }
+{}
+
+/// Between two views of one screen size, where no number passes from one widget to another: with the shot of each and the
+/// numbers of the looks that differ, a pixel is in the reach exactly where `reach` gives it of one of all 2,048 numbers.
+pub fn reach_of_views()
+    ensures { ReachOfViews }
 {}

@@ -4,6 +4,8 @@
 mod areas;
 pub mod laws;
 mod order;
+mod raised;
 mod spots;
 
-pub use areas::reach;
+pub use areas::{reach, reach_with};
+pub use raised::Raised;

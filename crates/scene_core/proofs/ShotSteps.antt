@@ -170,11 +170,11 @@ module _ (widgets : Widgets) (windows : List ℕ) (scene : Scene) where
       under (suc n) other each below = elim below [
         | inl same ↦ subst (λ (k : ℕ). IsSome (spot_at new k)) same partly.own
         | inr down ↦
-          (let among = are.all down.0 down.1 in
-          let less : among.0 < index = omega (arith, among.1, past) in
-          let e : n ≡ suc n - 1 = omega arith in
-          let kid : down.0 ≡ get_or keys among.0 0 = sym among.2 ∙ default keys among.0 down.0 0 among.1 in
-          each among.0 less other (subst (λ (m : ℕ). IsBelow m widgets (get_or keys among.0 0) other) e (subst (λ (m : ℕ). IsBelow n widgets m other) kid down.2)))
+            (let among = are.all down.0 down.1 in
+            let less : among.0 < index = omega (arith, among.1, past) in
+            let e : n ≡ suc n - 1 = omega arith in
+            let kid : down.0 ≡ get_or keys among.0 0 = sym among.2 ∙ default keys among.0 down.0 0 among.1 in
+            each among.0 less other (subst (λ (m : ℕ). IsBelow m widgets (get_or keys among.0 0) other) e (subst (λ (m : ℕ). IsBelow n widgets m other) kid down.2)))
       ]
 
   -- no window

@@ -9,7 +9,6 @@ use Rattle.scene_core.proofs.Tops.{among-at, under-window}
 use Rattle.scene_core.proofs.ShotSteps.{not-before, numbers-shot, shot-none, shot-more, shot-all}
 use Rattle.scene_core.proofs.shots.shot.Goals as goal
 
-
 pub put_window-requires-clause-absent : goal.put_window-requires-clause-absent
 put_window-requires-clause-absent c =
     let windows = c.args.view.now.stack.now in
