@@ -1,10 +1,10 @@
 -- What a desk shows: its scene, with the places of its open windows, the colour of each pixel, and the picture, which
 -- is the desk drawn afresh.
-use Rattle.std.specs.Prelude.{ℕ, List}
+use Rattle.std.specs.Prelude.{ℕ, pos, List}
 use Rattle.geom_core.specs.declared.rectangle.Rect.{Rect}
 use Rattle.scene_model.specs.Scene.{Scene}
 use Rattle.scene_model.specs.OpenWindows.{window_places}
-use Rattle.scene_model.specs.Picture.{scene_colour, scene_picture}
+use Rattle.scene_model.specs.Colours.{colour_at, picture_of}
 use Rattle.desk_model.specs.Desk.{Desk}
 
 abbrev pub scene_of : Desk → Scene
@@ -14,8 +14,9 @@ scene_of desk = record { width = desk.shape.width; height = desk.shape.height; r
 unfoldable pub open_windows : Desk → List Rect
 open_windows desk = window_places (scene_of desk)
 
+-- the colour of the pixel (x, y) of the screen: a palette number
 unfoldable pub colour : Desk → ℕ → ℕ → ℕ
-colour desk x y = scene_colour (scene_of desk) x y
+colour desk x y = colour_at (scene_of desk) (pos x) (pos y)
 
 unfoldable pub picture : Desk → List ℕ
-picture desk = scene_picture (scene_of desk)
+picture desk = picture_of (scene_of desk)

@@ -3,7 +3,6 @@ pub mod Reach
 pub mod Opening
 pub mod Pixels
 pub mod Steps
-pub mod Telling
 pub mod Progress
 pub mod Ticks
 pub mod Runs
@@ -16,3 +15,4 @@ pub mod DamageScenes
 pub mod OutsideDamage
 pub mod DamageByKeys
 pub mod DeskDamage
+pub mod Still

@@ -6,26 +6,30 @@ use Rattle.kind_core.specs.declared.shapes.Shape.{Shape}
 use Rattle.scene_model.specs.Shapes.{IsShape, area}
 use Rattle.desk_model.specs.Desk.{opening_desk}
 use Rattle.machine_model.specs.State.{IsState, opening, dirty_count, count_true}
-use Rattle.scene_model.specs.Windows.{shown_by_any}
-use Rattle.scene_model.specs.OpenWindows.{window_places}
-use Rattle.desk_model.specs.Seen.{open_windows}
+use Rattle.scene_model.specs.Showing.{top_of}
+use Rattle.scene_model.specs.Colours.{colour_at}
+use Rattle.desk_model.specs.Seen.{colour}
 use Rattle.desk_model.proofs.Desks.{IsDesk-opening}
 use Rattle.machine_model.proofs.Marks.{count_true-cons}
-use Rattle.machine_model.proofs.Reach.{colour_of_bare}
+
+-- at opening each pixel has the desk's own colour
+colour-opening : (shape : Shape) (x y : ℕ) → colour (opening_desk shape) x y ≡ 2
+unfolding colour colour_at top_of
+colour-opening shape x y = refl
 
 count_true-replicate : (n : ℕ) → count_true (replicate n false) ≡ 0
 count_true-replicate zero = refl
 count_true-replicate (suc n) = omega (arith, count_true-cons false (replicate n false), count_true-replicate n)
 
 pub IsState-opening : (shape : Shape) → IsShape shape → IsState (opening shape)
-unfolding opening shown_by_any open_windows window_places
+unfolding opening
 IsState-opening shape is = record {
   desk = IsDesk-opening shape is;
   screen = length-replicate (area shape) 2;
   dirt = length-replicate (area shape) false;
   current = λ x y hx hy clean.
       get_or-replicate (area shape) (y * shape.width + x) 2 0 (mul-add-lt y shape.width x shape.height hy hx)
-      ∙ sym (colour_of_bare (opening_desk shape) x y refl);
+      ∙ sym (colour-opening shape x y);
 }
 
 pub dirty_count-opening : (shape : Shape) → dirty_count (opening shape) ≡ 0

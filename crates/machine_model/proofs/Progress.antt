@@ -11,7 +11,7 @@ use Rattle.kind_core.specs.declared.shapes.Shape.{Shape}
 use Rattle.scene_model.specs.Shapes.{area}
 use Rattle.desk_model.specs.Desk.{Desk}
 use Rattle.desk_model.specs.Seen.{colour}
-use Rattle.machine_model.specs.Reach.{in_reach}
+use Rattle.machine_model.specs.Reach.{is_reached}
 use Rattle.desk_model.specs.Refusals.{is_memory}
 use Rattle.desk_model.specs.Clients.{step_connect, step_hello, step_bye}
 use Rattle.cmd_words.specs.declared.commands.Command.{Command}
@@ -23,7 +23,6 @@ use Rattle.machine_model.specs.Events.Event.{Connect, Hello, Bye, Ask, Misread, 
 use Rattle.machine_model.specs.Events.Answer.{Replied, Drawn, Counted, Seen, Dumped}
 use Rattle.machine_model.specs.Step.{Step, Changed, Answered, Obeyed, Ticked, CanCome}
 use Rattle.machine_model.specs.Run.{Moment, Run, events_of}
-use Rattle.machine_model.proofs.Telling.{tell_desks}
 use Rattle.desk_model.proofs.Ample.{ample-connect, ample-hello, ample-bye, ample-command}
 use Rattle.machine_model.proofs.Beat.{shape-beat}
 use Rattle.machine_model.proofs.Marks.{cleaned_first, length-cleaned_first, cleaned_first-was, count_true-cleaned_first}
@@ -37,19 +36,16 @@ changed_state old next is same =
     let width : w ≡ old.desk.shape.width = ap (λ (s : Shape). s.width) same in
     let height : next.shape.height ≡ old.desk.shape.height = ap (λ (s : Shape). s.height) same in
     let n = length old.dirt in
-    let told = tell_desks old.desk next in
-    let mark : ℕ → ℕ → ℕ → Bool = λ k x y. get_or old.dirt k false || in_reach told.0 old.desk next x y in
+    let mark : ℕ → ℕ → ℕ → Bool = λ k x y. get_or old.dirt k false || is_reached old.desk next x y in
     let dirt = map (λ k. mark k (k % w) (k / w)) (range_with_len 0 n) in (
       record { desk = next; screen = old.screen; dirt = dirt },
       record {
         desk = refl;
         screen = refl;
         size = length-map-range_with_len (λ k. mark k (k % w) (k / w)) 0 n;
-        touched = told.0;
-        is_touched = told.1;
         dirt = λ x y hx hy.
             get_or-rows mark w next.shape.height n x y false (is.dirt ∙ ap area (sym same)) hx hy
-            ∙ ap (λ v. get_or old.dirt (y * v + x) false || in_reach told.0 old.desk next x y) width;
+            ∙ ap (λ v. get_or old.dirt (y * v + x) false || is_reached old.desk next x y) width;
       },
     )
 

@@ -11,7 +11,7 @@ use Rattle.scene_model.specs.Shapes.{area}
 use Rattle.desk_model.specs.Desk.{Desk}
 use Rattle.desk_model.specs.DeskFacts.{IsDesk}
 use Rattle.desk_model.specs.Seen.{colour}
-use Rattle.machine_model.specs.Reach.{in_reach}
+use Rattle.machine_model.specs.Reach.{is_reached}
 use Rattle.desk_model.specs.Refusals.{is_memory, when, first_refusal, outcome}
 use Rattle.desk_model.specs.Clients.{step_connect, step_hello, step_bye, free_client, hello_effect}
 use Rattle.desk_model.specs.Commands.{step}
@@ -42,9 +42,9 @@ IsState-changed old next new is fine same ch =
       screen = ap length ch.screen ∙ is.screen ∙ sym (ap area shape);
       dirt = ch.size ∙ is.dirt ∙ sym (ap area shape);
       current = λ x y hx hy clean.
-          let parts = or_parts (is_dirty old x y) (in_reach ch.touched old.desk next x y) (sym (ch.dirt x y (omega arith) (omega arith)) ∙ clean) in
+          let parts = or_parts (is_dirty old x y) (is_reached old.desk next x y) (sym (ch.dirt x y (omega arith) (omega arith)) ∙ clean) in
           let byte : byte_at new x y ≡ byte_at old x y = cc in
-          byte ∙ is.current x y (omega arith) (omega arith) parts.0 ∙ colour-outside_reach old.desk next ch.touched x y ch.is_touched parts.1 ∙ sym (ap (λ (d : Desk). colour d x y) ch.desk);
+          byte ∙ is.current x y (omega arith) (omega arith) parts.0 ∙ colour-outside_reach old.desk next is.desk fine (sym same) x y parts.1 ∙ sym (ap (λ (d : Desk). colour d x y) ch.desk);
     }
 
 -- the byte of a pixel that is clean after a tick

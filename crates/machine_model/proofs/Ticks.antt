@@ -1,6 +1,6 @@
 -- What a tick from a valid state does: it writes at most the budget, it leaves fewer dirty pixels by at least
 -- the spare, and it cleans a set of dirty pixels. Where nothing is dirty the screen is the picture.
-use Rattle.std.proofs.Common.{◌≡◌, ℕ, ◌+◌, ◌-◌, ◌*◌, ◌/◌, ◌%◌, ◌≤◌, inl, inr, min, Bool, true, false, not, ◌&&◌, ◌||◌, cond, get_or, refl, sym, ap, ◌∙◌, arith}
+use Rattle.std.proofs.Common.{◌≡◌, ℕ, pos, ◌+◌, ◌-◌, ◌*◌, ◌/◌, ◌%◌, ◌≤◌, inl, inr, min, Bool, true, false, not, ◌&&◌, ◌||◌, cond, get_or, refl, sym, ap, ◌∙◌, arith}
 use Rattle.std.proofs.lemmas.Bool.{and_parts, cases_lt, false≢true}
 use Rattle.std.proofs.lemmas.List.{get_or_past}
 use Rattle.std.proofs.lemmas.List.FromFn.{fill_by_all}
@@ -8,8 +8,7 @@ use Rattle.cmd_words.specs.declared.inputs.Drew.{Drew}
 use Rattle.kind_core.specs.declared.shapes.Shape.{Shape}
 use Rattle.scene_model.specs.Shapes.{area}
 use Rattle.desk_model.specs.Desk.{Desk}
-use Rattle.scene_model.specs.Picture.{colour_of_byte}
-use Rattle.scene_model.specs.Picture.{scene_picture}
+use Rattle.scene_model.specs.Colours.{colour_at, picture_of}
 use Rattle.desk_model.specs.Seen.{scene_of, colour, picture}
 use Rattle.desk_model.specs.Beat.{beat, in_band, band_count}
 use Rattle.machine_model.specs.State.{State, IsState, byte_at, is_dirty, index_of, dirty_count, count_true}
@@ -34,10 +33,10 @@ ticked-fewer old drew new is t =
     omega (arith, bands_of_tick old drew new is t, t.queue, t.cleaned)
 
 pub clean-is_picture : (s : State) → IsState s → dirty_count s ≡ 0 → s.screen ≡ picture s.desk
-unfolding picture scene_picture colour
+unfolding picture picture_of colour
 clean-is_picture s is none =
     let w = s.desk.shape.width in
-    fill_by_all (colour_of_byte (scene_of s.desk)) s.screen (area s.desk.shape) 0 is.screen (λ k within.
+    fill_by_all (λ k. colour_at (scene_of s.desk) (pos (k % w)) (pos (k / w))) s.screen (area s.desk.shape) 0 is.screen (λ k within.
     let here = at_place s.desk.shape (λ x y. is_dirty s x y ≡ false → byte_at s x y ≡ colour s.desk x y) k within (omega (arith, is.desk.shape.width_least)) is.current in
     ap (λ m. get_or s.screen m 0) (sym (place_of_pixel w k)) ∙ here (all_false s.dirt (k / w * w + k % w) none))
 

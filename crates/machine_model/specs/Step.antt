@@ -10,7 +10,7 @@ use Rattle.cmd_words.specs.declared.replies.Refusal.TheVariants.{Syntax}
 use Rattle.widget_model.specs.Clients.{is_client}
 use Rattle.desk_model.specs.Desk.{Desk}
 use Rattle.desk_model.specs.Seen.{colour}
-use Rattle.machine_model.specs.Reach.{IsTouched, in_reach}
+use Rattle.machine_model.specs.Reach.{is_reached}
 use Rattle.desk_model.specs.Refusals.{is_memory}
 use Rattle.desk_model.specs.Clients.{step_connect, step_hello, step_bye}
 use Rattle.desk_model.specs.Commands.{is_built, step}
@@ -26,9 +26,7 @@ pub record Changed (old : State) (next : Desk) (new : State) : Type 0 where
   pub desk : new.desk ≡ next
   pub screen : new.screen ≡ old.screen
   pub size : length new.dirt ≡ length old.dirt
-  pub touched : Bool
-  pub is_touched : IsTouched touched old.desk next
-  pub dirt : EachPixel next.shape (λ x y. is_dirty new x y ≡ (is_dirty old x y || in_reach touched old.desk next x y))
+  pub dirt : EachPixel next.shape (λ x y. is_dirty new x y ≡ (is_dirty old x y || is_reached old.desk next x y))
 
 -- The desk's step, under want of memory or not, gave this reply and the desk of the new state.
 pub record Answered (old : State) (stepped : Bool → Reply × Desk) (reply : Reply) (new : State) : Type 0 where

@@ -1,4 +1,2 @@
-pub mod Sweeps
-pub mod Marks
-pub mod Collecting
-pub mod Parts
+mod Parts
+mod Reaching

@@ -1,12 +1,13 @@
 -- The laws of the machine, each a statement over its definitions alone.
-use Rattle.std.specs.Prelude.{◌≡◌, ◌≢◌, ℕ, ◌-◌, ◌*◌, ◌≤◌, Bool, false, List, ◌++◌, length}
+use Rattle.std.specs.Prelude.{◌≡◌, ◌≢◌, ℕ, ◌-◌, ◌*◌, ◌≤◌, false, List, ◌++◌, length}
 use Rattle.std.specs.List.{All}
 use Rattle.cmd_words.specs.declared.inputs.Drew.{Drew}
 use Rattle.kind_core.specs.declared.shapes.Shape.{Shape}
 use Rattle.scene_model.specs.Shapes.{IsShape}
 use Rattle.desk_model.specs.Desk.{Desk}
 use Rattle.desk_model.specs.Seen.{colour, picture}
-use Rattle.machine_model.specs.Reach.{IsTouched, in_reach}
+use Rattle.desk_model.specs.DeskFacts.{IsDesk}
+use Rattle.machine_model.specs.Reach.{is_reached}
 use Rattle.desk_model.specs.Beat.{beat, in_band}
 use Rattle.machine_model.specs.State.{State, IsState, opening, dirty_count}
 use Rattle.machine_model.specs.Events.{Event, Answer}
@@ -17,10 +18,15 @@ use Rattle.machine_model.specs.Chosen.{lost_marks, TickedWith}
 use Rattle.machine_model.specs.Run.{Moment, Run, state_after, events_of}
 use Rattle.machine_model.specs.Laws.{KeepsBudget, IsUndisturbed, enough_ticks, IsDrawnAfresh, KeepsLaws}
 
--- Between any two desks no pixel outside the reach has another colour.
+-- Between any two desks of one shape, for which all holds that always holds of a desk, no pixel outside the reach has
+-- another colour.
 abbrev pub ColoursAgreeOutsideTheReach : Type 0
 ColoursAgreeOutsideTheReach =
-    (before after : Desk) (touched : Bool) (x y : ℕ) → IsTouched touched before after → in_reach touched before after x y ≡ false → colour before x y ≡ colour after x y
+    (before after : Desk) → IsDesk before → IsDesk after → before.shape ≡ after.shape → (x y : ℕ) → is_reached before after x y ≡ false → colour before x y ≡ colour after x y
+
+-- Where a desk, for which all holds that always holds of one, stays as it is, nothing is reached.
+abbrev pub NothingIsReachedWithoutAChange : Type 0
+NothingIsReachedWithoutAChange = (desk : Desk) → IsDesk desk → (x y : ℕ) → is_reached desk desk x y ≡ false
 
 -- A beat changes colours only in the bands that it copies.
 abbrev pub BeatsChangeOnlyTheirBands : Type 0

@@ -1,4 +1,2 @@
 pub mod Serving
-pub mod Sweeping
-pub mod Marking
 pub mod Laws

@@ -1,11 +1,17 @@
 //! Laws of the machine, over the definitions alone. Each is a function without parameters whose contract is
 //! the law. docs/MACHINE.md reads them in prose.
 
-ghost use Rattle.server_core.specs.Laws.{ColoursAgreeOutsideTheReach, BeatsChangeOnlyTheirBands, OpeningIsValid, StepsKeepStatesValid, OnlyTicksDraw, TicksCleanAChosenSet, CleanStatesShowThePicture, EventsHaveAnswers, EventsHaveARun, RunsJoin, RunsKeepStatesValid, TicksKeepTheBudget, TicksLeaveFewer, EnoughTicksDrawAfresh, RunsKeepTheLaws};
+ghost use Rattle.server_core.specs.Laws.{ColoursAgreeOutsideTheReach, NothingIsReachedWithoutAChange, BeatsChangeOnlyTheirBands, OpeningIsValid, StepsKeepStatesValid, OnlyTicksDraw, TicksCleanAChosenSet, CleanStatesShowThePicture, EventsHaveAnswers, EventsHaveARun, RunsJoin, RunsKeepStatesValid, TicksKeepTheBudget, TicksLeaveFewer, EnoughTicksDrawAfresh, RunsKeepTheLaws};
 
-/// Between any two desks no pixel outside the reach of the change has another colour.
+/// Between any two desks of one shape, for which all holds that always holds of a desk, no pixel outside the reach of the
+/// change has another colour.
 pub fn colours_agree_outside_the_reach()
     ensures { ColoursAgreeOutsideTheReach }
+{}
+
+/// Where a desk stays as it is, nothing is reached.
+pub fn nothing_is_reached_without_a_change()
+    ensures { NothingIsReachedWithoutAChange }
 {}
 
 /// A beat changes colours only in the bands that it copies.

@@ -3,12 +3,8 @@
 #![tactic(auto)]
 
 pub mod laws;
-mod marking;
 mod no_memory;
-mod painting;
-mod places;
 mod server;
-mod sweeping;
 
 pub use cmd_words::{Command, Drew, Reply};
 pub use kind_core::Shape;

@@ -8,42 +8,45 @@ ghost use Rattle.machine_model.specs.Events.Answer.{Replied, Drawn};
 ghost use Rattle.machine_model.specs.Step.{Step};
 ghost use Rattle.machine_model.specs.Chosen.{lost_marks, TickedWith};
 
-use crate::marking::follow;
 use crate::no_memory::NoMemory;
-use crate::places::Places;
-use crate::sweeping::sweep;
 use canvas_core::Canvas;
 use cmd_words::{Command, Drew, Reply};
 use desk_core::Desk;
+use drawing_core::{draw, follow};
 use kind_core::Shape;
+use redraw_core::Queue;
+use scene_core::shot;
+use shot_core::Shot;
 use std::alloc::Global;
 use std::marker::Model;
 
 /// The server: a desk, its screen, and which pixels of it are dirty.
 ///
-/// Contracts see the record `Serving`: the machine's state, and `writes`, the pixels written since the last
-/// tick began. Between any two calls each pixel is dirty or has the picture's colour. docs/MACHINE.md has the
-/// rules.
+/// Contracts see the record `Serving`: the machine's state, and of the time since the last tick began the pixels
+/// and the spans written. Between any two calls each pixel is dirty or has the picture's colour. docs/MACHINE.md has
+/// the rules.
 pub struct Server {
     shape: Shape,
     desk: Desk,
-    windows: Places,
+    // what the desk shows now, and room for what it shows after the next call on it
+    shown: Shot,
+    other: Shot,
     canvas: Canvas,
-    dirt: Vec<bool>,
-    dirty: u32,
+    queue: Queue,
 }
 
 impl Model for Server {
-    ghost use Rattle.server_core.specs.Serving.{Serving, IsServing, state_of};
+    ghost use Rattle.server_core.specs.Serving.{Serving, IsServing, ShowsDesk, state_of};
 
     ghost Value = { Serving };
 
     ghost view = { λ s. record {
-      state = state_of s.desk.desk s.canvas.bytes s.dirt.items;
+      state = state_of s.desk.desk s.canvas.bytes s.queue.marks;
       writes = s.canvas.writes;
+      spans = s.canvas.spans;
     } };
 
-    ghost invariant = { λ s. IsServing s.shape s.desk.desk s.windows s.canvas s.dirt.items s.dirty };
+    ghost invariant = { λ s. IsServing s.shape s.desk.desk s.canvas s.queue × ShowsDesk s.desk s.shown };
 }
 
 impl Drop for Server {
@@ -51,10 +54,10 @@ impl Drop for Server {
         let Server {
             shape: _,
             desk: _,
-            windows: _,
+            shown: _,
+            other: _,
             canvas: _,
-            dirt: _,
-            dirty: _,
+            queue: _,
         } = self;
     }
 }
@@ -66,26 +69,29 @@ impl Server {
         requires { IsShape shape }
         ensures opens { IfOk result (λ server. server.state ≡ opening shape) }
         ensures unwritten { IfOk result (λ server. server.writes ≡ 0) }
+        ensures spans { IfOk result (λ server. server.spans ≡ 0) }
         ensures valid { IfOk result (λ server. IsState server.state) }
     {
         let canvas = match Canvas::new(alloc, shape.width, shape.height) {
             Ok(canvas) => canvas,
             Err(_) => return Err(NoMemory),
         };
+        let queue = match Queue::new(alloc, shape.width, shape.height) {
+            Ok(queue) => queue,
+            Err(_) => return Err(NoMemory),
+        };
+        let mut shown = new_shot(alloc)?;
+        let other = new_shot(alloc)?;
         let desk = Desk::new(alloc, shape);
-        let windows = Places::new();
-        let area = shape.width as usize * shape.height as usize;
-        match Vec::from_elem(alloc, false, area) {
-            Ok(dirt) => Ok(Server {
-                shape,
-                desk,
-                windows,
-                canvas,
-                dirt,
-                dirty: 0,
-            }),
-            Err(_) => Err(NoMemory),
-        }
+        shot(&desk.view(), &mut shown);
+        Ok(Server {
+            shape,
+            desk,
+            shown,
+            other,
+            canvas,
+            queue,
+        })
     }
 
     /// Connects a client, 1 to 16. docs/GUIDE.md, "Commands".
@@ -94,15 +100,16 @@ impl Server {
         requires high { client ≤ 16 }
         ensures step { Step self.old.state (Connect client) (Replied result) self.new.state }
         ensures unwritten { self.new.writes ≡ self.old.writes }
+        ensures spans { self.new.spans ≡ self.old.spans }
         ensures valid { IsState self.new.state }
     {
         let reply = self.desk.connect(client);
-        self.dirty = follow(
-            &self.desk,
-            &mut self.windows,
-            &mut self.dirt,
-            self.dirty,
-            self.shape.width,
+        follow(
+            &self.desk.view(),
+            self.desk.touched(),
+            &mut self.shown,
+            &mut self.other,
+            &mut self.queue,
         );
         reply
     }
@@ -111,22 +118,22 @@ impl Server {
     pub fn hello(&mut self) -> Reply
         ensures step { Step self.old.state Hello (Replied result) self.new.state }
         ensures unwritten { self.new.writes ≡ self.old.writes }
+        ensures spans { self.new.spans ≡ self.old.spans }
         ensures valid { IsState self.new.state }
     {
         let reply = self.desk.hello();
-        self.dirty = follow(
-            &self.desk,
-            &mut self.windows,
-            &mut self.dirt,
-            self.dirty,
-            self.shape.width,
+        follow(
+            &self.desk.view(),
+            self.desk.touched(),
+            &mut self.shown,
+            &mut self.other,
+            &mut self.queue,
         );
         reply
     }
 
-    /// A client's command, one of those that are built so far; none of them has a payload. Where it changes the
-    /// rows, the open windows or their order, the pixels that a window showed or shows become dirty; none is
-    /// written. docs/GUIDE.md, "Commands".
+    /// A client's command, one of those that are built so far; none of them has a payload. What the change reaches
+    /// becomes dirty, and nothing is written. docs/GUIDE.md, "Commands".
     pub fn command(&mut self, client: u32, command: &Command, payload: &[u8]) -> Reply
         requires low { 1 ≤ client }
         requires high { client ≤ 16 }
@@ -134,15 +141,16 @@ impl Server {
         requires payload { payload.now ≡ [] }
         ensures step { Step self.old.state (Ask client command.now) (Replied result) self.new.state }
         ensures unwritten { self.new.writes ≡ self.old.writes }
+        ensures spans { self.new.spans ≡ self.old.spans }
         ensures valid { IsState self.new.state }
     {
         let reply = self.desk.step(client, command, payload);
-        self.dirty = follow(
-            &self.desk,
-            &mut self.windows,
-            &mut self.dirt,
-            self.dirty,
-            self.shape.width,
+        follow(
+            &self.desk.view(),
+            self.desk.touched(),
+            &mut self.shown,
+            &mut self.other,
+            &mut self.queue,
         );
         reply
     }
@@ -153,15 +161,16 @@ impl Server {
         requires high { client ≤ 16 }
         ensures step { Step self.old.state (Bye client) (Replied result) self.new.state }
         ensures unwritten { self.new.writes ≡ self.old.writes }
+        ensures spans { self.new.spans ≡ self.old.spans }
         ensures valid { IsState self.new.state }
     {
         let reply = self.desk.bye(client);
-        self.dirty = follow(
-            &self.desk,
-            &mut self.windows,
-            &mut self.dirt,
-            self.dirty,
-            self.shape.width,
+        follow(
+            &self.desk.view(),
+            self.desk.touched(),
+            &mut self.shown,
+            &mut self.other,
+            &mut self.queue,
         );
         reply
     }
@@ -173,6 +182,7 @@ impl Server {
         ensures chosen { TickedWith (lost_marks self.old.state.dirt self.new.state.dirt)
             self.old.state result self.new.state }
         ensures writes { self.new.writes ≡ result.bands + result.queue }
+        ensures spans { self.new.spans ≤ self.new.writes }
         ensures within_budget { self.new.writes ≤ self.old.state.desk.shape.budget }
         ensures fewer { dirty_count self.new.state
             ≤ dirty_count self.old.state - self.old.state.desk.shape.spare }
@@ -183,17 +193,11 @@ impl Server {
         self.canvas.start_count();
         let bands = draw_bands();
         let room = self.shape.budget - bands;
-        let queue = sweep(
-            &mut self.canvas,
-            &mut self.dirt,
-            self.windows.as_slice(),
-            room,
-        );
-        self.dirty -= queue;
+        let queue = draw(&self.desk.view(), &mut self.queue, &mut self.canvas, room);
         Drew {
             bands,
             queue,
-            left: self.dirty,
+            left: self.queue.count(),
         }
     }
 
@@ -210,7 +214,16 @@ impl Server {
         ensures count { result ≡ dirty_count self.now.state }
         ensures valid { IsState self.now.state }
     {
-        self.dirty
+        self.queue.count()
+    }
+
+    /// How many spans the last tick wrote, each a part of a row at once; 0 before the first. They are at most its pixels.
+    pub fn spans(&self) -> u32
+        ensures count { result ≡ self.now.spans }
+        ensures within { result ≤ self.now.writes }
+        ensures valid { IsState self.now.state }
+    {
+        self.canvas.spans()
     }
 
     /// The server's fixed numbers.
@@ -227,6 +240,14 @@ impl Server {
         ensures valid { IsState self.now.state }
     {
         self.desk.live()
+    }
+}
+
+// A shot with nothing in it.
+fn new_shot(alloc: Global) -> Result<Shot, NoMemory> {
+    match Shot::new(alloc) {
+        Ok(shot) => Ok(shot),
+        Err(_) => Err(NoMemory),
     }
 }
 
