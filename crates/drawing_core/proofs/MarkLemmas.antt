@@ -1,10 +1,10 @@
 -- Marking: nothing marked, one test after another, and the numbers one after another.
-use Rattle.std.proofs.Common.{◌≡◌, ℕ, zero, suc, ◌+◌, ◌<◌, ℤ, pos, Bool, false, ◌||◌, List, [], ◌∷◌, map, refl, sym, ap, ◌∙◌, subst, arith}
+use Rattle.std.proofs.Common.{◌≡◌, ℕ, ◌+◌, ◌<◌, ℤ, pos, Bool, false, ◌||◌, List, [], ◌∷◌, map, refl, sym, ap, ◌∙◌, subst, arith}
 use Rattle.std.specs.List.{list_any, range_with_len}
 use Rattle.std.proofs.lemmas.List.FromFn.{map-range_with_len_more}
 use Rattle.std.proofs.lemmas.List.Folds.{list_any-append}
 use Rattle.shot_core.specs.Shot.{Seen, most_numbers}
-use Rattle.redraw_core.specs.Dirt.{Dirt, IsDirt, EachPixel, is_dirty}
+use Rattle.redraw_core.specs.Dirt.{Dirt, IsDirt, is_dirty}
 use Rattle.damage_rules.specs.Numbering.{in_areas}
 use Rattle.drawing_core.specs.Marking.{Marked, in_number, is_given_by, is_given}
 

@@ -3,7 +3,9 @@
 #![tactic(auto)]
 
 mod drawing;
+mod following;
 mod marking;
 
 pub use drawing::draw;
+pub use following::follow;
 pub use marking::mark;

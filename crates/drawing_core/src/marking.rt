@@ -3,10 +3,11 @@ ghost use Rattle.std.specs.List.{list_any};
 ghost use Rattle.std.specs.Prelude.{◌<◌};
 ghost use Rattle.geom_core.specs.Rect.{in_rect};
 ghost use Rattle.shot_core.specs.Shot.{most_numbers};
+ghost use Rattle.damage_rules.specs.Raised.{AreRaised};
 ghost use Rattle.redraw_core.specs.Dirt.{IsDirt};
 ghost use Rattle.drawing_core.specs.Marking.{Marked, in_number, is_given};
 
-use damage_rules::reach;
+use damage_rules::{Raised, reach_with};
 use geom_core::Rect;
 use redraw_core::Queue;
 use shot_core::{Shot, Touched};
@@ -21,18 +22,30 @@ pub fn mark(before: &Shot, after: &Shot, touched: &Touched, queue: &mut Queue)
     requires { IsDirt queue.old }
     ensures { Marked (is_given before.now after.now touched.now.looks.items) queue.old queue.new }
 {
+    let raised = Raised::between(before, after);
     for key in 0..NUMBERS {
-        mark_number(before, after, touched, key, queue);
+        mark_number(before, after, touched, &raised, key, queue);
     }
 }
 
 /// Makes dirty what this number gives the reach.
-fn mark_number(before: &Shot, after: &Shot, touched: &Touched, key: u32, queue: &mut Queue)
+fn mark_number(
+    before: &Shot,
+    after: &Shot,
+    touched: &Touched,
+    raised: &Raised,
+    key: u32,
+    queue: &mut Queue,
+)
     requires key { key < most_numbers }
+    requires raised { AreRaised before.now after.now raised.now.windows.items }
     requires valid { IsDirt queue.old }
     ensures { Marked (in_number before.now after.now touched.now.looks.items key) queue.old queue.new }
 {
-    add_all(reach(before, after, touched, key).as_slice(), queue);
+    add_all(
+        reach_with(before, after, touched, raised, key).as_slice(),
+        queue,
+    );
 }
 
 /// Makes the pixels of all these areas dirty that are on the screen, and no other.

@@ -1,0 +1,19 @@
+-- What was shown before a change, and its shot: from them the reach of the change is told.
+use Rattle.std.specs.Prelude.{◌≡◌, ℕ, nat_eq, List}
+use Rattle.std.specs.List.{list_any}
+use Rattle.scene_core.specs.declared.view.View.{View}
+use Rattle.shot_core.specs.Shot.{Seen}
+use Rattle.damage_rules.specs.Views.{Sight, IsSight, IsShotIn, KeepsNumbers, has_other_look}
+
+-- what a view shows, by the numbers of widgets
+abbrev pub sight_of : View → Sight
+sight_of view = record { widgets = view.tree.now; windows = view.stack.now; pointer = view.pointer.now }
+
+-- Before the change to what the view shows, this was shown, on a screen of the view's size. This is its shot, no number
+-- passes from one widget to another, and `looks` has the numbers of the widgets that are shown before and after and
+-- whose looks differ.
+pub record Precedes (before : Sight) (view : View) (shot : Seen) (looks : List ℕ) : Type 0 where
+  pub is : IsSight before
+  pub numbers : KeepsNumbers before.widgets.entries view.tree.now.entries
+  pub shot_is : IsShotIn before view.width view.height shot
+  pub looks_differ : (id : ℕ) → list_any (nat_eq id) looks ≡ has_other_look before (sight_of view) view.width view.height id
