@@ -14,7 +14,7 @@ use Rattle.widget_model.proofs.Naming.{row_named-found, row_named-none, row_name
 use Rattle.widget_model.proofs.Planting.{row_named-root}
 use Rattle.tree_core.proofs.Listed.{row_named-row}
 use Rattle.tree_core.proofs.TreeKept.{nodes-all}
-use Rattle.tree_core.proofs.Departures.{number-client}
+use Rattle.tree_core.proofs.ForestLemmas.{number-client}
 use Rattle.scene_model.specs.Placing.{place_in}
 use Rattle.scene_model.specs.DuePlaces.{due_place}
 use Rattle.scene_core.specs.Laid.{with_places}

@@ -2,6 +2,7 @@
 use Rattle.std.proofs.Common.{◌≡◌, ◌+◌, ◌≤◌, ℕ, Bool, true, false, cond, not, nat_eq, List, Option, Some, None, refl, sym, ap, ◌∙◌}
 use Rattle.std.proofs.lemmas.Bool.{true≢false, false≢true, eqb-false, le-leb, lt-ltb, and_from}
 use Rattle.std.proofs.lemmas.List.{get_or-set_other}
+use Rattle.std.specs.Option.{option_and_then}
 use Rattle.widget_model.specs.Rows.{Row}
 use Rattle.widget_model.specs.Named.{rows_of_others}
 use Rattle.widget_model.specs.Nodes.{first_number, is_number_of}
@@ -9,9 +10,8 @@ use Rattle.widget_model.specs.Widgets.{Widgets, rows_of, row_at, place_at, witho
 use Rattle.widget_model.specs.Forest.{IsWidgets}
 use Rattle.widget_model.proofs.Naming.{rows_of-departed}
 use Rattle.widget_model.proofs.Slots.{unplaced-other}
-use Rattle.row_store.proofs.Taken.{row_at-filter}
-use Rattle.tree_core.proofs.Listed.{row_at-without_row}
-use Rattle.tree_core.proofs.Departures.{number-client, stays, kept-departed}
+use Rattle.row_store.proofs.UnderNumbers.{row_at-filter, row_at-without_row}
+use Rattle.tree_core.proofs.ForestLemmas.{number-client}
 use Rattle.desk_model.proofs.OthersRows.{filter-filter}
 use Rattle.desk_core.specs.View.{HaveDuePlaces, KeepsNumbers}
 use Rattle.desk_core.proofs.KeyNumbers.{numbers-fewer, others-due}
@@ -34,20 +34,22 @@ removed-place w key id row there =
     get_or-set_other w.places key id None None (λ e. eqb-false key id (without-left w.entries key id row there).apart (sym e))
 
 -- the same of a client that goes
-departed-left : (w : Widgets) (client id : ℕ) (row : Row) → IsWidgets w → 1 ≤ client → row_at (departed client w).entries id ≡ Some row → IsLeft (not (stays client id)) (row_at w.entries id) row
+departed-left : (w : Widgets) (client id : ℕ) (row : Row) → IsWidgets w → 1 ≤ client → row_at (departed client w).entries id ≡ Some row → IsLeft (is_number_of client id) (row_at w.entries id) row
 departed-left w client id row valid low there =
-    by (stays client id) (sym (row_at-filter w.entries (stays client) id) ∙ ap (λ (es : List (ℕ × Row)). row_at es id) (kept-departed w.entries client low valid.forest.numbers) ∙ there)
+    by (row_at w.entries id) refl (sym (row_at-filter (λ (e : ℕ × Row). not (nat_eq client e.1.client)) w.entries id valid.forest.own_numbers) ∙ there)
   where
-    by : (b : Bool) → cond b (row_at w.entries id) None ≡ Some row → IsLeft (not b) (row_at w.entries id) row
-    by true h = record { apart = refl; was = h }
-    by false h = absurd (cc)
+    other : (r : Row) (b : Bool) → nat_eq client r.client ≡ b → cond (not b) (Some r) None ≡ Some row → (nat_eq client r.client ≡ false) × (r ≡ row)
+    other r true is h = absurd (cc)
+    other r false is h = (is, cc)
+
+    by : (o : Option Row) → row_at w.entries id ≡ o → option_and_then (λ (r : Row). cond (not (nat_eq client r.client)) (Some r) None) o ≡ Some row → IsLeft (is_number_of client id) (row_at w.entries id) row
+    by None at h = absurd (cc)
+    by (Some r) at h =
+        let left = other r (nat_eq client r.client) refl h in
+        record { apart = number-client client r.client id low (own-number w id r valid at) ∙ left.0; was = at ∙ ap Some left.1 }
 
 departed-number : (w : Widgets) (client id : ℕ) (row : Row) → IsWidgets w → 1 ≤ client → row_at (departed client w).entries id ≡ Some row → is_number_of client id ≡ false
-departed-number w client id row valid low there = by (is_number_of client id) (departed-left w client id row valid low there).apart
-  where
-    by : (b : Bool) → not (not b) ≡ false → b ≡ false
-    by true h = absurd (true≢false h)
-    by false h = refl
+departed-number w client id row valid low there = (departed-left w client id row valid low there).apart
 
 departed-place : (w : Widgets) (client id : ℕ) (row : Row) → IsWidgets w → 1 ≤ client → row_at (departed client w).entries id ≡ Some row → place_at (departed client w) id ≡ place_at w id
 departed-place w client id row valid low there =

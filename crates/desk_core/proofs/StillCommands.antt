@@ -39,7 +39,7 @@ use Rattle.cmd_words.specs.declared.replies.Refusal.TheVariants.{NameTaken}
 use Rattle.desk_core.proofs.NewStays.{unmoved-more}
 use Rattle.desk_model.specs.Refusals.{outcome, first_refusal, when}
 use Rattle.desk_model.specs.Bindings.{step_bind, bind_refusal, bind_effect}
-use Rattle.desk_model.specs.Windows.{step_open, open_refusal, open_effect}
+use Rattle.desk_model.specs.Windows.{step_open, open_refusal, open_effect, unless_open, close_effect, step_close, top_effect, step_top}
 use Rattle.desk_model.specs.Commands.{row_of}
 use Rattle.desk_core.specs.Stays.{MoveNothing, is_asked, may_move}
 use Rattle.desk_core.proofs.AttrChanges.{same_but_values}
@@ -237,6 +237,14 @@ unmoved-open : (desk : Desk) (client : ℕ) (name : List ℕ) → MoveNothing de
 unfolding step_open
 unmoved-open desk client name = unmoved-outcome desk (open_refusal desk client name) (open_effect desk client name) (unmoved-same desk.rows)
 
+unmoved-close : (desk : Desk) (client : ℕ) (name : List ℕ) → MoveNothing desk.rows (step_close desk client name).1.rows
+unfolding step_close
+unmoved-close desk client name = unmoved-outcome desk (unless_open desk client name) (close_effect desk client name) (unmoved-same desk.rows)
+
+unmoved-top : (desk : Desk) (client : ℕ) (name : List ℕ) → MoveNothing desk.rows (step_top desk client name).1.rows
+unfolding step_top
+unmoved-top desk client name = unmoved-outcome desk (unless_open desk client name) (top_effect desk client name) (unmoved-same desk.rows)
+
 unmoved-set : (desk : Desk) (client : ℕ) (name : List ℕ) (options : List (Attr × value.Value)) → IsDesk desk → may_move desk.rows client (Set name options) ≡ false → MoveNothing desk.rows (step_set desk client name options).1.rows
 unfolding step_set
 unmoved-set desk client name options kept still =
@@ -268,8 +276,8 @@ unmoved-command (Unlink name) desk client short kept hung still = absurd (true�
 unmoved-command (Bind name event tag) desk client short kept hung still = unmoved-bind desk client name event (Some tag)
 unmoved-command (Unbind name event) desk client short kept hung still = unmoved-bind desk client name event None
 unmoved-command (OpenWindow name) desk client short kept hung still = unmoved-open desk client name
-unmoved-command (CloseWindow name) desk client short kept hung still = absurd (true≢false still)
-unmoved-command (TopWindow name) desk client short kept hung still = absurd (true≢false still)
+unmoved-command (CloseWindow name) desk client short kept hung still = unmoved-close desk client name
+unmoved-command (TopWindow name) desk client short kept hung still = unmoved-top desk client name
 unmoved-command (Mode name w h) desk client short kept hung still = absurd (true≢false still)
 unmoved-command (Admit name period) desk client short kept hung still = absurd (true≢false still)
 unmoved-command (Leave name) desk client short kept hung still = absurd (true≢false still)

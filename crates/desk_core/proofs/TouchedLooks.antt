@@ -15,7 +15,7 @@ use Rattle.widget_model.specs.Nodes.{first_number, is_number_of}
 use Rattle.widget_model.specs.Widgets.{Widgets, nodes, rows_of, row_at}
 use Rattle.widget_model.specs.Forest.{IsWidgets}
 use Rattle.tree_core.proofs.Listed.{row_named-row}
-use Rattle.tree_core.proofs.Departures.{number-client}
+use Rattle.tree_core.proofs.ForestLemmas.{number-client}
 use Rattle.tree_core.specs.declared.pointer.Pointer.{Pointer}
 use Rattle.scene_model.specs.Scene.{Scene}
 use Rattle.scene_core.specs.View.{scene_from}

@@ -9,7 +9,7 @@ use Rattle.kind_core.specs.declared.kinds.Kind.TheVariants.{Entry}
 use Rattle.kind_core.specs.declared.kinds.Attr.{Attr}
 use Rattle.kind_core.specs.declared.kinds.Attr.TheVariants.{X, Y, W, H, Text, Cols, Value, Vert}
 use Rattle.cmd_words.specs.declared.commands.Command.{Command}
-use Rattle.cmd_words.specs.declared.commands.Command.TheVariants.{New, Set, Bind, Unbind, OpenWindow}
+use Rattle.cmd_words.specs.declared.commands.Command.TheVariants.{New, Set, Bind, Unbind, OpenWindow, CloseWindow, TopWindow}
 use Rattle.widget_model.specs.Rows.{Row}
 use Rattle.widget_model.specs.Widgets.{Widgets}
 use Rattle.widget_model.specs.Kinds.{is_variable_kind, is_window_kind}
@@ -41,7 +41,7 @@ is_asked kind Text = not (is_entry kind)
 is_asked kind Value = is_variable_kind kind
 is_asked kind _ = false
 
--- A new widget that is no Window, opening a window, binding an event and setting what layout doesn't read move nothing;
+-- A new widget that is no Window, opening, closing and raising a window, binding an event and setting what layout doesn't read move nothing;
 -- any other command may.
 abbrev pub may_move : List Row → ℕ → Command → Bool
 may_move rows client (New name kind) = is_window_kind kind
@@ -49,6 +49,8 @@ may_move rows client (Set name options) = option_map_or (λ row. list_any (λ op
 may_move rows client (Bind name event tag) = false
 may_move rows client (Unbind name event) = false
 may_move rows client (OpenWindow name) = false
+may_move rows client (CloseWindow name) = false
+may_move rows client (TopWindow name) = false
 may_move rows client _ = true
 
 -- The widgets are laid out where they may have moved, and else stay as they are.

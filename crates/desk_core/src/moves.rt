@@ -49,7 +49,11 @@ pub(crate) fn may_move(tree: &Tree, client: u32, command: &Command) -> bool
     match command {
         Command::New { kind, .. } => is_window(*kind),
         Command::Set { name, options } => set_moves(tree, client, name, options.as_slice()),
-        Command::Bind { .. } | Command::Unbind { .. } | Command::OpenWindow { .. } => false,
+        Command::Bind { .. }
+        | Command::Unbind { .. }
+        | Command::OpenWindow { .. }
+        | Command::CloseWindow { .. }
+        | Command::TopWindow { .. } => false,
         _ => true,
     }
 }

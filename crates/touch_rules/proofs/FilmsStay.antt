@@ -13,7 +13,7 @@ use Rattle.kind_core.specs.declared.kinds.EventKind.{EventKind}
 use Rattle.kind_core.specs.declared.values.Value as value
 use Rattle.cmd_words.specs.declared.commands.ConfigOption.{ConfigOption}
 use Rattle.cmd_words.specs.declared.commands.Command.{Command}
-use Rattle.cmd_words.specs.declared.commands.Command.TheVariants.{New, Set, Get, Place, Lift, ColumnConfig, RowConfig, Link, Unlink, Bind, Unbind, OpenWindow, DropWidget}
+use Rattle.cmd_words.specs.declared.commands.Command.TheVariants.{New, Set, Get, Place, Lift, ColumnConfig, RowConfig, Link, Unlink, Bind, Unbind, OpenWindow, CloseWindow, TopWindow, DropWidget}
 use Rattle.cmd_words.specs.declared.replies.Reply.{Reply}
 use Rattle.cmd_words.specs.declared.replies.Refusal.{Refusal}
 use Rattle.cmd_words.specs.declared.replies.Refusal.TheVariants.{NotConnected}
@@ -31,7 +31,7 @@ use Rattle.desk_model.specs.Placement.{place_refusal, place_effect, lift_refusal
 use Rattle.desk_model.specs.Tracks.{with_track, track_refusal, track_effect, step_track}
 use Rattle.desk_model.specs.Links.{link_refusal, link_effect, unlink_refusal, unlink_effect, step_link, step_unlink}
 use Rattle.desk_model.specs.Bindings.{bind_refusal, bind_effect, step_bind}
-use Rattle.desk_model.specs.Windows.{open_refusal, open_effect, step_open}
+use Rattle.desk_model.specs.Windows.{open_refusal, open_effect, step_open, unless_open, close_effect, step_close, top_effect, step_top}
 use Rattle.desk_model.specs.Commands.{row_of, asked, step}
 use Rattle.desk_model.specs.LetGo.{let_go, event_end}
 use Rattle.touch_rules.specs.Films.{KeepFilms, CommandsKeepFilms}
@@ -143,7 +143,7 @@ KeepFilms-bind desk client name event tag =
     KeepFilms-outcome desk (bind_refusal desk client name event) (bind_effect desk client name event tag) (KeepFilms-named desk.rows client name (with_binding event tag) (record { names = record { client = λ row. refl; name = λ row. refl }; film = λ row. refl }))
 
 KeepFilms-row : (desk : Desk) (client : ℕ) (command : Command) (short : Bool) → IfSome (row_of command) (λ row. KeepFilms desk.rows (row desk client short).1.rows)
-unfolding step_new step_set step_get step_drop step_place step_lift step_link step_unlink step_open
+unfolding step_new step_set step_get step_drop step_place step_lift step_link step_unlink step_open step_close step_top
 KeepFilms-row desk client (New name kind) short = KeepFilms-outcome desk (new_refusal desk client name kind short) (new_effect desk client name kind) (KeepFilms-push desk.rows (new_row client name kind))
 KeepFilms-row desk client (Set name options) short = KeepFilms-outcome desk (set_refusal desk client name options) (set_effect desk client name options) (KeepFilms-named desk.rows client name (with_attrs options) (LeavesFilm-attrs options))
 KeepFilms-row desk client (Get name attr) short = KeepFilms-outcome desk (get_refusal desk client name attr) (get_effect desk client name attr) (KeepFilms-same desk.rows)
@@ -164,6 +164,8 @@ KeepFilms-row desk client (Unlink name) short =
 KeepFilms-row desk client (Bind name event tag) short = KeepFilms-bind desk client name event (Some tag)
 KeepFilms-row desk client (Unbind name event) short = KeepFilms-bind desk client name event None
 KeepFilms-row desk client (OpenWindow name) short = KeepFilms-outcome desk (open_refusal desk client name) (open_effect desk client name) (KeepFilms-same desk.rows)
+KeepFilms-row desk client (CloseWindow name) short = KeepFilms-outcome desk (unless_open desk client name) (close_effect desk client name) (KeepFilms-same desk.rows)
+KeepFilms-row desk client (TopWindow name) short = KeepFilms-outcome desk (unless_open desk client name) (top_effect desk client name) (KeepFilms-same desk.rows)
 KeepFilms-row desk client (DropWidget name) short = KeepFilms-outcome desk (drop_refusal desk client name) (drop_effect desk client name) (KeepFilms-without desk.rows client name)
 KeepFilms-row desk client _ short = tt
 

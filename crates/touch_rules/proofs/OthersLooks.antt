@@ -19,7 +19,7 @@ use Rattle.widget_model.specs.Forest.{IsWidgets}
 use Rattle.widget_model.specs.Pointer.{Grab, no_grab, on_widget, drags, Pointer}
 use Rattle.widget_model.proofs.OwnRows.{row_named-agree}
 use Rattle.tree_core.proofs.Listed.{row_named-row}
-use Rattle.tree_core.proofs.Departures.{number-client}
+use Rattle.tree_core.proofs.ForestLemmas.{number-client}
 use Rattle.scene_model.specs.Scene.{Scene}
 use Rattle.scene_model.specs.LookOf.{look_by, look_of, grabs, is_held, has_focus}
 use Rattle.scene_model.specs.Values.{number_of, text_of, count_of, caret_of, is_vertical, linked_value}

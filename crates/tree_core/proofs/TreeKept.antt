@@ -82,7 +82,7 @@ rows_all-filter t p [] h = refl
 rows_all-filter t p (e ∷ es) h = grind (arith, rows_all-filter t p es)
 
 -- what holds of all nodes holds of a numbered row's
-nodes-all : (p : ℕ × Node → Bool) (es : List (ℕ × Row)) (id : ℕ) (row : Row) → list_all p (nodes es) ≡ true → row_at es id ≡ Some row → p (id, node_of row) ≡ true
+pub nodes-all : (p : ℕ × Node → Bool) (es : List (ℕ × Row)) (id : ℕ) (row : Row) → list_all p (nodes es) ≡ true → row_at es id ≡ Some row → p (id, node_of row) ≡ true
 nodes-all p [] id row h there = absurd (cc)
 nodes-all p (e ∷ es) id row h there = by (nodes-all p es id row) (nat_eq id e.0) refl there (and_parts (p (e.0, node_of e.1)) (list_all p (nodes es)) h)
   where
