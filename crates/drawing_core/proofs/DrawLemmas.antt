@@ -51,7 +51,7 @@ Drawn-piece scene n rect old screen new drawn width height taken fewer w h is sh
   pixels = λ x y hx hy.
       let inside = in_rect rect (pos x) (pos y) in
       let mark : inside ≡ was_cleaned old new x y =
-          was_taken (is_dirty old x y) inside (taken.were_dirty x y hx hy) ∙ ap (λ b. is_dirty old x y && not b) (sym (taken.pixels x y hx hy)) in
+      was_taken (is_dirty old x y) inside (taken.were_dirty x y hx hy) ∙ ap (λ b. is_dirty old x y && not b) (sym (taken.pixels x y hx hy)) in
       shows x y (omega arith) (omega arith) ∙ ap (λ b. cond b (colour_at scene (pos x) (pos y)) (pixel_of screen x y)) mark;
   cleans = λ x y hx hy on. taken_was (is_dirty old x y) (in_rect rect (pos x) (pos y)) (is_dirty new x y) (taken.pixels x y hx hy) on;
   cleaned = fewer;

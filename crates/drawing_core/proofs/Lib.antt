@@ -1,4 +1,3 @@
 mod MarkLemmas
 mod DrawLemmas
-mod ViewLemmas
 mod FollowLemmas

@@ -106,12 +106,12 @@ marked_of_desks before after view shot touched old new same shows scene tree sta
     let wide : view.width ≡ shows.width = ap (λ (s : Scene). s.width) scene ∙ ap (λ (s : Shape). s.width) same ∙ sym (ap (λ (s : Scene). s.width) shows.scene) in
     let high : view.height ≡ shows.height = ap (λ (s : Scene). s.height) scene ∙ ap (λ (s : Shape). s.height) same ∙ sym (ap (λ (s : Scene). s.height) shows.scene) in
     let was : scene_in shows.sight view.width view.height ≡ scene_of before.desk =
-        ap (λ w. scene_in shows.sight w view.height) wide ∙ ap (λ h. scene_in shows.sight shows.width h) high ∙ shows.scene in
+    ap (λ w. scene_in shows.sight w view.height) wide ∙ ap (λ h. scene_in shows.sight shows.width h) high ∙ shows.scene in
     let sized : IsShotIn shows.sight view.width view.height shot =
-        subst (λ w. IsShotIn shows.sight w view.height shot) (sym wide) (subst (λ h. IsShotIn shows.sight shows.width h shot) (sym high) shows.is_shot) in
+    subst (λ w. IsShotIn shows.sight w view.height shot) (sym wide) (subst (λ h. IsShotIn shows.sight shows.width h shot) (sym high) shows.is_shot) in
     let kept : sights.KeepsNumbers before.widgets.entries after.widgets.entries = record { one_key = numbers.keys; one_number = numbers.numbers } in
     let kept_here : sights.KeepsNumbers shows.sight.widgets.entries view.tree.now.entries =
-        subst (λ (w : Widgets). sights.KeepsNumbers shows.sight.widgets.entries w.entries) (sym tree) (subst (λ (w : Widgets). sights.KeepsNumbers w.entries after.widgets.entries) (sym shows.widgets) kept) in
+    subst (λ (w : Widgets). sights.KeepsNumbers shows.sight.widgets.entries w.entries) (sym tree) (subst (λ (w : Widgets). sights.KeepsNumbers w.entries after.widgets.entries) (sym shows.widgets) kept) in
     let is_now : IsSight (sight_of view) = record { valid = is.valid; windows = is.windows } in
     let precedes : Precedes shows.sight view shot touched = record {
       is = shows.is;

@@ -5,8 +5,8 @@ use Rattle.server_core.proofs.server.Server.command.Goals as goal
 pub invariant_of-self : goal.invariant_of-self
 invariant_of-self c = (
   (obeyed_of_parts c.self.inside.desk.desk c.step-reply.new.self.desk c.args.client c.args.command.now c.step-reply.result
-    c.step-reply.ensures.valid c.self.invariant.0 c.step-reply.ensures.step
-    (λ same. marked_of_desks c.self.inside.desk c.step-reply.new.self c.view.result c.self.inside.shown _ _ _ same c.self.invariant.1 c.view.ensures.scene c.view.ensures.tree c.view.ensures.stack c.view.ensures.view c.step-reply.ensures.numbered c.step-reply.ensures.touched c.touched.ensures c.follow.ensures.reach)).1,
+      c.step-reply.ensures.valid c.self.invariant.0 c.step-reply.ensures.step
+      (λ same. marked_of_desks c.self.inside.desk c.step-reply.new.self c.view.result c.self.inside.shown _ _ _ same c.self.invariant.1 c.view.ensures.scene c.view.ensures.tree c.view.ensures.stack c.view.ensures.view c.step-reply.ensures.numbered c.step-reply.ensures.touched c.touched.ensures c.follow.ensures.reach)).1,
   shows_of_desk c.step-reply.new.self c.view.result _ c.view.ensures.scene c.view.ensures.tree c.view.ensures.stack c.view.ensures.view c.follow.ensures.shown,
 )
 

@@ -8,8 +8,8 @@ use Rattle.server_core.proofs.server.Server.connect.Goals as goal
 pub invariant_of-self : goal.invariant_of-self
 invariant_of-self c = (
   (step_of_parts c.self.inside.desk.desk c.connect-reply.new.self.desk (λ short. step_connect c.self.inside.desk.desk c.args.client short) c.connect-reply.result (shape-step_connect c.self.inside.desk.desk c.args.client)
-    c.connect-reply.ensures.valid c.self.invariant.0 c.connect-reply.ensures.step
-    (λ same. marked_of_desks c.self.inside.desk c.connect-reply.new.self c.view.result c.self.inside.shown _ _ _ same c.self.invariant.1 c.view.ensures.scene c.view.ensures.tree c.view.ensures.stack c.view.ensures.view c.connect-reply.ensures.numbered c.connect-reply.ensures.touched c.touched.ensures c.follow.ensures.reach)).1,
+      c.connect-reply.ensures.valid c.self.invariant.0 c.connect-reply.ensures.step
+      (λ same. marked_of_desks c.self.inside.desk c.connect-reply.new.self c.view.result c.self.inside.shown _ _ _ same c.self.invariant.1 c.view.ensures.scene c.view.ensures.tree c.view.ensures.stack c.view.ensures.view c.connect-reply.ensures.numbered c.connect-reply.ensures.touched c.touched.ensures c.follow.ensures.reach)).1,
   shows_of_desk c.connect-reply.new.self c.view.result _ c.view.ensures.scene c.view.ensures.tree c.view.ensures.stack c.view.ensures.view c.follow.ensures.shown,
 )
 
@@ -18,8 +18,8 @@ returns-clause-step c =
     rw (← c.self.view_is) (
       and_from _ _ (le-leb 1 c.args.client c.requires.low) (le-leb c.args.client 16 c.requires.high),
       (step_of_parts c.self.inside.desk.desk c.connect-reply.new.self.desk (λ short. step_connect c.self.inside.desk.desk c.args.client short) c.connect-reply.result (shape-step_connect c.self.inside.desk.desk c.args.client)
-    c.connect-reply.ensures.valid c.self.invariant.0 c.connect-reply.ensures.step
-    (λ same. marked_of_desks c.self.inside.desk c.connect-reply.new.self c.view.result c.self.inside.shown _ _ _ same c.self.invariant.1 c.view.ensures.scene c.view.ensures.tree c.view.ensures.stack c.view.ensures.view c.connect-reply.ensures.numbered c.connect-reply.ensures.touched c.touched.ensures c.follow.ensures.reach)).0,
+          c.connect-reply.ensures.valid c.self.invariant.0 c.connect-reply.ensures.step
+          (λ same. marked_of_desks c.self.inside.desk c.connect-reply.new.self c.view.result c.self.inside.shown _ _ _ same c.self.invariant.1 c.view.ensures.scene c.view.ensures.tree c.view.ensures.stack c.view.ensures.view c.connect-reply.ensures.numbered c.connect-reply.ensures.touched c.touched.ensures c.follow.ensures.reach)).0,
     )
 
 pub returns-clause-valid : goal.returns-clause-valid
