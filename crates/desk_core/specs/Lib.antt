@@ -9,3 +9,4 @@ pub mod Effects
 pub mod Lookup
 pub mod TreeRefusals
 pub mod Tracks
+pub mod Asking

@@ -1,4 +1,5 @@
 ghost use Rattle.std.specs.Prelude.{◌≡◌, ◌<◌, ◌≤◌, ◌↔◌, IsSome, IfSome, Some, true, false, [], length, slice_get};
+ghost use Rattle.std.specs.Bool.{OnTrue};
 ghost use Rattle.std.specs.Option.{option_map};
 ghost use Rattle.desk_model.specs.Desk.{opening_desk};
 ghost use Rattle.desk_model.specs.DeskFacts.{IsDesk};
@@ -8,11 +9,13 @@ ghost use Rattle.scene_model.specs.Shapes.{IsShape};
 ghost use Rattle.desk_model.specs.Commands.{is_built, step};
 ghost use Rattle.desk_model.specs.OwnPart.{LeavesOthers};
 ghost use Rattle.desk_core.specs.View.{TellsChange, KeepsNumbers, HaveDuePlaces};
+ghost use Rattle.desk_core.specs.Asking.{only_asks, StaysAsItWas};
 ghost use Rattle.desk_core.specs.Touching.{TellsTouched};
 ghost use Rattle.desk_model.specs.Seen as seen;
 ghost use Rattle.scene_core.specs.View.{scene_of, IsView, KeepsPlaces};
 ghost use Rattle.desk_model.specs.Refusals.{is_memory};
 
+use crate::asking::answer_to;
 use crate::clients::Clients;
 use crate::commands::obey;
 use crate::laying::settle;
@@ -164,11 +167,16 @@ impl Desk {
         ensures valid { IsDesk self.new.desk }
         ensures numbered { KeepsNumbers self.old.widgets.entries self.new.widgets.entries }
         ensures touched { TellsTouched self.old self.new }
+        ensures asking { OnTrue (only_asks command.now) (StaysAsItWas self.old self.new) }
     {
         self.changed = false;
         forget(&mut self.touched);
         if !self.clients.has(client) {
             return Reply::Refused(Refusal::NotConnected);
+        }
+        match answer_to(&self.tree, client, command) {
+            Some(reply) => return reply,
+            None => {}
         }
         let moves = may_move(&self.tree, client, command);
         let before = keep_looks(&self.tree, &self.windows, &self.pointer, self.shape, client);

@@ -2,6 +2,7 @@
 #![tactic(auto)]
 
 mod answer;
+mod asking;
 mod bindings;
 mod clients;
 mod commands;
@@ -22,4 +23,5 @@ mod tracks;
 mod widgets;
 mod windows;
 
+pub use asking::only_asks;
 pub use desk::Desk;

@@ -1,5 +1,5 @@
 -- What a change of the desk reaches, from the views before and after.
-use Rattle.std.proofs.Common.{◌≡◌, ℕ, arith, Bool, false, ◌&&◌, ◌||◌, not, List, [], ◌∷◌, Option, Some, None, nat_eq, refl, sym, ap, ◌∙◌, subst}
+use Rattle.std.proofs.Common.{◌≡◌, ℕ, pos, arith, Bool, false, ◌&&◌, ◌||◌, not, List, [], ◌∷◌, Option, Some, None, nat_eq, refl, sym, ap, ◌∙◌, subst}
 use Rattle.std.specs.List.{list_any}
 use Rattle.std.proofs.lemmas.Bool.Decides.{nat_tests}
 use Rattle.std.specs.Option.{option_map, option_map_or}
@@ -32,6 +32,10 @@ use Rattle.drawing_core.specs.Marking.{Marked}
 use Rattle.desk_core.specs.View.{DeskView}
 use Rattle.desk_core.specs.View as desks
 use Rattle.desk_core.specs.Touching.{TellsTouched, numbered_of}
+use Rattle.desk_model.specs.DeskFacts.{IsDesk}
+use Rattle.redraw_core.specs.Dirt.{IsDirt, is_dirty}
+use Rattle.machine_model.proofs.Still.{still_unreached}
+use Rattle.desk_core.specs.Asking.{StaysAsItWas}
 use Rattle.server_core.specs.Serving.{ShowsDesk}
 use Rattle.server_core.proofs.Parts.{MarkedReach}
 
@@ -130,3 +134,28 @@ view-width view desk shape scene same = ap (λ (s : Shape). s.width) (sym same) 
 
 pub view-height : (view : View) (desk : Desk) (shape : Shape) → views.scene_of view ≡ scene_of desk → desk.shape ≡ shape → shape.height ≡ view.height
 view-height view desk shape scene same = ap (λ (s : Shape). s.height) (sym same) ∙ sym (ap (λ (s : Scene). s.height) scene)
+
+-- a desk that stays as it was shows what it showed
+pub shows_still : (before after : DeskView) (shot : Seen) → StaysAsItWas before after → ShowsDesk before shot → ShowsDesk after shot
+shows_still before after shot stays shows = record {
+  sight = shows.sight;
+  width = shows.width;
+  height = shows.height;
+  is = shows.is;
+  widgets = shows.widgets ∙ sym stays.widgets;
+  windows = shows.windows ∙ sym stays.windows;
+  scene = shows.scene ∙ ap scene_of (sym stays.desk);
+  is_shot = shows.is_shot;
+}
+
+-- and dirties nothing
+pub marked_still : (before after : Desk) (dirt : Dirt) → IsDesk before → IsDirt dirt → after ≡ before → MarkedReach before after dirt dirt
+marked_still before after dirt fine is same = record {
+  pixels = λ x y hx hy. or_none (is_dirty dirt x y) (in_reach (scene_of before) (scene_of after) (pos x) (pos y)) (ap (λ (d : Desk). in_reach (scene_of before) (scene_of d) (pos x) (pos y)) same ∙ still_unreached (scene_of before) fine.once (pos x) (pos y));
+  width = refl;
+  height = refl;
+  valid = is;
+}
+  where
+    or_none : (a b : Bool) → b ≡ false → a ≡ (a || b)
+    or_none a b none = rw none (grind arith)

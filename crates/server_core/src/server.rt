@@ -11,7 +11,7 @@ ghost use Rattle.machine_model.specs.Chosen.{lost_marks, TickedWith};
 use crate::no_memory::NoMemory;
 use canvas_core::Canvas;
 use cmd_words::{Command, Drew, Reply};
-use desk_core::Desk;
+use desk_core::{Desk, only_asks};
 use drawing_core::{draw, follow};
 use kind_core::Shape;
 use redraw_core::Queue;
@@ -144,6 +144,9 @@ impl Server {
         ensures spans { self.new.spans ≡ self.old.spans }
         ensures valid { IsState self.new.state }
     {
+        if only_asks(command) {
+            return self.desk.step(client, command, payload);
+        }
         let reply = self.desk.step(client, command, payload);
         follow(
             &self.desk.view(),

@@ -1,12 +1,13 @@
 use Rattle.std.proofs.Common.{◌≡◌, ◌↔◌, ◌&&◌, Bool, IsTrue, true, false, ap, sym, ◌∙◌, subst}
 use Rattle.widget_model.specs.Widgets.{Widgets, nodes, rows_of}
 use Rattle.desk_model.specs.Commands.{step}
+use Rattle.desk_model.specs.Desk.{Desk}
 use Rattle.desk_model.specs.DeskFacts.{IsDesk}
 use Rattle.desk_model.specs.Refusals.{is_memory}
 use Rattle.desk_model.proofs.OwnPart.{commands_leave_others}
 use Rattle.desk_core.specs.Parts.{desk_of, stage_of, windows_at}
 use Rattle.desk_core.specs.View.{DeskView}
-use Rattle.desk_core.proofs.CallSteps.{step-absent}
+use Rattle.desk_core.proofs.CallSteps.{step-absent, step-obeyed}
 use Rattle.desk_core.proofs.Calls.{connected-joined, obeyed-tree, obeyed-numbers, obeyed-parts, obeyed-held, obeyed-step, obeyed-kept}
 use Rattle.desk_core.specs.View.{KeepsNumbers}
 use Rattle.desk_core.proofs.KeyNumbers.{numbers-same}
@@ -130,3 +131,25 @@ returns-clause-touched c =
     })
     (returns-clause-step c)
     (subst T c.self.view_is (kept-told c.args.client c.keep_looks-before.result i.shape i.pointer pointer i.tree tree i.windows windows touched c.self.invariant.parts.windows kept.parts.windows c.keep_looks-before.ensures c.tell_looks.ensures))
+
+-- a command that only asks leaves the desk as it was
+pub returns-in-Some-clause-step : goal.returns-in-Some-clause-step
+returns-in-Some-clause-step c =
+    let i = c.self.inside in
+    let desk : Desk = desk_of (stage_of i.shape i.tree i.pointer) i.tree i.windows in
+    sym (ap (λ (s : DeskView). step s.desk c.args.client c.args.command.now (is_memory c.in-Some.reply)) c.self.view_is)
+    ∙ step-obeyed desk c.args.client c.args.command.now (is_memory c.in-Some.reply) c.in-Some.reply desk desk c.requires.built
+    (connected-joined (stage_of i.shape i.tree i.pointer) i.clients i.tree i.windows c.args.client true c.self.invariant.parts c.if-not-has.ensures)
+    (c.in-Some.ensures.answers (is_memory c.in-Some.reply) desk refl) (sym c.self.invariant.desk.held)
+
+pub returns-in-Some-clause-numbered : goal.returns-in-Some-clause-numbered
+returns-in-Some-clause-numbered c =
+    let i = c.self.inside in
+    let N : DeskView → Type 0 = λ s. KeepsNumbers s.widgets.entries i.tree.entries in
+    subst N c.self.view_is (numbers-same i.tree.entries c.self.invariant.parts.tree.forest.own_names)
+
+pub returns-in-Some-clause-touched : goal.returns-in-Some-clause-touched
+returns-in-Some-clause-touched c =
+    let i = c.self.inside in
+    let new : DeskView = record { desk = desk_of (stage_of i.shape i.tree i.pointer) i.tree i.windows; changed = false; widgets = i.tree; windows = i.windows; touched = c.forget.new.touched.looks.items } in
+    stayed-touched c.args.self.now new (ap (λ (s : DeskView). s.widgets.entries) c.self.view_is) (ap (λ (s : DeskView). seen.scene_of s.desk) c.self.view_is) c.forget.ensures
