@@ -24,29 +24,26 @@ holds-without (first ∷ keys) key = by (nat_eq first key) refl (holds-without k
 
 contains-without : (keys : List ℕ) (key n : ℕ) → Contains (without keys key) n → Contains keys n
 contains-without [] key n among = among
-contains-without (first ∷ keys) key n among = by (nat_eq first key) among
+contains-without (first ∷ keys) key n among = by (contains-without keys key n) (nat_eq first key) among
   where
     later : Contains keys n → Contains (first ∷ keys) n
     later at = (suc at.0, omega (arith, at.1), at.2)
 
-    at : (i : ℕ) → i < length (first ∷ without keys key) → get_or (first ∷ without keys key) i n ≡ n → Contains (first ∷ keys) n
-    at zero less is = (0, omega arith, is)
-    at (suc i) less is = later (contains-without keys key n (i, omega arith, is))
+    at : (Contains (without keys key) n → Contains keys n) → (i : ℕ) → i < length (first ∷ without keys key) → get_or (first ∷ without keys key) i n ≡ n → Contains (first ∷ keys) n
+    at rest zero less is = (0, omega arith, is)
+    at rest (suc i) less is = later (rest (i, omega (arith, less), is))
 
-    by : (b : Bool) → Contains (cond b (without keys key) (first ∷ without keys key)) n → Contains (first ∷ keys) n
-    by true h = later (contains-without keys key n h)
-    by false h = at h.0 h.1 h.2
+    by : (Contains (without keys key) n → Contains keys n) → (b : Bool) → Contains (cond b (without keys key) (first ∷ without keys key)) n → Contains (first ∷ keys) n
+    by rest true h = later (rest h)
+    by rest false h = at rest h.0 h.1 h.2
 
 all-without : (P : ℕ → Type 0) (keys : List ℕ) (key : ℕ) → All P keys → All P (without keys key)
 all-without P [] key each = each
-all-without P (first ∷ keys) key each = by (nat_eq first key)
+all-without P (first ∷ keys) key each = by (all-without P keys key (All-tail P first keys each)) (nat_eq first key)
   where
-    rest : All P (without keys key)
-    rest = all-without P keys key (All-tail P first keys each)
-
-    by : (b : Bool) → All P (cond b (without keys key) (first ∷ without keys key))
-    by true = rest
-    by false = All-cons P first (without keys key) (All-head P first keys each) rest
+    by : All P (without keys key) → (b : Bool) → All P (cond b (without keys key) (first ∷ without keys key))
+    by rest true = rest
+    by rest false = All-cons P first (without keys key) (All-head P first keys each) rest
 
 pub shown-opened : (old new : Widgets) (windows now : List ℕ) (window : ℕ) → new.entries ≡ old.entries → HasPlaces new window → ((other : ℕ) → root_id old other ≢ Some window → place_at new other ≡ place_at old other)
     → row_kind old.entries window ≡ Some Window → IsShown old windows → now ≡ window ∷ without windows window → IsStack now → IsShown new now

@@ -89,12 +89,7 @@ fn count(areas: &[Rect]) -> u32 {
 }
 
 /// Whether each pixel of the table is reached, or each isn't.
-fn are_reached(
-    rt: &impl Abort,
-    areas: &[Rect],
-    table: &str,
-    wanted: bool,
-) -> Result<(), Fail> {
+fn are_reached(rt: &impl Abort, areas: &[Rect], table: &str, wanted: bool) -> Result<(), Fail> {
     for row in table.trim().lines() {
         let mut words = row.split_whitespace();
         let x = number(&mut words)?;
