@@ -4,15 +4,20 @@ use Rattle.std.specs.List.{filter}
 use Rattle.cmd_words.specs.declared.replies.Reply.{Reply}
 use Rattle.cmd_words.specs.declared.replies.Reply.TheVariants.{Done, Number, NoEvent}
 use Rattle.cmd_words.specs.declared.replies.Refusal.TheVariants.{Memory, Full, NotConnected, Connected}
+use Rattle.bind_core.specs.Ring.{new_ring}
 use Rattle.widget_model.specs.Named.{rows_of_others}
 use Rattle.widget_model.specs.Clients.{is_joined}
 use Rattle.desk_model.specs.Desk.{Desk, is_connected}
 use Rattle.desk_model.specs.Refusals.{when, first_refusal, outcome}
 use Rattle.desk_model.specs.LetGo.{event_end}
 
--- the desk with one more client
+-- the desk with one more client, of which no event is kept
 abbrev pub with_client : ℕ → Desk → Desk
-with_client client desk = record desk { clients = desk.clients ++ client ∷ [] }
+with_client client desk =
+    record desk {
+      clients = desk.clients ++ client ∷ [];
+      rings = desk.rings ++ record { client = client; events = new_ring } ∷ [];
+    }
 
 -- `connect`. `short`: there is no memory for it.
 unfoldable pub step_connect : Desk → ℕ → Bool → Reply × Desk

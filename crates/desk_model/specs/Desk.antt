@@ -1,5 +1,4 @@
--- The desk: what the sequential server keeps. Widgets are named by client and name. No frame is admitted and no
--- event is kept yet, so the roster and the rings are empty.
+-- The desk: what the sequential server keeps. Widgets are named by client and name.
 use Rattle.std.specs.Prelude.{ℕ, Bool, false, ◌&&◌, nat_eq, List, [], None}
 use Rattle.std.specs.List.{list_any}
 use Rattle.std.specs.Str.{bytes_eq}

@@ -1,16 +1,20 @@
 -- What holds of the desk at every moment.
-use Rattle.std.specs.Prelude.{ℕ, ◌≡◌, ◌≤◌, Bool, true, false, ◌||◌, is_none, List, [], ◌∷◌}
-use Rattle.std.specs.List.{list_all, list_any}
+use Rattle.std.specs.Prelude.{ℕ, ◌≡◌, ◌≤◌, Bool, true, false, not, ◌&&◌, ◌||◌, nat_lt, nat_eq, is_none, List, [], ◌∷◌, map}
+use Rattle.std.specs.List.{list_all, list_any, All}
 use Rattle.std.specs.Option.{option_map_or}
 use Rattle.kind_core.specs.declared.kinds.Kind.{Kind}
+use Rattle.bind_core.specs.Ring.{IsRing}
+use Rattle.vscreen_core.specs.Band.{share_of}
 use Rattle.scene_model.specs.Shapes.{IsShape}
 use Rattle.widget_model.specs.Rows.{Row}
 use Rattle.widget_model.specs.Kinds.{any_kind, counts_with, can_link, is_variable_kind, is_window_kind}
 use Rattle.widget_model.specs.Named.{row_named, rows_counted, is_kind_of, AreNamedApart}
+use Rattle.widget_model.specs.Trees.{is_admitted}
 use Rattle.widget_model.specs.Clients.{is_joined, is_client}
 use Rattle.widget_model.specs.Planted.{IsPlanted}
-use Rattle.widget_model.specs.Fitting.{fits_table, fits_rules, has_slots}
-use Rattle.desk_model.specs.Desk.{Desk, is_connected, is_window}
+use Rattle.widget_model.specs.Fitting.{fits_table, fits_rules, has_slots, HaveFitFilms}
+use Rattle.desk_model.specs.Desk.{Desk, Admission, Ring, is_connected, is_window, is_admission}
+use Rattle.desk_model.specs.Screens.{film_named, shares_of, roster_limit}
 use Rattle.desk_model.specs.LetGo.{let_go}
 
 -- No client is connected twice.
@@ -31,6 +35,36 @@ abbrev pub AreOpenOnce : List (ℕ × List ℕ) → Type 0
 AreOpenOnce [] = Unit {0}
 AreOpenOnce (window ∷ windows) = (list_any (is_window window.0 window.1) windows ≡ false) × AreOpenOnce windows
 
+-- An admission is of a VScreen that is admitted, and its share is its film's.
+abbrev pub has_its_share : List Row → Admission → Bool
+has_its_share rows admission =
+    option_map_or
+    (λ film. nat_lt 0 film.period && nat_eq admission.share (share_of film.width film.height film.period))
+    (film_named rows admission.client admission.name)
+    false
+
+-- No VScreen is admitted twice.
+abbrev pub AreAdmittedOnce : List Admission → Type 0
+AreAdmittedOnce [] = Unit {0}
+AreAdmittedOnce (admission ∷ roster) = (list_any (is_admission admission.client admission.name) roster ≡ false) × AreAdmittedOnce roster
+
+-- whether the row, where it is an admitted VScreen, has an admission
+abbrev pub is_listed : List Admission → Row → Bool
+is_listed roster row = not (is_admitted row) || list_any (is_admission row.client row.name) roster
+
+-- What holds of the roster: its admissions are exactly those of the admitted VScreens, each once and with its film's
+-- share, and the shares together are at most what the spare leaves of the budget.
+pub record IsRosterOf (limit : ℕ) (rows : List Row) (roster : List Admission) : Type 0 where
+  pub shares : list_all (has_its_share rows) roster ≡ true
+  pub once : AreAdmittedOnce roster
+  pub all : list_all (is_listed roster) rows ≡ true
+  pub within : shares_of roster ≤ limit
+
+-- What holds of the kept events: each connected client has a ring, in the order of connecting.
+pub record AreRingsOf (clients : List ℕ) (rings : List Ring) : Type 0 where
+  pub each : map (λ ring. ring.client) rings ≡ clients
+  pub valid : All (λ ring. IsRing ring.events) rings
+
 pub record IsDesk (desk : Desk) : Type 0 where
   pub shape : IsShape desk.shape
   pub clients : list_all is_client desk.clients ≡ true
@@ -45,6 +79,10 @@ pub record IsDesk (desk : Desk) : Type 0 where
   pub fitting : list_all fits_table desk.rows ≡ true
   pub rules : list_all fits_rules desk.rows ≡ true
   pub slots : list_all has_slots desk.rows ≡ true
+  -- only a VScreen has a film, and it is a whole one
+  pub films : HaveFitFilms desk.rows
+  pub roster : IsRosterOf (roster_limit desk) desk.rows desk.roster
+  pub rings : AreRingsOf desk.clients desk.rings
   -- an open window is one of the Windows, and is open once
   pub windows : list_all (λ window. is_kind_of is_window_kind (row_named desk.rows window.0 window.1)) desk.windows ≡ true
   pub once : AreOpenOnce desk.windows

@@ -1,9 +1,9 @@
 -- Each step of the desk keeps what holds of a desk, and a refused step leaves the desk as it was, by the definitions
 -- alone.
-use Rattle.std.specs.Prelude.{ℕ, ◌≡◌, Bool, true, Some}
+use Rattle.std.specs.Prelude.{ℕ, ◌≡◌, Bool, true, List}
 use Rattle.kind_core.specs.declared.shapes.Shape.{Shape}
 use Rattle.cmd_words.specs.declared.commands.Command.{Command}
-use Rattle.cmd_words.specs.declared.replies.Reply.{Reply}
+use Rattle.cmd_words.specs.declared.inputs.Input.{Input}
 use Rattle.cmd_words.specs.declared.replies.Reply.TheVariants.{Refused}
 use Rattle.cmd_words.specs.declared.replies.Refusal.{Refusal}
 use Rattle.scene_model.specs.Shapes.{IsShape}
@@ -12,6 +12,8 @@ use Rattle.desk_model.specs.Desk.{Desk, opening_desk}
 use Rattle.desk_model.specs.DeskFacts.{IsDesk}
 use Rattle.desk_model.specs.Clients.{step_connect, step_hello, step_bye}
 use Rattle.desk_model.specs.Commands.{step}
+use Rattle.desk_model.specs.Feeding.{step_feed}
+use Rattle.desk_model.specs.Beat.{beat}
 
 -- What holds of a desk holds at opening.
 abbrev pub OpeningIsADesk : Type 0
@@ -30,7 +32,14 @@ ByesKeepDesks = (desk : Desk) (client : ℕ) → IsDesk desk → IsDesk (step_by
 -- Each command keeps it, whatever it is and however it is answered.
 abbrev pub CommandsKeepDesks : Type 0
 CommandsKeepDesks =
-    (desk : Desk) (client : ℕ) (command : Command) (short : Bool) (reply : Reply) (next : Desk) → IsDesk desk → step desk client command short ≡ Some (reply, next) → IsDesk next
+    (desk : Desk) (client : ℕ) (command : Command) (payload : List ℕ) (short : Bool) → IsDesk desk → IsDesk (step desk client command payload short).1
+
+-- Each input keeps it, and so does each beat.
+abbrev pub InputsKeepDesks : Type 0
+InputsKeepDesks = (desk : Desk) (input : Input) → IsDesk desk → IsDesk (step_feed desk input)
+
+abbrev pub BeatsKeepDesks : Type 0
+BeatsKeepDesks = (desk : Desk) → IsDesk desk → IsDesk (beat desk)
 
 -- A refused step of a valid desk leaves it as it was: the pointer holds nothing then that the step's ending lets go of.
 abbrev pub RefusedConnectsChangeNothing : Type 0
@@ -45,4 +54,4 @@ RefusedByesChangeNothing = (desk : Desk) (client : ℕ) (refusal : Refusal) → 
 
 abbrev pub RefusedCommandsChangeNothing : Type 0
 RefusedCommandsChangeNothing =
-    (desk : Desk) (client : ℕ) (command : Command) (short : Bool) (refusal : Refusal) (next : Desk) → IsDesk desk → step desk client command short ≡ Some (Refused refusal, next) → next ≡ desk
+    (desk : Desk) (client : ℕ) (command : Command) (payload : List ℕ) (short : Bool) (refusal : Refusal) → IsDesk desk → (step desk client command payload short).0 ≡ Refused refusal → (step desk client command payload short).1 ≡ desk

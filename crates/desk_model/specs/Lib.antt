@@ -1,4 +1,3 @@
-pub mod Beat
 pub mod Desk
 pub mod Seen
 pub mod LetGo
@@ -14,6 +13,7 @@ pub mod Bindings
 pub mod Windows
 pub mod Screens
 pub mod Polling
+pub mod Beat
 pub mod Clients
 pub mod Commands
 pub mod DeskFacts

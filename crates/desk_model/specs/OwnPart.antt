@@ -1,13 +1,13 @@
 -- What a client does touches its own part of the desk alone, and what it is answered depends on that part alone.
 use Rattle.std.specs.Prelude.{ℕ, ◌≡◌, ◌⊎◌, Bool, false, not, nat_eq, List, Option, Some, None, IfSome}
-use Rattle.std.specs.Option.{option_map}
 use Rattle.std.specs.List.{filter}
 use Rattle.cmd_words.specs.declared.commands.Command.{Command}
-use Rattle.cmd_words.specs.declared.replies.Reply.{Reply}
 use Rattle.widget_model.specs.Pointer.{Pointer, Grab, no_grab, on_widget, drags}
 use Rattle.widget_model.specs.Named.{own_rows, rows_of_others}
-use Rattle.desk_model.specs.Desk.{Desk, is_connected}
+use Rattle.desk_model.specs.Desk.{Desk, Admission, is_connected}
 use Rattle.desk_model.specs.Clients.{free_client, step_connect, step_hello, step_bye}
+use Rattle.desk_model.specs.Polling.{ring_of}
+use Rattle.desk_model.specs.Screens.{shares_of}
 use Rattle.desk_model.specs.Commands.{step}
 use Rattle.desk_model.specs.DeskFacts.{IsDesk}
 
@@ -17,6 +17,10 @@ own_windows client windows = filter (λ window. nat_eq client window.0) windows
 -- the others' windows, in their order
 abbrev pub windows_of_others : ℕ → List (ℕ × List ℕ) → List (ℕ × List ℕ)
 windows_of_others client windows = filter (λ window. not (nat_eq client window.0)) windows
+
+-- the admissions of all other clients' VScreens
+abbrev pub admissions_of_others : ℕ → List Admission → List Admission
+admissions_of_others client roster = filter (λ admission. not (nat_eq client admission.client)) roster
 
 -- whether the grab, or the focus, is on a widget of the client
 abbrev pub IsGrabOf : ℕ → Grab → Type 0
@@ -45,13 +49,13 @@ pub record LeavesOthers (client : ℕ) (old new : Desk) : Type 0 where
   pub rows : rows_of_others client new.rows ≡ rows_of_others client old.rows
   pub windows : windows_of_others client new.windows ≡ windows_of_others client old.windows
   pub pointer : LeavesPointer client old.pointer new.pointer
-  pub roster : filter (λ admission. not (nat_eq client admission.client)) new.roster ≡ filter (λ admission. not (nat_eq client admission.client)) old.roster
+  pub roster : admissions_of_others client new.roster ≡ admissions_of_others client old.roster
   pub rings : filter (λ ring. not (nat_eq client ring.client)) new.rings ≡ filter (λ ring. not (nat_eq client ring.client)) old.rings
 
 -- A client's command, its coming and its going leave the others' parts of a valid desk as they were.
 abbrev pub CommandsLeaveOthers : Type 0
 CommandsLeaveOthers =
-    (desk : Desk) (client : ℕ) (command : Command) (short : Bool) (reply : Reply) (next : Desk) → IsDesk desk → step desk client command short ≡ Some (reply, next) → LeavesOthers client desk next
+    (desk : Desk) (client : ℕ) (command : Command) (payload : List ℕ) (short : Bool) → IsDesk desk → LeavesOthers client desk (step desk client command payload short).1
 
 abbrev pub ConnectsLeaveOthers : Type 0
 ConnectsLeaveOthers = (desk : Desk) (client : ℕ) (short : Bool) → IsDesk desk → LeavesOthers client desk (step_connect desk client short).1
@@ -63,21 +67,22 @@ HellosLeaveOthers = (desk : Desk) (short : Bool) → IsDesk desk → IfSome (fre
 abbrev pub ByesLeaveOthers : Type 0
 ByesLeaveOthers = (desk : Desk) (client : ℕ) → IsDesk desk → LeavesOthers client desk (step_bye desk client).1
 
--- Two desks agree on the client's part: whether it is connected, its rows and its open windows.
+-- Two desks agree on the client's part: whether it is connected, its rows with their films, its open windows and its kept
+-- events; and on how much the shares of all other clients' VScreens are together.
 pub record AgreeOn (client : ℕ) (one two : Desk) : Type 0 where
   pub shape : one.shape ≡ two.shape
   pub connected : is_connected one client ≡ is_connected two client
   pub rows : own_rows client one.rows ≡ own_rows client two.rows
   pub windows : own_windows client one.windows ≡ own_windows client two.windows
+  pub events : ring_of one.rings client ≡ ring_of two.rings client
+  pub others_shares : shares_of (admissions_of_others client one.roster) ≡ shares_of (admissions_of_others client two.roster)
 
--- the reply of a step, none where there is no step
-abbrev pub reply_of : Option (Reply × Desk) → Option Reply
-reply_of stepped = option_map (λ done. done.0) stepped
-
--- Such desks answer each command of the client alike, under the same want of memory.
+-- Such desks, of which all holds that holds of a desk, answer each command of the client alike, under the same want of
+-- memory.
 abbrev pub AnswersDependOnOwnPart : Type 0
 AnswersDependOnOwnPart =
-    (one two : Desk) (client : ℕ) (command : Command) (short : Bool) → AgreeOn client one two → reply_of (step one client command short) ≡ reply_of (step two client command short)
+    (one two : Desk) (client : ℕ) (command : Command) (payload : List ℕ) (short : Bool) → IsDesk one → IsDesk two → AgreeOn client one two
+    → (step one client command payload short).0 ≡ (step two client command payload short).0
 
 abbrev pub ConnectsDependOnOwnPart : Type 0
 ConnectsDependOnOwnPart =

@@ -1,5 +1,5 @@
--- What holds of every run of the machine: no tick writes more than the budget, and the screen comes right
--- while nothing but ticks happens.
+-- What holds of every run of the machine: no tick writes more than the budget, each period of an admitted VScreen draws
+-- each of its pixels once and from one frame, and the screen comes right while nothing but ticks happens.
 use Rattle.std.specs.Prelude.{◌≡◌, ℕ, ◌+◌, ◌-◌, ◌*◌, ◌≤◌, List, ◌++◌, length}
 use Rattle.std.specs.List.{All}
 use Rattle.std.specs.Int.{div_ceil}
@@ -9,6 +9,7 @@ use Rattle.machine_model.specs.Events.{Answer}
 use Rattle.machine_model.specs.Events.Event.{Tick}
 use Rattle.machine_model.specs.Events.Answer.{Drawn}
 use Rattle.machine_model.specs.Run.{Moment, state_after}
+use Rattle.machine_model.specs.Periods.{DrawsEachPeriod}
 
 -- the pixels that a tick wrote, one that it wrote twice counted twice
 abbrev pub written : Answer → ℕ
@@ -46,4 +47,5 @@ ComesRightThroughout from moments =
 -- The headline's laws of a run, together.
 pub record KeepsLaws (from : State) (moments : List Moment) : Type 0 where
   pub budget : KeepsBudget from moments
+  pub periods : DrawsEachPeriod from moments
   pub comes_right : ComesRightThroughout from moments

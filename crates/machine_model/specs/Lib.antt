@@ -3,6 +3,7 @@ pub mod Events
 pub mod Step
 pub mod Chosen
 pub mod Run
+pub mod Periods
 pub mod Laws
 pub mod Reach
 pub mod Damage

@@ -1,11 +1,9 @@
--- One step of the machine: an event takes a state to another, with an answer. Clients are 1 to 16, and no command
--- comes that isn't built. What is free is which dirty pixels a tick cleans: those that are dirty before it and clean
--- after.
-use Rattle.std.specs.Prelude.{◌≡◌, ℕ, ◌+◌, ◌-◌, min, Bool, true, not, ◌&&◌, ◌||◌, if◌then◌else◌, length, Some}
-use Rattle.cmd_words.specs.declared.commands.Command.{Command}
+-- One step of the machine: an event takes a state to another, with an answer. Clients are 1 to 16. What is free is
+-- which dirty pixels a tick cleans: those that are dirty before it and clean after.
+use Rattle.std.specs.Prelude.{◌≡◌, ℕ, ◌+◌, ◌-◌, min, Bool, true, not, ◌&&◌, ◌||◌, if◌then◌else◌, length}
 use Rattle.cmd_words.specs.declared.inputs.Drew.{Drew}
 use Rattle.cmd_words.specs.declared.replies.Reply.{Reply}
-use Rattle.cmd_words.specs.declared.replies.Reply.TheVariants.{Refused}
+use Rattle.cmd_words.specs.declared.replies.Reply.TheVariants.{Refused, Done}
 use Rattle.cmd_words.specs.declared.replies.Refusal.TheVariants.{Syntax}
 use Rattle.widget_model.specs.Clients.{is_client}
 use Rattle.desk_model.specs.Desk.{Desk}
@@ -13,11 +11,12 @@ use Rattle.desk_model.specs.Seen.{colour}
 use Rattle.machine_model.specs.Reach.{is_reached}
 use Rattle.desk_model.specs.Refusals.{is_memory}
 use Rattle.desk_model.specs.Clients.{step_connect, step_hello, step_bye}
-use Rattle.desk_model.specs.Commands.{is_built, step}
+use Rattle.desk_model.specs.Commands.{step}
+use Rattle.desk_model.specs.Feeding.{step_feed}
 use Rattle.desk_model.specs.Beat.{beat, in_band, band_count}
 use Rattle.machine_model.specs.State.{State, byte_at, is_dirty, dirty_count, seen_at, EachPixel}
 use Rattle.machine_model.specs.Events.{Event, Answer}
-use Rattle.machine_model.specs.Events.Event.{Connect, Hello, Bye, Ask, Misread, Tick, CountDirty, LookAt, Dump}
+use Rattle.machine_model.specs.Events.Event.{Connect, Hello, Bye, Ask, Feed, Misread, Tick, CountDirty, LookAt, Dump}
 use Rattle.machine_model.specs.Events.Answer.{Replied, Drawn, Counted, Seen, Dumped}
 
 -- An event that isn't a tick takes the desk to another. The screen stays, and a pixel is dirty after it
@@ -32,12 +31,6 @@ pub record Changed (old : State) (next : Desk) (new : State) : Type 0 where
 pub record Answered (old : State) (stepped : Bool → Reply × Desk) (reply : Reply) (new : State) : Type 0 where
   pub reply_is : reply ≡ (stepped (is_memory reply)).0
   pub change : Changed old (stepped (is_memory reply)).1 new
-
--- The same of a client's command, which has a step only where it is built.
-pub record Obeyed (old : State) (client : ℕ) (command : Command) (reply : Reply) (new : State) : Type 0 where
-  pub next : Desk
-  pub step_is : step old.desk client command (is_memory reply) ≡ Some (reply, next)
-  pub change : Changed old next new
 
 -- the tick cleaned the pixel
 abbrev pub was_cleaned : State → State → ℕ → ℕ → Bool
@@ -61,8 +54,9 @@ abbrev pub Step : State → Event → Answer → State → Type 0
 Step old (Connect client) (Replied reply) new = (is_client client ≡ true) × Answered old (λ short. step_connect old.desk client short) reply new
 Step old Hello (Replied reply) new = Answered old (λ short. step_hello old.desk short) reply new
 Step old (Bye client) (Replied reply) new = Answered old (λ short. step_bye old.desk client) reply new
-Step old (Ask client command) (Replied reply) new = Obeyed old client command reply new
+Step old (Ask client command payload) (Replied reply) new = Answered old (λ short. step old.desk client command payload short) reply new
 Step old (Misread client place) (Replied reply) new = (new ≡ old) × (reply ≡ Refused (Syntax place))
+Step old (Feed input) (Replied reply) new = (reply ≡ Done) × Changed old (step_feed old.desk input) new
 Step old Tick (Drawn drew) new = Ticked old drew new
 Step old CountDirty (Counted n) new = (new ≡ old) × (n ≡ dirty_count old)
 Step old (LookAt x y) (Seen byte) new = (new ≡ old) × (byte ≡ seen_at old x y)
@@ -72,5 +66,4 @@ Step old _ _ new = ⊥
 -- whether an event can come
 abbrev pub CanCome : Event → Type 0
 CanCome (Connect client) = is_client client ≡ true
-CanCome (Ask client command) = is_built command ≡ true
 CanCome _ = Unit {0}

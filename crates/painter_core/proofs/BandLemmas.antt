@@ -20,7 +20,8 @@ use Rattle.widget_model.specs.Forest.{IsWidgets}
 use Rattle.scene_model.specs.Showing.{on_screen, top_of, place_of}
 use Rattle.scene_core.specs.declared.view.View.{View}
 use Rattle.scene_core.specs.View.{scene_of, IsView}
-use Rattle.painter_core.specs.Banding.{lying_at, in_band, is_top, film_in_band, shows_band, view_shows_band}
+use Rattle.painter_core.specs.Banding.{view_shows_band}
+use Rattle.scene_model.specs.Bands.{lying_at, in_band, is_top, film_in_band, shows_band}
 use Rattle.painter_core.specs.Painted.{PaintsAll, wanted_of, colour_by}
 use Rattle.painter_core.specs.Painting.{ShowsScene}
 use Rattle.painter_core.specs.Stage.{rect_at, child_in_slot, slots_of, layers_of, IsThere}

@@ -12,7 +12,7 @@ use Rattle.geom_core.proofs.RectLemmas.{in_rect-corner, in_rect-empty}
 use Rattle.geom_core.proofs.PieceLemmas.{covers-append, HavePixels-append, AreDisjoint-append}
 use Rattle.geom_core.proofs.CountLemmas.{count_in-covers}
 use Rattle.vscreen_core.specs.declared.band.Band.{Band}
-use Rattle.painter_core.specs.Banding.{in_band}
+use Rattle.scene_model.specs.Bands.{in_band}
 use Rattle.painter_core.specs.Runs.{AreRuns, AreParts, IsPut}
 
 or_none : (a : Bool) → (a || false) ≡ a

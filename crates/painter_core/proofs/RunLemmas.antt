@@ -11,7 +11,7 @@ use Rattle.geom_core.proofs.SpanLemmas.{in_span-true}
 use Rattle.geom_core.proofs.RectLemmas.{in_span-zero}
 use Rattle.vscreen_core.specs.declared.band.Band.{Band}
 use Rattle.vscreen_core.specs.Band.{has_pixel}
-use Rattle.painter_core.specs.Banding.{in_band}
+use Rattle.scene_model.specs.Bands.{in_band}
 use Rattle.painter_core.specs.Runs.{AreRuns, first_end, last_end, part_of}
 
 -- A pixel's number is below another's exactly where its row is above, or in the same row its column is left of it.

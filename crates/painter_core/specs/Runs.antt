@@ -5,7 +5,7 @@ use Rattle.geom_core.specs.declared.rectangle.Rect.{Rect}
 use Rattle.geom_core.specs.Rect.{in_rect}
 use Rattle.geom_core.specs.Pieces.{covers, AreDisjoint, HavePixels}
 use Rattle.vscreen_core.specs.declared.band.Band.{Band}
-use Rattle.painter_core.specs.Banding.{in_band}
+use Rattle.scene_model.specs.Bands.{in_band}
 
 -- the part of a film from that column and row of it on
 abbrev pub part_of : Rect → ℕ → ℕ → ℕ → ℕ → Rect

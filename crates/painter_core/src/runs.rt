@@ -2,7 +2,7 @@
 ghost use Rattle.std.specs.Prelude.{◌≡◌, ◌+◌, ◌*◌, ◌<◌, ◌≤◌, ℤ, pos, ◌+ℤ◌, ◌≤ℤ◌, ◌&&◌, length};
 ghost use Rattle.geom_core.specs.Count.{screen_of};
 ghost use Rattle.geom_core.specs.Rect.{in_rect, IsInRange};
-ghost use Rattle.painter_core.specs.Banding.{in_band};
+ghost use Rattle.scene_model.specs.Bands.{in_band};
 ghost use Rattle.painter_core.specs.Runs.{AreParts, AreRuns, IsPut, first_end, last_end, part_of};
 
 use arrayvec::ArrayVec;

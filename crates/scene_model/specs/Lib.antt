@@ -10,6 +10,7 @@ pub mod DuePlaces
 pub mod Showing
 pub mod LookOf
 pub mod Colours
+pub mod Bands
 pub mod WindowRows
 pub mod Still
 pub mod FitLaws

@@ -1,14 +1,14 @@
 -- The laws of a period: which pixel is drawn when, and from which frame.
-use Rattle.std.proofs.Common.{◌≡◌, ℕ, ◌+◌, ◌*◌, ◌%◌, ◌<◌, ◌≤◌, Bool, ◌&&◌, nat_le, nat_lt, nat_eq, cond, List, [], ◌∷◌, length, take, refl, sym, ap, ◌∙◌, subst, ◌⊎◌, inl, inr, arith}
+use Rattle.std.proofs.Common.{◌≡◌, ℕ, ◌+◌, ◌-◌, ◌*◌, ◌%◌, ◌<◌, ◌≤◌, Bool, ◌&&◌, nat_le, nat_lt, nat_eq, cond, List, [], ◌∷◌, length, take, refl, sym, ap, ◌∙◌, subst, ◌⊎◌, inl, inr, arith}
 use Rattle.std.proofs.lemmas.Bool.{cond_both}
 use Rattle.std.proofs.lemmas.Bool.Decides.{nat_tests}
 use Rattle.std.proofs.lemmas.List.Sums.{sum_by-cons}
 use Rattle.std.proofs.lemmas.List.{take_all}
-use Rattle.std.proofs.Math.Nat.{mod-eq_of_lt}
+use Rattle.std.proofs.Math.Nat.{mod-eq_of_lt, mod_self, eq-or-lt_of_le}
 use Rattle.vscreen_core.specs.Band.{band_size, band_start, band_at, has_pixel, share_of}
-use Rattle.vscreen_core.specs.Changes.{committed, beaten, band_now, frame_now}
+use Rattle.vscreen_core.specs.Changes.{committed, beaten, band_now, frame_now, band_drawn}
 use Rattle.vscreen_core.specs.FilmState.{FilmState, IsFilm, pixels_in}
-use Rattle.vscreen_core.specs.Laws.{StartsPeriod, times_drawn, EachPixelOnce, PixelsOfOneFrame, WholeFrameShown, OnlyTheBand, BandWithinShare, CommitWaits}
+use Rattle.vscreen_core.specs.Laws.{StartsPeriod, times_drawn, EachPixelOnce, PixelsOfOneFrame, WholeFrameShown, OnlyTheBand, BandWithinShare, BandWasDrawn, CommitWaits}
 use Rattle.vscreen_core.specs.Period.{FilmStep, after, beats_in, bands_in, IsDrawn}
 use Rattle.vscreen_core.specs.Period.FilmStep.{Commit, Beat}
 use Rattle.vscreen_core.specs.Picture.{pixel_of, with_pixels}
@@ -228,3 +228,20 @@ only_the_band film i f low =
 pub band_within_share : BandWithinShare
 unfolding share_of band_now
 band_within_share film = band_few (pixels_in film) film.period film.phase
+
+-- the phase before the next one, round the period, is this one
+phase_back : (k p : ℕ) → k < p → cond (nat_eq ((k + 1) % p) 0) (p - 1) ((k + 1) % p - 1) ≡ k
+phase_back k p early =
+    elim (eq-or-lt_of_le early) [
+      | inl last ↦ let there : k + 1 ≡ p = omega (arith, last) in
+          let round : (k + 1) % p ≡ 0 = ap (λ x. x % p) there ∙ mod_self p in
+          ap (λ x. cond (nat_eq x 0) (p - 1) (x - 1)) round ∙ omega (arith, last)
+      | inr more ↦ let low : k + 1 < p = omega (arith, more) in
+          let same : (k + 1) % p ≡ k + 1 = mod-eq_of_lt low in
+          let back : cond (nat_eq (k + 1) 0) (p - 1) (k + 1 - 1) ≡ k = grind (arith, nat_tests) in
+          ap (λ x. cond (nat_eq x 0) (p - 1) (x - 1)) same ∙ back
+    ]
+
+pub band_was_drawn : BandWasDrawn
+unfolding band_drawn band_now beaten
+band_was_drawn film f some = ap (band_at (pixels_in film) film.period) (phase_back film.phase film.period (f.phase_within some))

@@ -1,6 +1,6 @@
 -- What each call makes of a film. A frame goes to `newest`; the first beat of a period takes it to `current`;
 -- each beat takes its band from there to `shown`.
-use Rattle.std.specs.Prelude.{ℕ, ◌+◌, ◌%◌, List, length, ◌==◌, if◌then◌else◌, Result, Ok, Err}
+use Rattle.std.specs.Prelude.{ℕ, ◌+◌, ◌-◌, ◌%◌, List, length, ◌==◌, if◌then◌else◌, Result, Ok, Err}
 use Rattle.vscreen_core.specs.declared.band.Band.{Band}
 use Rattle.vscreen_core.specs.declared.wrong_size.WrongSize.{WrongSize}
 use Rattle.vscreen_core.specs.Band.{band_at}
@@ -37,6 +37,14 @@ beaten film =
       shown = with_pixels film.shown frame band.from band.to;
       phase = (film.phase + 1) % film.period;
     }
+
+-- the phase before this one, round the period
+abbrev pub phase_before : FilmState → ℕ
+phase_before film = if film.phase == 0 then film.period - 1 else film.phase - 1
+
+-- the band that the last beat of an admitted film drew
+unfoldable pub band_drawn : FilmState → Band
+band_drawn film = band_at (pixels_in film) film.period (phase_before film)
 
 -- an admission ends: the newest frame is shown at once
 unfoldable pub settled : FilmState → FilmState

@@ -2,7 +2,7 @@
 -- stands at phase 0, before the period's first beat. Pixels go by their numbers.
 use Rattle.std.specs.Prelude.{◌≡◌, ℕ, ◌+◌, ◌*◌, ◌<◌, ◌≤◌, List, ◌∷◌, length, get_or, if◌then◌else◌, count_by}
 use Rattle.vscreen_core.specs.Band.{has_pixel, share_of, band_at}
-use Rattle.vscreen_core.specs.Changes.{beaten, band_now, frame_now, committed}
+use Rattle.vscreen_core.specs.Changes.{beaten, band_now, frame_now, committed, band_drawn}
 use Rattle.vscreen_core.specs.FilmState.{FilmState, IsFilm, pixels_in}
 use Rattle.vscreen_core.specs.Period.{FilmStep, after, bands_in, beats_in}
 use Rattle.vscreen_core.specs.Period.FilmStep.{Beat}
@@ -42,6 +42,10 @@ OnlyTheBand =
     (film : FilmState) (pixel : ℕ) → IsFilm film → pixel < pixels_in film →
     pixel_of (beaten film).shown pixel
     ≡ (if has_pixel (band_now film) pixel then pixel_of (frame_now film) pixel else pixel_of film.shown pixel)
+
+-- after a beat the band that it drew is the one that the last beat drew
+abbrev pub BandWasDrawn : Type 0
+BandWasDrawn = (film : FilmState) → IsFilm film → 0 < film.period → band_drawn (beaten film) ≡ band_now film
 
 -- a band has no more pixels than the film's share
 abbrev pub BandWithinShare : Type 0

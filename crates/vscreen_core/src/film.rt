@@ -158,6 +158,22 @@ impl Film {
         &self.shown[from..to]
     }
 
+    /// What is shown, row by row from the top: a byte for each pixel.
+    pub fn shown(&self) -> &[u8]
+        ensures shown { result.now ≡ self.now.shown }
+        ensures valid { IsFilm self.now }
+    {
+        &self.shown
+    }
+
+    /// The frame that was committed last, row by row from the top: a byte for each pixel, each 0 before the first.
+    pub fn newest(&self) -> &[u8]
+        ensures newest { result.now ≡ self.now.newest }
+        ensures valid { IsFilm self.now }
+    {
+        &self.newest
+    }
+
     /// The width in pixels, 1 to 256.
     pub fn width(&self) -> u32
         ensures width { result ≡ self.now.width }

@@ -1,7 +1,7 @@
 //! Laws over the definitions: what films promise over a period, whatever frames are committed between its beats.
 //! Each function does nothing; its contract is the law. The rules are in docs/MACHINE.md.
 
-ghost use Rattle.vscreen_core.specs.Laws.{EachPixelOnce, PixelsOfOneFrame, WholeFrameShown, OnlyTheBand, BandWithinShare, PastTheLastPixel, CommitWaits, RowsHoldPixels};
+ghost use Rattle.vscreen_core.specs.Laws.{EachPixelOnce, PixelsOfOneFrame, WholeFrameShown, OnlyTheBand, BandWasDrawn, BandWithinShare, PastTheLastPixel, CommitWaits, RowsHoldPixels};
 
 /// In the beats of a period, from phase 0 on, each pixel is in the band of exactly one.
 pub fn each_pixel_once()
@@ -22,6 +22,11 @@ pub fn whole_frame_shown()
 /// A beat shows the pixels of its band from the frame, and no other pixel changes.
 pub fn only_the_band()
     ensures { OnlyTheBand }
+{}
+
+/// After a beat the band that it drew is the one that the last beat drew.
+pub fn band_was_drawn()
+    ensures { BandWasDrawn }
 {}
 
 /// A band has no more pixels than the film's share.

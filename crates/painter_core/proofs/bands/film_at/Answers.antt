@@ -1,6 +1,6 @@
 use Rattle.std.proofs.Common.{◌≡◌, ℕ, sym, ap, ◌∙◌}
 use Rattle.geom_core.specs.declared.rectangle.Rect.{Rect}
-use Rattle.painter_core.specs.Banding.{lying_at}
+use Rattle.scene_model.specs.Bands.{lying_at}
 use Rattle.painter_core.specs.Stage.{layers_of}
 use Rattle.painter_core.proofs.RootLemmas.{kept_place}
 use Rattle.painter_core.proofs.bands.film_at.Goals as goal

@@ -8,7 +8,8 @@ use Rattle.geom_core.specs.Rect.{in_rect}
 use Rattle.vscreen_core.specs.FilmState.{FilmState}
 use Rattle.widget_model.specs.Rows.{Row}
 use Rattle.widget_model.specs.Widgets.{row_at}
-use Rattle.painter_core.specs.Banding.{in_band, view_shows_band}
+use Rattle.painter_core.specs.Banding.{view_shows_band}
+use Rattle.scene_model.specs.Bands.{in_band}
 use Rattle.painter_core.proofs.StageLemmas.{IsPaintable-view}
 use Rattle.painter_core.proofs.RootLemmas.{row_there}
 use Rattle.painter_core.proofs.SceneLemmas.{ShowsScene-nothing}

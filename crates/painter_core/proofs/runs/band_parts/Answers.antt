@@ -3,7 +3,7 @@ use Rattle.geom_core.specs.declared.rectangle.Rect.{Rect}
 use Rattle.geom_core.specs.Count.{screen_of}
 use Rattle.geom_core.specs.Rect.{in_rect, area_of}
 use Rattle.geom_core.proofs.RectLemmas.{area_some}
-use Rattle.painter_core.specs.Banding.{in_band}
+use Rattle.scene_model.specs.Bands.{in_band}
 use Rattle.painter_core.specs.Runs.{AreParts, IsPut}
 use Rattle.painter_core.proofs.PartLemmas.{AreParts-none, AreParts-runs, IsInRange-seen}
 use Rattle.painter_core.proofs.runs.band_parts.Goals as goal

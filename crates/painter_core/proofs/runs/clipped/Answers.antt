@@ -1,5 +1,5 @@
 use Rattle.std.proofs.Common.{◌≡◌, ◌*◌, min, ap, ◌∙◌}
-use Rattle.painter_core.specs.Banding.{in_band}
+use Rattle.scene_model.specs.Bands.{in_band}
 use Rattle.painter_core.proofs.RunLemmas.{in_band-clipped}
 use Rattle.painter_core.proofs.runs.clipped.Goals as goal
 
