@@ -20,26 +20,29 @@ use Rattle.desk_model.specs.LetGo.{is_in_window, let_go}
 use Rattle.desk_model.specs.Clients.{free_client, step_connect, step_hello, step_bye, without_client}
 use Rattle.desk_model.specs.Commands.{row_of, is_built, step}
 use Rattle.desk_model.proofs.Desks.{IsDesk-opening, IsDesk-connect, IsDesk-hello, IsDesk-bye, IsDesk-command}
-use Rattle.desk_core.specs.Parts.{Stage, stage_of, windows_at, desk_of, names_window, is_others, AreParts, IsKept}
-use Rattle.desk_core.specs.Pointer.{HoldsLive}
-use Rattle.desk_core.specs.View.{HaveDuePlaces, KeepsNumbers}
-use Rattle.desk_core.specs.Stays.{MoveNothing, may_move, IsSettled}
-use Rattle.desk_core.specs.Effects.{DidAll, TellsAll}
+use Rattle.desk_commands.specs.Parts.{Stage, stage_of, windows_at, desk_of, names_window, is_others, AreParts}
+use Rattle.desk_core.specs.Kept.{IsKept}
+use Rattle.desk_commands.specs.Pointer.{HoldsLive}
+use Rattle.desk_layout.specs.Placed.{HaveDuePlaces}
+use Rattle.desk_layout.specs.Numbers.{KeepsNumbers}
+use Rattle.desk_layout.specs.Settled.{IsSettled}
+use Rattle.desk_commands.specs.Stays.{MoveNothing, may_move}
+use Rattle.desk_commands.specs.Effects.{DidAll, TellsAll}
 use Rattle.kind_core.specs.declared.shapes.Shape.{Shape}
 use Rattle.widget_model.specs.Pointer as model
 use Rattle.tree_core.specs.declared.pointer.Pointer.{Pointer}
 use Rattle.desk_model.proofs.Sound.{let_go-again}
 use Rattle.desk_model.proofs.ByePointer.{closed, others-inside, let_go-closed}
-use Rattle.desk_core.proofs.OthersLists.{list_all-filter, windows_at-filter, key_at-others}
+use Rattle.desk_commands.proofs.OthersLists.{list_all-filter, windows_at-filter, key_at-others}
 use Rattle.desk_model.proofs.OwnPart.{commands_leave_others}
-use Rattle.desk_core.proofs.KeyNumbers.{others-due}
-use Rattle.desk_core.proofs.Layouts.{laid-due}
-use Rattle.desk_core.proofs.LeftPlaces.{departed-due}
-use Rattle.desk_core.proofs.Unmoved.{unmoved-untold, unmoved-due}
-use Rattle.desk_core.proofs.StillCommands.{unmoved-command}
+use Rattle.desk_layout.proofs.KeyNumbers.{others-due}
+use Rattle.desk_layout.proofs.Layouts.{laid-due}
+use Rattle.desk_layout.proofs.LeftPlaces.{departed-due}
+use Rattle.desk_commands.proofs.Unmoved.{unmoved-untold, unmoved-due}
+use Rattle.desk_commands.proofs.StillCommands.{unmoved-command}
 use Rattle.scene_model.specs.WindowRows.{AreHung}
 use Rattle.tree_core.proofs.Listed.{AreNamedApart-rows}
-use Rattle.desk_core.proofs.PointerKept.{Holds, pointer-holds}
+use Rattle.desk_commands.proofs.PointerKept.{Holds, pointer-holds}
 use Rattle.desk_core.proofs.Departures.{desk_of-departed, AreParts-departed}
 use Rattle.desk_core.proofs.CallSteps.{connect-joined, hello-joined, bye-gone, step-obeyed}
 

@@ -5,13 +5,15 @@ use Rattle.std.proofs.lemmas.List.Folds.{list_all-append}
 use Rattle.std.proofs.lemmas.List.FromFn.{length-range_with_len}
 use Rattle.std.specs.Cmp.{nat_eq_equiv}
 use Rattle.std.specs.List.{list_all, range_with_len}
-use Rattle.stack_core.specs.Stack.{holds_key, AreDistinct}
+use Rattle.stack_core.specs.Stack.{holds_key, without, AreDistinct}
+use Rattle.stack_core.proofs.Keys.{AreDistinct-without}
 use Rattle.desk_model.specs.Clients.{free_from}
 use Rattle.desk_model.proofs.Clients.{AreConnectedOnce-push}
 use Rattle.desk_model.specs.DeskFacts.{AreConnectedOnce}
 use Rattle.widget_model.specs.Clients.{is_client, is_joined}
 use Rattle.desk_core.specs.ClientList.{IsJoined}
-use Rattle.desk_core.proofs.Counting.{no_longer, range_holds}
+use Rattle.desk_commands.proofs.Counting.{no_longer, range_holds}
+use Rattle.desk_commands.proofs.OthersLists.{list_all-without}
 
 pub is_joined-holds_key : (clients : List ℕ) (client : ℕ) → is_joined clients client ≡ holds_key clients client
 is_joined-holds_key [] client = refl
@@ -53,6 +55,10 @@ IsJoined-push clients client kept low high new =
       range = list_all-append is_client clients (client ∷ []) ∙ rw (kept.range, le-leb 1 client low, le-leb client 16 high) refl;
       once = AreConnectedOnce-push clients client kept.once new;
     }
+
+-- the others stay joined where one leaves
+pub IsJoined-without : (clients : List ℕ) (client : ℕ) → IsJoined clients → IsJoined (without clients client)
+IsJoined-without clients client kept = record { range = list_all-without _ clients client kept.range; once = once-distinct (without clients client) (AreDistinct-without clients client (distinct-once clients kept.once)) }
 
 -- from a client on, the least free one is it, or is further on
 step_from : (clients : List ℕ) (client many : ℕ) (b : Bool) → is_joined clients client ≡ b → free_from (suc many) client clients ≡ cond b (free_from many (client + 1) clients) (Some client)

@@ -3,7 +3,7 @@ use Rattle.std.proofs.Common.{◌≡◌, ℕ, Bool, true, false, cond, not, nat_
 use Rattle.std.proofs.lemmas.Bool.{true≢false, and_parts, and_from, not-true}
 use Rattle.std.specs.List.{list_all, filter}
 use Rattle.std.specs.Option.{option_map_or}
-use Rattle.desk_core.specs.Parts.{Stage}
+use Rattle.desk_commands.specs.Parts.{Stage}
 use Rattle.stack_core.specs.Stack.{IsStack}
 use Rattle.widget_model.specs.Rows.{Row}
 use Rattle.widget_model.specs.Nodes.{Node, node_at}
@@ -12,8 +12,8 @@ use Rattle.widget_model.specs.Widgets.{Widgets, nodes, departed}
 use Rattle.widget_model.specs.Forest.{IsWidgets}
 use Rattle.desk_model.specs.Clients.{without_client}
 use Rattle.widget_model.proofs.Naming.{rows_of-departed}
-use Rattle.desk_core.specs.Parts.{windows_at, desk_of, names_window, is_others, AreParts}
-use Rattle.desk_core.proofs.OthersLists.{windows_at-filter, node_at-others}
+use Rattle.desk_commands.specs.Parts.{windows_at, desk_of, names_window, is_others, AreParts}
+use Rattle.desk_commands.proofs.OthersLists.{windows_at-filter, node_at-others}
 
 abbrev title : Option Node → ℕ × List ℕ
 title o = option_map_or (λ node. (node.client, node.name)) o (0, [])

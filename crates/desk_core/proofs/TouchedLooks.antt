@@ -27,8 +27,9 @@ use Rattle.touch_rules.specs.Laws.{IsOwnEvent, kept_of}
 use Rattle.touch_rules.proofs.OthersLooks.{number-of-row}
 use Rattle.touch_rules.proofs.OwnLooks.{own_looks_are_enough, leaving_touches_nothing, staying_touches_nothing}
 use Rattle.touch_rules.proofs.FilmsStay.{commands_keep_films}
-use Rattle.desk_core.specs.Parts.{stage_of, desk_of, names_window}
-use Rattle.desk_core.specs.View.{DeskView, KeepsNumbers}
+use Rattle.desk_commands.specs.Parts.{stage_of, desk_of, names_window}
+use Rattle.desk_layout.specs.Numbers.{KeepsNumbers}
+use Rattle.desk_core.specs.View.{DeskView}
 use Rattle.desk_core.specs.Touching.{numbered_of, TellsTouched}
 use Rattle.desk_core.proofs.Views.{view-scene}
 

@@ -21,10 +21,10 @@ use Rattle.desk_model.specs.Seen as seen
 use Rattle.scene_core.specs.View.{keys_of, scene_from, AreWindows, KeepsPlaces}
 use Rattle.scene_core.proofs.Numbered.{live-there}
 use Rattle.scene_core.proofs.Tops.{window-among}
-use Rattle.desk_core.specs.Parts.{stage_of, windows_at, desk_of, names_window, AreParts}
-use Rattle.desk_core.specs.View.{HaveDuePlaces}
-use Rattle.desk_core.specs.Laid.{is_window_at}
-use Rattle.desk_core.proofs.Layouts.{below-due}
+use Rattle.desk_commands.specs.Parts.{stage_of, windows_at, desk_of, names_window, AreParts}
+use Rattle.desk_layout.specs.Placed.{HaveDuePlaces}
+use Rattle.desk_layout.specs.Laid.{is_window_at}
+use Rattle.desk_layout.proofs.Layouts.{below-due}
 
 -- the row of a number that names a Window
 record NamesWindow (es : List (ℕ × Row)) (key : ℕ) : Type 0 where

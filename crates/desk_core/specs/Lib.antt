@@ -1,12 +1,5 @@
 pub mod ClientList
-pub mod Pointer
 pub mod View
 pub mod Touching
-pub mod Parts
-pub mod Laid
-pub mod Stays
-pub mod Effects
-pub mod Lookup
-pub mod TreeRefusals
-pub mod Tracks
+pub mod Kept
 pub mod Asking

@@ -6,8 +6,8 @@ ghost use Rattle.desk_model.specs.Desk.{Desk};
 ghost use Rattle.desk_model.specs.Commands.{row_of};
 ghost use Rattle.desk_core.specs.Asking.{only_asks, IsAnswer};
 
-use crate::widgets::get;
 use cmd_words::{Command, Reply};
+use desk_commands::get;
 use tree_core::Tree;
 
 /// Whether the command only asks: it is `get`. Whatever it is answered, it changes nothing.

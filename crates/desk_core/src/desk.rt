@@ -8,7 +8,9 @@ ghost use Rattle.desk_model.specs.Clients.{free_client, step_bye, step_connect, 
 ghost use Rattle.scene_model.specs.Shapes.{IsShape};
 ghost use Rattle.desk_model.specs.Commands.{is_built, step};
 ghost use Rattle.desk_model.specs.OwnPart.{LeavesOthers};
-ghost use Rattle.desk_core.specs.View.{TellsChange, KeepsNumbers, HaveDuePlaces};
+ghost use Rattle.desk_layout.specs.Numbers.{KeepsNumbers};
+ghost use Rattle.desk_layout.specs.Placed.{HaveDuePlaces};
+ghost use Rattle.desk_core.specs.View.{TellsChange};
 ghost use Rattle.desk_core.specs.Asking.{only_asks, StaysAsItWas};
 ghost use Rattle.desk_core.specs.Touching.{TellsTouched};
 ghost use Rattle.desk_model.specs.Seen as seen;
@@ -17,14 +19,11 @@ ghost use Rattle.desk_model.specs.Refusals.{is_memory};
 
 use crate::asking::answer_to;
 use crate::clients::Clients;
-use crate::commands::obey;
-use crate::laying::settle;
-use crate::moves::may_move;
-use crate::pointer::let_go;
 use crate::touching::{forget, keep_looks, tell_looks};
-use crate::windows::{close_windows, place_of};
 use arrayvec::ArrayVec;
 use cmd_words::{Command, Refusal, Reply};
+use desk_commands::{close_windows, let_go, may_move, obey, place_of};
+use desk_layout::settle;
 use scene_core::View;
 use scene_model::Shape;
 use shot_core::Touched;
@@ -48,7 +47,8 @@ pub struct Desk {
 }
 
 impl Model for Desk {
-    ghost use Rattle.desk_core.specs.Parts.{desk_of, stage_of, IsKept};
+    ghost use Rattle.desk_commands.specs.Parts.{desk_of, stage_of};
+    ghost use Rattle.desk_core.specs.Kept.{IsKept};
     ghost use Rattle.desk_core.specs.View.{DeskView};
 
     ghost Value = { DeskView };

@@ -30,7 +30,7 @@ use Rattle.damage_rules.proofs.ViewNumbers.{row-same}
 use Rattle.drawing_core.specs.Following.{Precedes, sight_of}
 use Rattle.drawing_core.specs.Marking.{Marked}
 use Rattle.desk_core.specs.View.{DeskView}
-use Rattle.desk_core.specs.View as desks
+use Rattle.desk_layout.specs.Numbers as desks
 use Rattle.desk_core.specs.Touching.{TellsTouched, numbered_of}
 use Rattle.desk_model.specs.DeskFacts.{IsDesk}
 use Rattle.redraw_core.specs.Dirt.{IsDirt, is_dirty}

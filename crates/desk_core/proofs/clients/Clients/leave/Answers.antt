@@ -4,7 +4,8 @@ use Rattle.stack_core.specs.Stack.{holds_key}
 use Rattle.stack_core.proofs.Keys.{remove-at, without-absent}
 use Rattle.desk_core.specs.ClientList.{IsJoined}
 use Rattle.desk_core.proofs.ClientLists.{distinct-once}
-use Rattle.desk_core.proofs.OthersLists.{without-filter, IsJoined-without}
+use Rattle.desk_commands.proofs.OthersLists.{without-filter}
+use Rattle.desk_core.proofs.ClientLists.{IsJoined-without}
 use Rattle.desk_core.proofs.clients.Clients.leave.Goals as goal
 
 pub invariant_of-self : goal.invariant_of-self

@@ -9,15 +9,15 @@ use Rattle.desk_model.specs.Clients.{step_bye, without_client}
 use Rattle.desk_model.specs.OwnPart.{LeavesOthers}
 use Rattle.widget_model.proofs.Naming.{count_of-nodes}
 use Rattle.desk_model.proofs.OwnPart.{byes_leave_others}
-use Rattle.desk_core.specs.Parts.{desk_of, stage_of}
+use Rattle.desk_commands.specs.Parts.{desk_of, stage_of}
 use Rattle.desk_core.specs.View.{DeskView}
 use Rattle.desk_core.proofs.ByeChanges.{tells_bye}
 use Rattle.desk_core.proofs.CallSteps.{bye-absent}
 use Rattle.desk_core.proofs.Calls.{connected-joined, closed-parts, gone-desk, gone-step, gone-kept}
 use Rattle.widget_model.specs.Widgets.{Widgets}
-use Rattle.desk_core.specs.View.{KeepsNumbers}
-use Rattle.desk_core.proofs.KeyNumbers.{numbers-same}
-use Rattle.desk_core.proofs.LeftPlaces.{departed-numbers}
+use Rattle.desk_layout.specs.Numbers.{KeepsNumbers}
+use Rattle.desk_layout.proofs.KeyNumbers.{numbers-same}
+use Rattle.desk_layout.proofs.LeftPlaces.{departed-numbers}
 use Rattle.std.proofs.Common.{ℕ, not, nat_eq, refl}
 use Rattle.std.specs.List.{filter}
 use Rattle.widget_model.specs.Rows.{Row}

@@ -4,12 +4,12 @@ use Rattle.cmd_words.specs.declared.replies.Reply.TheVariants.{Refused}
 use Rattle.cmd_words.specs.declared.replies.Refusal.TheVariants.{Memory}
 use Rattle.widget_model.specs.Widgets.{Widgets}
 use Rattle.desk_model.specs.Clients.{step_connect}
-use Rattle.desk_core.specs.Parts.{desk_of, stage_of}
+use Rattle.desk_commands.specs.Parts.{desk_of, stage_of}
 use Rattle.desk_core.specs.View.{DeskView}
 use Rattle.desk_core.proofs.CallSteps.{connect-connected, connect-short}
 use Rattle.desk_core.proofs.Calls.{connected-joined, connected-step, connected-kept}
-use Rattle.desk_core.specs.View.{KeepsNumbers}
-use Rattle.desk_core.proofs.KeyNumbers.{numbers-same, numbers-equal}
+use Rattle.desk_layout.specs.Numbers.{KeepsNumbers}
+use Rattle.desk_layout.proofs.KeyNumbers.{numbers-same, numbers-equal}
 use Rattle.desk_model.specs.Seen as seen
 use Rattle.desk_core.proofs.TouchedLooks.{stayed-touched}
 use Rattle.desk_core.proofs.desk.Desk.connect.Goals as goal

@@ -10,12 +10,12 @@ use Rattle.desk_model.specs.DeskFacts.{IsDesk}
 use Rattle.desk_model.specs.OwnPart.{LeavesOthers}
 use Rattle.desk_model.proofs.OwnPart.{hellos_leave_others}
 use Rattle.desk_model.specs.Clients.{free_client, step_hello}
-use Rattle.desk_core.specs.Parts.{desk_of, stage_of}
+use Rattle.desk_commands.specs.Parts.{desk_of, stage_of}
 use Rattle.desk_core.specs.View.{DeskView}
 use Rattle.desk_core.proofs.CallSteps.{hello-full, hello-short}
 use Rattle.desk_core.proofs.Calls.{free-joined, greeted-step, greeted-kept}
-use Rattle.desk_core.specs.View.{KeepsNumbers}
-use Rattle.desk_core.proofs.KeyNumbers.{numbers-same, numbers-equal}
+use Rattle.desk_layout.specs.Numbers.{KeepsNumbers}
+use Rattle.desk_layout.proofs.KeyNumbers.{numbers-same, numbers-equal}
 use Rattle.desk_model.specs.Seen as seen
 use Rattle.desk_core.proofs.TouchedLooks.{stayed-touched}
 use Rattle.desk_core.proofs.desk.Desk.hello.Goals as goal

@@ -5,12 +5,12 @@ use Rattle.desk_model.specs.Desk.{Desk}
 use Rattle.desk_model.specs.DeskFacts.{IsDesk}
 use Rattle.desk_model.specs.Refusals.{is_memory}
 use Rattle.desk_model.proofs.OwnPart.{commands_leave_others}
-use Rattle.desk_core.specs.Parts.{desk_of, stage_of, windows_at}
+use Rattle.desk_commands.specs.Parts.{desk_of, stage_of, windows_at}
 use Rattle.desk_core.specs.View.{DeskView}
 use Rattle.desk_core.proofs.CallSteps.{step-absent, step-obeyed}
 use Rattle.desk_core.proofs.Calls.{connected-joined, obeyed-tree, obeyed-numbers, obeyed-parts, obeyed-held, obeyed-step, obeyed-kept}
-use Rattle.desk_core.specs.View.{KeepsNumbers}
-use Rattle.desk_core.proofs.KeyNumbers.{numbers-same}
+use Rattle.desk_layout.specs.Numbers.{KeepsNumbers}
+use Rattle.desk_layout.proofs.KeyNumbers.{numbers-same}
 use Rattle.std.proofs.Common.{ℕ, ◌&&◌, nat_eq, refl}
 use Rattle.std.specs.List.{list_any}
 use Rattle.look_data.specs.Kept.{differ}

@@ -1,7 +1,8 @@
 use Rattle.std.proofs.Common.{ap, subst, ◌∙◌}
 use Rattle.desk_model.specs.Seen as seen
 use Rattle.scene_core.specs.View.{KeepsPlaces}
-use Rattle.desk_core.specs.View.{DeskView, HaveDuePlaces}
+use Rattle.desk_layout.specs.Placed.{HaveDuePlaces}
+use Rattle.desk_core.specs.View.{DeskView}
 use Rattle.desk_core.proofs.Views.{view-scene, view-windows, view-places}
 use Rattle.desk_core.proofs.desk.Desk.view.Goals as goal
 

@@ -3,9 +3,9 @@ use Rattle.std.specs.Option.{option_map}
 use Rattle.widget_model.specs.Widgets.{nodes}
 use Rattle.desk_model.specs.Seen.{open_windows}
 use Rattle.desk_model.specs.DeskFacts.{IsDesk}
-use Rattle.desk_core.specs.Parts.{stage_of}
+use Rattle.desk_commands.specs.Parts.{stage_of}
 use Rattle.desk_core.specs.View.{DeskView}
-use Rattle.desk_core.proofs.WindowPlaces.{sides, window_live, open_windows-key, open_windows-past, index_within, index_past, length-windows_at}
+use Rattle.desk_commands.proofs.WindowPlaces.{sides, window_live, open_windows-key, open_windows-past, index_within, index_past, length-windows_at}
 use Rattle.desk_core.proofs.desk.Desk.window_at.Goals as goal
 
 pub place_of-requires : goal.place_of-requires

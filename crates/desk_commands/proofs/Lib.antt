@@ -1,0 +1,24 @@
+pub mod Counting
+pub mod Effects
+pub mod Wholes
+pub mod Unmoved
+mod NewStays
+pub mod StillCommands
+pub mod LinkSteps
+pub mod Edits
+pub mod AttrSteps
+pub mod WidgetSteps
+pub mod TrackSteps
+pub mod WindowSteps
+pub mod WindowOrder
+pub mod CommandSteps
+pub mod Changes
+pub mod LinkChanges
+pub mod AttrChanges
+pub mod WindowPlaces
+pub mod OthersLists
+pub mod PlaceSteps
+pub mod LiftSteps
+pub mod DropSteps
+mod InWindows
+pub mod PointerKept

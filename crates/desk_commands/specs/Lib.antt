@@ -1,0 +1,7 @@
+pub mod Pointer
+pub mod Parts
+pub mod Stays
+pub mod Effects
+pub mod Lookup
+pub mod TreeRefusals
+pub mod Tracks

@@ -1,0 +1,25 @@
+//! What each command of a client does to the parts of a desk: the tree of widgets and the order of the open windows.
+#![tactic(auto)]
+
+mod answer;
+mod bindings;
+mod commands;
+mod kinds;
+mod links;
+mod lookup;
+mod moves;
+mod place_options;
+mod placement;
+mod pointer;
+mod ranges;
+mod rule_options;
+mod tracks;
+mod widgets;
+mod windows;
+
+pub use answer::Answer;
+pub use commands::obey;
+pub use moves::may_move;
+pub use pointer::let_go;
+pub use widgets::get;
+pub use windows::{close_windows, place_of};

@@ -1,0 +1,40 @@
+//! Widgets under the names that their clients gave them.
+
+ghost use Rattle.std.specs.Prelude.{◌≡◌, ◌↔◌, Some, IsTrue};
+ghost use Rattle.std.specs.Option.{option_map};
+ghost use Rattle.widget_model.specs.Forest.{IsWidgets};
+ghost use Rattle.desk_commands.specs.Lookup.{AnswersFound};
+
+use kind_core::{Kind, Name};
+use tree_core::{Id, Tree};
+
+/// A client's widget: its number and its kind.
+#[derive(Clone, Copy)]
+pub(crate) struct Found {
+    pub id: Id,
+    pub kind: Kind,
+}
+
+/// The client's widget of that name.
+pub(crate) fn find(tree: &Tree, client: u32, name: &Name) -> Option<Found>
+    ensures found { AnswersFound tree.now client name.now result }
+    ensures valid { IsWidgets tree.now }
+{
+    match tree.find(client, name) {
+        Some(id) => Some(Found {
+            id,
+            kind: tree.kind(id),
+        }),
+        None => None,
+    }
+}
+
+/// Whether this is the widget of that number.
+pub(crate) fn is_number(found: Option<Id>, key: u32) -> bool
+    ensures { IsTrue result ↔ (option_map (λ id. id.key) found ≡ Some key) }
+{
+    match found {
+        Some(id) => id.key == key,
+        None => false,
+    }
+}

@@ -1,5 +1,0 @@
-use Rattle.desk_core.specs.Laid.{AreEmptied}
-use Rattle.desk_core.proofs.laying.empty_places.Given as goal
-
-abbrev pub invariant-loop-k : goal.invariant-loop-k
-invariant-loop-k l = AreEmptied l.client l.k l.fn.tree l.tree

@@ -1,5 +1,0 @@
-use Rattle.desk_core.specs.Laid.{AreLaidTo}
-use Rattle.desk_core.proofs.laying.lay_windows.Given as goal
-
-abbrev pub invariant-loop-k : goal.invariant-loop-k
-invariant-loop-k l = AreLaidTo l.client l.k l.fn.tree l.tree

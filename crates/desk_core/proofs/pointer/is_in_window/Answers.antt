@@ -1,7 +1,0 @@
-use Rattle.widget_model.specs.Widgets.{key_at}
-use Rattle.desk_core.proofs.InWindows.{in_window-live, if_some-same}
-use Rattle.desk_core.proofs.pointer.is_in_window.Goals as goal
-
-pub returns : goal.returns
-returns c stage =
-    if_some-same (key_at c.args.tree.now.entries c.args.id.key) _ _ _ c.is_open.ensures (in_window-live c.args.tree.now c.args.windows.now c.args.id.key c.root.result.key stage c.requires.parts c.root.ensures.found c.root.ensures.live)

@@ -1,0 +1,3 @@
+pub mod KeyNumbers
+pub mod Layouts
+pub mod LeftPlaces

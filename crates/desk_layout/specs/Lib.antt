@@ -1,0 +1,4 @@
+pub mod Placed
+pub mod Numbers
+pub mod Laid
+pub mod Settled
