@@ -43,8 +43,8 @@ fn set_moves(tree: &Tree, client: u32, name: &Name, options: &[(Attr, Value)]) -
     }
 }
 
-/// Whether the client's command may move a widget. A refused one changes nothing, whatever this says. See docs/MACHINE.md,
-/// "Colours and the picture".
+/// Whether the client's command may move a widget. A refused one changes nothing, whatever this says. See
+/// docs/MACHINE.md, "Colours and the picture".
 pub fn may_move(tree: &Tree, client: u32, command: &Command) -> bool
     ensures { result ≡ may_move (rows_of tree.now) client command.now }
 {

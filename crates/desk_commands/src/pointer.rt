@@ -67,8 +67,8 @@ fn focus_left(tree: &Tree, windows: &Stack, focus: Option<Id>) -> Option<Id>
     }
 }
 
-/// Lets the pointer go of what is neither an open window nor under one: its grab or focus becomes none, and it stays where
-/// it is. See docs/MACHINE.md, "The pointer".
+/// Lets the pointer go of what is neither an open window nor under one: its grab or focus becomes none, and it stays
+/// where it is. See docs/MACHINE.md, "The pointer".
 pub fn let_go(tree: &Tree, windows: &Stack, pointer: &mut Pointer)
     requires parts { AreParts tree.now.clients tree.now windows.now }
     requires live { HoldsLive tree.now.entries pointer.old }

@@ -140,8 +140,8 @@ fn reply_with(value: Value) -> Reply
     }
 }
 
-/// `n.get(attr)`, which changes nothing: the answer is the attribute's value, a Number or Words. Refuses NoSuchName where
-/// the client has no widget of that name, and WrongKind where its kind has no such attribute. See docs/GUIDE.md,
+/// `n.get(attr)`, which changes nothing: the answer is the attribute's value, a Number or Words. Refuses NoSuchName
+/// where the client has no widget of that name, and WrongKind where its kind has no such attribute. See docs/GUIDE.md,
 /// "Commands".
 pub fn get(tree: &Tree, client: u32, name: &Name, attr: Attr) -> Answer
     ensures did { Did (λ desk. step_get desk client name.now attr) tree.now tree.now result.reply }

@@ -146,7 +146,8 @@ fn number_in(value: Option<Value>) -> i32
     }
 }
 
-/// The window's x, y, width and height in pixels of the screen, as its attributes give them. See docs/MACHINE.md, "Windows".
+/// The window's x, y, width and height in pixels of the screen, as its attributes give them. See docs/MACHINE.md,
+/// "Windows".
 #[tactic(auto, using(crate::proofs::WindowPlaces::sides_of_row))]
 pub fn place_of(tree: &Tree, id: Id) -> (i32, i32, u32, u32)
     requires { IsLive tree.now id.key }
