@@ -25,5 +25,7 @@ pub mod KeptWindows
 pub mod Admissions
 pub mod KeptScreens
 pub mod KeptPoll
+pub mod FilmNames
+pub mod BeatSteps
 pub mod Desks
 pub mod ByePointer
