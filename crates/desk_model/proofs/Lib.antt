@@ -20,3 +20,5 @@ pub mod KeptLinks
 pub mod KeptWindows
 pub mod Desks
 pub mod ByePointer
+pub mod BeatRows
+pub mod KeptBeat
