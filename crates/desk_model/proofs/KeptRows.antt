@@ -42,7 +42,7 @@ rows_counted-map client test (row ∷ rows) change leaves =
     one : Row → ℕ
     one row = cond (nat_eq client row.client && test row.kind) 1 0
 
-is_kind_of-map : (rows : List Row) (change : Row → Row) (test : Kind → Bool) (client : ℕ) (name : List ℕ) → LeavesNode change → is_kind_of test (row_named (map change rows) client name) ≡ is_kind_of test (row_named rows client name)
+pub is_kind_of-map : (rows : List Row) (change : Row → Row) (test : Kind → Bool) (client : ℕ) (name : List ℕ) → LeavesNode change → is_kind_of test (row_named (map change rows) client name) ≡ is_kind_of test (row_named rows client name)
 is_kind_of-map rows change test client name leaves =
     let names : LeavesNames change = record { client = leaves.client; name = leaves.name } in
     ap (is_kind_of test) (row_named-map rows change client name names) ∙ by (row_named rows client name)

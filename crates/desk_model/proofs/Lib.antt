@@ -22,3 +22,8 @@ pub mod Desks
 pub mod Outcomes
 pub mod Ample
 pub mod Refused
+pub mod Shares
+pub mod Texts
+pub mod Limits
+pub mod TakenInputs
+pub mod KeptInputs
