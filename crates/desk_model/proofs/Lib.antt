@@ -31,3 +31,8 @@ pub mod Desks
 pub mod ByePointer
 pub mod BeatRows
 pub mod KeptBeat
+pub mod Shares
+pub mod Texts
+pub mod Limits
+pub mod TakenInputs
+pub mod KeptInputs
