@@ -29,3 +29,10 @@ pub mod FilmNames
 pub mod BeatSteps
 pub mod Desks
 pub mod ByePointer
+pub mod BeatRows
+pub mod KeptBeat
+pub mod Shares
+pub mod Texts
+pub mod Limits
+pub mod TakenInputs
+pub mod KeptInputs

@@ -2,10 +2,16 @@ pub mod Marks
 pub mod Reach
 pub mod Opening
 pub mod Pixels
+pub mod StepShapes
 pub mod Steps
 pub mod Progress
 pub mod Ticks
+pub mod FilmSteps
 pub mod Runs
+pub mod Counting
+pub mod FilmPixels
+pub mod BandCount
+pub mod BeatColours
 pub mod Beat
 pub mod DamageKeys
 pub mod DamageOrder

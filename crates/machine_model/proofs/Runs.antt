@@ -8,7 +8,7 @@ use Rattle.std.proofs.Math.Nat.{mul-le-mul_right}
 use Rattle.kind_core.specs.declared.shapes.Shape.{Shape}
 use Rattle.machine_model.specs.State.{State, IsState, dirty_count}
 use Rattle.machine_model.specs.Events.{Event, Answer}
-use Rattle.machine_model.specs.Events.Event.{Connect, Hello, Bye, Ask, Misread, Tick, CountDirty, LookAt, Dump}
+use Rattle.machine_model.specs.Events.Event.{Connect, Hello, Bye, Ask, Feed, Misread, Tick, CountDirty, LookAt, Dump}
 use Rattle.machine_model.specs.Events.Answer.{Replied, Drawn, Counted, Seen, Dumped}
 use Rattle.machine_model.specs.Step.{Step}
 use Rattle.machine_model.specs.Run.{Moment, Run, state_after, events_of}
@@ -74,7 +74,8 @@ fewer-step old Tick (Drawn drew) new is s e = ticked-fewer old drew new is s
 fewer-step old (Connect client) answer new is s e = cc
 fewer-step old Hello answer new is s e = cc
 fewer-step old (Bye client) answer new is s e = cc
-fewer-step old (Ask client command) answer new is s e = cc
+fewer-step old (Ask client command payload) answer new is s e = cc
+fewer-step old (Feed input) answer new is s e = cc
 fewer-step old (Misread client place) answer new is s e = cc
 fewer-step old CountDirty answer new is s e = cc
 fewer-step old (LookAt x y) answer new is s e = cc
