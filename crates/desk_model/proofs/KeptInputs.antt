@@ -70,7 +70,7 @@ IsSound-value desk key attr v sound taken = by (row_named desk.rows key.0 key.1)
     by None found h = absurd (true≢false (sym h))
     by (Some row) found h = IsSound-with_named desk key.0 key.1 row (with_attr attr v) sound found (Suits-with_attr desk.rows key attr v row sound.rows.planted h) refl
 
-takes-kept : (rows : List Row) (key other : ℕ × List ℕ) (attr asked : Attr) (v w : value.Value) → takes (with_value_at key attr v rows) other asked w ≡ takes rows other asked w
+pub takes-kept : (rows : List Row) (key other : ℕ × List ℕ) (attr asked : Attr) (v w : value.Value) → takes (with_value_at key attr v rows) other asked w ≡ takes rows other asked w
 takes-kept rows key other attr asked v w =
     is_kind_of-map rows (changed key.0 key.1 (with_attr attr v)) (λ (kind : Kind). is_ok (judged (domain_of kind asked) w)) other.0 other.1 (LeavesNode-changed key.0 key.1 (with_attr attr v) (with_attr-leaves attr v))
 
@@ -102,10 +102,10 @@ still-moved desk rows (Some ask) still taken =
 still-after : (desk : Desk) (effects : Effects) → IsSound desk → AreTaken desk effects → AreStill desk (rows_after effects desk.rows)
 still-after desk effects sound taken =
     let start : AreStill desk desk.rows = record { sound = sound; same = λ key attr v. refl } in
-    let valued = still-number desk desk.rows Value effects.value start taken.value in
-    let texted = still-text desk (with_number Value effects.value desk.rows) effects.text valued taken.text in
-    let careted = still-number desk (with_text effects.text (with_number Value effects.value desk.rows)) Caret effects.caret texted taken.caret in
-    still-moved desk (with_number Caret effects.caret (with_text effects.text (with_number Value effects.value desk.rows))) effects.moved careted taken.moved
+    let valued = still-number desk desk.rows Value effects.value start taken.values.value in
+    let texted = still-text desk (with_number Value effects.value desk.rows) effects.text valued taken.values.text in
+    let careted = still-number desk (with_text effects.text (with_number Value effects.value desk.rows)) Caret effects.caret texted taken.values.caret in
+    still-moved desk (with_number Caret effects.caret (with_text effects.text (with_number Value effects.value desk.rows))) effects.moved careted taken.values.moved
 
 -- WINDOWS. One that is open goes to the top.
 window-there : (rows : List Row) (client : ℕ) (name : List ℕ) (windows : List (ℕ × List ℕ)) → list_all (names_window rows) windows ≡ true → list_any (is_window client name) windows ≡ true → names_window rows (client, name) ≡ true

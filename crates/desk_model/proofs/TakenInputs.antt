@@ -100,7 +100,7 @@ takes-at rows row kind attr v good is ok =
     ap (is_kind_of (λ (k : Kind). is_ok (judged (domain_of k attr) v))) good.own ∙ ap (λ (k : Kind). is_ok (judged (domain_of k attr) v)) is ∙ ok
 
 only-taken : (desk : Desk) (pointer : Pointer) → AreTaken desk (only_pointer pointer)
-only-taken desk pointer = record { raise = tt; value = tt; text = tt; caret = tt; moved = tt }
+only-taken desk pointer = record { values = record { value = tt; text = tt; caret = tt; moved = tt }; raise = tt }
 
 -- VALUES
 most-same : {a b : ℕ} → a ≡ b → b ≤ 10000 → a ≤ 10000
@@ -148,7 +148,7 @@ valued-taken desk place row effects good most ok taken = by (int_eq (pointed_val
 
     by : (b : Bool) → AreTaken desk (cond b effects (record effects { value = Some (value_key row, pointed_value effects.pointer place row); posts = posted Change (pointed_value effects.pointer place row) (pos 0) row }))
     by true = taken
-    by false = record { raise = taken.raise; value = value_taken; text = taken.text; caret = taken.caret; moved = taken.moved }
+    by false = record { values = record { value = value_taken; text = taken.values.text; caret = taken.values.caret; moved = taken.values.moved }; raise = taken.raise }
 
 scale-taken : (desk : Desk) (place : Rect) (row : Row) (effects : Effects) → IsRowOf desk.rows row → row.kind ≡ Scale → AreTaken desk effects → AreTaken desk (valued desk.rows place row effects)
 scale-taken desk place row effects good is taken =
@@ -179,14 +179,16 @@ dragged-taken desk pointer dx dy row good is = by (int_eq x (number_of X row) &&
     by : (b : Bool) → AreTaken desk (cond b (only_pointer pointer) (record (only_pointer pointer) { moved = Some (key_of row, x, y); posts = posted Move x y row }))
     by true = only-taken desk pointer
     by false = record {
+      values = record {
+        value = tt;
+        text = tt;
+        caret = tt;
+        moved = (
+          takes-at desk.rows row Window X (Number x) good is (ok-number (minus 1024) (pos 1024) x (clamp-within (pos pointer.x -ℤ pos dx))),
+          takes-at desk.rows row Window Y (Number y) good is (ok-number (minus 1024) (pos 1024) y (clamp-within (pos pointer.y -ℤ pos dy))),
+        );
+      };
       raise = tt;
-      value = tt;
-      text = tt;
-      caret = tt;
-      moved = (
-        takes-at desk.rows row Window X (Number x) good is (ok-number (minus 1024) (pos 1024) x (clamp-within (pos pointer.x -ℤ pos dx))),
-        takes-at desk.rows row Window Y (Number y) good is (ok-number (minus 1024) (pos 1024) y (clamp-within (pos pointer.y -ℤ pos dy))),
-      );
     }
 
 drag_on-taken : (desk : Desk) (kind : Kind) (pointer : Pointer) (dx dy : ℕ) (row : Row) → IsRowOf desk.rows row → row.kind ≡ kind → AreTaken desk (drag_on kind pointer dx dy row)
@@ -198,7 +200,7 @@ motion_on-taken : (desk : Desk) (kind : Kind) (pointer : Pointer) (place : Rect)
 unfolding motion_on
 motion_on-taken desk Scale pointer place row good is = scale-taken desk place row (only_pointer pointer) good is (only-taken desk pointer)
 motion_on-taken desk Scrollbar pointer place row good is = scrollbar-taken desk place row (only_pointer pointer) good is (only-taken desk pointer)
-motion_on-taken desk VScreen pointer place row good is = record { raise = tt; value = tt; text = tt; caret = tt; moved = tt }
+motion_on-taken desk VScreen pointer place row good is = record { values = record { value = tt; text = tt; caret = tt; moved = tt }; raise = tt }
 motion_on-taken desk _ pointer place row good is = only-taken desk pointer
 
 -- what holds of all rows
@@ -258,19 +260,19 @@ unfolding grabbed_title
 title-taken desk pointer place row effects taken = by (int_lt (local_y pointer place) (pos 12))
   where
     by : (b : Bool) → AreTaken desk (cond b (record effects { pointer = record effects.pointer { grab = drags (key_of row) (unsigned_abs (local_x pointer place)) (unsigned_abs (local_y pointer place)) } }) effects)
-    by true = record { raise = taken.raise; value = taken.value; text = taken.text; caret = taken.caret; moved = taken.moved }
+    by true = record { values = record { value = taken.values.value; text = taken.values.text; caret = taken.values.caret; moved = taken.values.moved }; raise = taken.raise }
     by false = taken
 
 press_on-taken : (desk : Desk) (kind : Kind) (pointer : Pointer) (place : Rect) (row : Row) (effects : Effects) → IsRowOf desk.rows row → row.kind ≡ kind → AreTaken desk effects → AreTaken desk (press_on kind desk.rows pointer place row effects)
 unfolding press_on
 press_on-taken desk Window pointer place row effects good is taken = title-taken desk pointer place row effects taken
-press_on-taken desk Button pointer place row effects good is taken = record { raise = taken.raise; value = taken.value; text = taken.text; caret = taken.caret; moved = taken.moved }
-press_on-taken desk VScreen pointer place row effects good is taken = record { raise = taken.raise; value = taken.value; text = taken.text; caret = taken.caret; moved = taken.moved }
+press_on-taken desk Button pointer place row effects good is taken = record { values = record { value = taken.values.value; text = taken.values.text; caret = taken.values.caret; moved = taken.values.moved }; raise = taken.raise }
+press_on-taken desk VScreen pointer place row effects good is taken = record { values = record { value = taken.values.value; text = taken.values.text; caret = taken.values.caret; moved = taken.values.moved }; raise = taken.raise }
 press_on-taken desk Entry pointer place row effects good is taken =
     let most = caret_at-most (local_x pointer place) (length (text_of Text row)) in
     let short = text-short (text_of Text row) (entry-text row good.fits is) in
     let small : caret_at (local_x pointer place) (length (text_of Text row)) ≤ 64 = omega (arith, most, short) in
-    record { raise = taken.raise; value = taken.value; text = taken.text; caret = caret-taken desk.rows row (caret_at (local_x pointer place) (length (text_of Text row))) good is small; moved = taken.moved }
+    record { values = record { value = taken.values.value; text = taken.values.text; caret = caret-taken desk.rows row (caret_at (local_x pointer place) (length (text_of Text row))) good is small; moved = taken.values.moved }; raise = taken.raise }
 press_on-taken desk Scale pointer place row effects good is taken = scale-taken desk place row effects good is taken
 press_on-taken desk Scrollbar pointer place row effects good is taken = scrollbar-taken desk place row effects good is taken
 press_on-taken desk _ pointer place row effects good is taken = taken
@@ -289,7 +291,7 @@ press-taken desk hit good opens = by desk.pointer.down hit opens
     here : (hit : Hit) → is_open desk hit.key.0 (root_key desk.rows hit.key).1 ≡ true → (row : Row) → IsRowOf desk.rows row → key_of row ≡ hit.key → AreTaken desk (happens hit row)
     here hit inside row is keyed =
         press_on-taken desk row.kind desk.pointer hit.place row (pressed desk.rows desk.pointer row) is refl
-        (record { raise = ap (λ (k : ℕ × List ℕ). is_open desk k.0 (root_key desk.rows k).1) keyed ∙ inside; value = tt; text = tt; caret = tt; moved = tt })
+        (record { values = record { value = tt; text = tt; caret = tt; moved = tt }; raise = ap (λ (k : ℕ × List ℕ). is_open desk k.0 (root_key desk.rows k).1) keyed ∙ inside })
 
     by : (b : Bool) (o : Option Hit) → HitsOpen desk o → AreTaken desk (cond b (only_pointer desk.pointer) (option_map_or (λ (h : Hit). option_map_or (happens h) (row_of desk.rows h.key) (only_pointer desk.pointer)) o (only_pointer (record desk.pointer { down = true; focus = None }))))
     by true o opens = only-taken desk desk.pointer
@@ -299,8 +301,8 @@ press-taken desk hit good opens = by desk.pointer.down hit opens
 -- RELEASE
 release_on-taken : (desk : Desk) (kind : Kind) (pointer : Pointer) (hit : Option Hit) (place : Rect) (row : Row) → AreTaken desk (release_on kind pointer hit place row)
 unfolding release_on
-release_on-taken desk Button pointer hit place row = record { raise = tt; value = tt; text = tt; caret = tt; moved = tt }
-release_on-taken desk VScreen pointer hit place row = record { raise = tt; value = tt; text = tt; caret = tt; moved = tt }
+release_on-taken desk Button pointer hit place row = record { values = record { value = tt; text = tt; caret = tt; moved = tt }; raise = tt }
+release_on-taken desk VScreen pointer hit place row = record { values = record { value = tt; text = tt; caret = tt; moved = tt }; raise = tt }
 release_on-taken desk _ pointer hit place row = only-taken desk pointer
 
 release-taken : (desk : Desk) (hit : Option Hit) (held : Option Rect) → AreGood desk.rows → AreTaken desk (on_release desk.rows desk.pointer hit held)
@@ -351,7 +353,7 @@ caret_for row edit = (key_of row, pos edit.caret)
 key_on_entry-taken : (desk : Desk) (pointer : Pointer) (byte : ℕ) (row : Row) → IsRowOf desk.rows row → row.kind ≡ Entry → AreTaken desk (key_on_entry pointer byte row)
 unfolding key_on_entry
 key_on_entry-taken desk pointer byte row good is =
-    record { raise = tt; value = tt; text = text_of_edit (edit_of byte (text_of Text row) (caret_of row)) fit; caret = caret_of_edit (edit_of byte (text_of Text row) (caret_of row)) fit; moved = tt }
+    record { values = record { value = tt; text = text_of_edit (edit_of byte (text_of Text row) (caret_of row)) fit; caret = caret_of_edit (edit_of byte (text_of Text row) (caret_of row)) fit; moved = tt }; raise = tt }
   where
     fit : IfSome (edit_of byte (text_of Text row) (caret_of row)) IsFitEdit
     fit = edit-fits byte (text_of Text row) (caret_of row) (entry-text row good.fits is) (omega arith)
@@ -371,7 +373,7 @@ key_on_entry-taken desk pointer byte row good is =
 key_on-taken : (desk : Desk) (kind : Kind) (pointer : Pointer) (byte : ℕ) (row : Row) → IsRowOf desk.rows row → row.kind ≡ kind → AreTaken desk (key_on kind pointer byte row)
 unfolding key_on
 key_on-taken desk Entry pointer byte row good is = key_on_entry-taken desk pointer byte row good is
-key_on-taken desk VScreen pointer byte row good is = record { raise = tt; value = tt; text = tt; caret = tt; moved = tt }
+key_on-taken desk VScreen pointer byte row good is = record { values = record { value = tt; text = tt; caret = tt; moved = tt }; raise = tt }
 key_on-taken desk _ pointer byte row good is = only-taken desk pointer
 
 key-taken : (desk : Desk) (byte : ℕ) → AreGood desk.rows → AreTaken desk (on_key desk.rows desk.pointer byte)
