@@ -4,10 +4,13 @@ use Rattle.std.specs.Prelude.{◌==◌, decimal}
 use Rattle.std.specs.Str.{bytes_eq}
 use Rattle.std.proofs.lemmas.Bool.Decides.{nat_tests}
 use Rattle.script_lines.specs.declared.order.Order.{Order}
-use Rattle.script_lines.specs.declared.order.Order.TheVariants.{Nothing, Connect, Bye, Ask, Misread, Ticks, Dirty, Pixel, Dump}
-use Rattle.script_lines.specs.Sayings.{Says}
-use Rattle.script_lines.specs.Lines.{asks, ticks, pixel}
-use Rattle.script_lines.specs.Reading.{◌>>=◌, first_some, number_at, client_at, after, parted, is_silent, word_order, tick_order, pixel_order, connect_order, bye_order, screen_order, coming_order, plain_order}
+use Rattle.cmd_words.specs.declared.inputs.Input.{Input}
+use Rattle.cmd_words.specs.declared.inputs.Input.TheVariants.{Motion, Press, Release, Key}
+use Rattle.script_lines.specs.declared.order.Order.TheVariants.{Nothing, Connect, Bye, Ask, Misread, Feed, Ticks, Dirty, Pixel, Dump}
+use Rattle.script_lines.specs.Numbers.{IsClient}
+use Rattle.script_lines.specs.Sayings.{said_by, Says}
+use Rattle.script_lines.specs.Lines.{asks, ticks, x_and_y, input_line}
+use Rattle.script_lines.specs.Reading.{◌>>=◌, first_some, number_at, client_at, after, parted, is_silent, word_order, tick_order, place_at, pixel_order, button_order, motion_order, key_order, connect_order, bye_order, screen_order, input_order, coming_order, plain_order}
 use Rattle.script_lines.specs.Saying.{IsSaying}
 use Rattle.script_lines.proofs.Numerals.{number_at-back, number_at-on, all_digits, client_at-back, client_at-on, IsNumberOf, printed_client}
 use Rattle.script_lines.proofs.Parting.{same_as, same_bytes, after-back, parted-back, parted-on}
@@ -68,40 +71,74 @@ tick_back line order e =
     as_made line (Ticks count.middle) order count.behind
     (inr (record { front = codes "tick "; after = digits.middle; split = after-back (codes "tick ") line digits.middle digits.before; word = refl; goes_on = number_at-back 1 1000 digits.middle count.middle count.before }))
 
+-- the two numbers of a pixel
+place_back : (text : List ℕ) (pair : ℕ × ℕ) → place_at text ≡ Some pair → x_and_y text pair
+unfolding place_at
+place_back text pair e =
+    let sides = both_answer (parted text) _ pair e in
+    let x = both_answer (number_at 0 9999 sides.middle.0) _ pair sides.behind in
+    let y = both_answer (number_at 0 9999 sides.middle.1) _ pair x.behind in
+    let same : (x.middle, y.middle) ≡ pair = cc in
+    let found : x_and_y text (x.middle, y.middle) = record {
+      front = sides.middle.0;
+      after = 32 ∷ sides.middle.1;
+      value = x.middle;
+      split = parted-back text sides.middle sides.before;
+      stands = number_at-back 0 9999 sides.middle.0 x.middle x.before;
+      goes_on = record {
+        front = codes " ";
+        after = sides.middle.1;
+        split = refl;
+        word = refl;
+        goes_on = record {
+          front = sides.middle.1;
+          after = [];
+          value = y.middle;
+          split = sym (append-nil sides.middle.1);
+          stands = number_at-back 0 9999 sides.middle.1 y.middle y.before;
+          goes_on = (refl, refl);
+        };
+      };
+    } in
+    let P : ℕ × ℕ → Type 0 = λ p. x_and_y text p in
+    subst P same found
+
 pixel_back : (line : List ℕ) (order : Order) → pixel_order line ≡ Some order → asks line order
 unfolding pixel_order asks
 pixel_back line order e =
-    let place = both_answer (after (codes "pixel ") line) _ order e in
-    let sides = both_answer (parted place.middle) _ order place.behind in
-    let x = both_answer (number_at 0 9999 sides.middle.0) _ order sides.behind in
-    let y = both_answer (number_at 0 9999 sides.middle.1) _ order x.behind in
-    as_made line (Pixel x.middle y.middle) order y.behind (record {
-      front = codes "pixel ";
-      after = place.middle;
-      split = after-back (codes "pixel ") line place.middle place.before;
-      word = refl;
-      goes_on = record {
-        front = sides.middle.0;
-        after = 32 ∷ sides.middle.1;
-        value = x.middle;
-        split = parted-back place.middle sides.middle sides.before;
-        stands = number_at-back 0 9999 sides.middle.0 x.middle x.before;
-        goes_on = record {
-          front = codes " ";
-          after = sides.middle.1;
-          split = refl;
-          word = refl;
-          goes_on = record {
-            front = sides.middle.1;
-            after = [];
-            value = y.middle;
-            split = sym (append-nil sides.middle.1);
-            stands = number_at-back 0 9999 sides.middle.1 y.middle y.before;
-            goes_on = (refl, refl);
-          };
-        };
-      };
-    })
+    let text = both_answer (after (codes "pixel ") line) _ order e in
+    let pair = both_answer (place_at text.middle) _ order text.behind in
+    as_made line (Pixel pair.middle.0 pair.middle.1) order pair.behind
+    (record { front = codes "pixel "; after = text.middle; split = after-back (codes "pixel ") line text.middle text.before; word = refl; goes_on = place_back text.middle pair.middle pair.before })
+
+buttons_back : (line : List ℕ) (press release : Bool) (order : Order) → (press ≡ true → asks line (Feed Press)) → (release ≡ true → asks line (Feed Release)) → cond press (Some (Feed Press)) (cond release (Some (Feed Release)) None) ≡ Some order → asks line order
+buttons_back line true release order p r e = as_made line (Feed Press) order e (p refl)
+buttons_back line false true order p r e = as_made line (Feed Release) order e (r refl)
+buttons_back line false false order p r e = absurd (cc)
+
+button_back : (line : List ℕ) (order : Order) → button_order line ≡ Some order → asks line order
+unfolding button_order asks
+button_back line order e =
+    buttons_back line (bytes_eq line (codes "press")) (bytes_eq line (codes "release")) order
+    (same_bytes line (codes "press"))
+    (same_bytes line (codes "release"))
+    e
+
+motion_back : (line : List ℕ) (order : Order) → motion_order line ≡ Some order → asks line order
+unfolding motion_order asks
+motion_back line order e =
+    let text = both_answer (after (codes "motion ") line) _ order e in
+    let pair = both_answer (place_at text.middle) _ order text.behind in
+    as_made line (Feed (Motion pair.middle.0 pair.middle.1)) order pair.behind
+    (record { front = codes "motion "; after = text.middle; split = after-back (codes "motion ") line text.middle text.before; word = refl; goes_on = place_back text.middle pair.middle pair.before })
+
+key_back : (line : List ℕ) (order : Order) → key_order line ≡ Some order → asks line order
+unfolding key_order asks
+key_back line order e =
+    let digits = both_answer (after (codes "key ") line) _ order e in
+    let byte = both_answer (number_at 0 255 digits.middle) _ order digits.behind in
+    as_made line (Feed (Key byte.middle)) order byte.behind
+    (record { front = codes "key "; after = digits.middle; split = after-back (codes "key ") line digits.middle digits.before; word = refl; goes_on = number_at-back 0 255 digits.middle byte.middle byte.before })
 
 connect_back : (line : List ℕ) (order : Order) → connect_order line ≡ Some order → asks line order
 unfolding connect_order asks
@@ -127,6 +164,14 @@ screen_back line order e =
       | inr k ↦ elim k [ inl t ↦ tick_back line order t | inr p ↦ pixel_back line order p ]
     ]
 
+input_back : (line : List ℕ) (order : Order) → input_order line ≡ Some order → asks line order
+unfolding input_order
+input_back line order e =
+    elim (one_of_three (button_order line) (motion_order line) (key_order line) order e) [
+      | inl b ↦ button_back line order b
+      | inr k ↦ elim k [ inl m ↦ motion_back line order m | inr y ↦ key_back line order y ]
+    ]
+
 coming_back : (line : List ℕ) (order : Order) → coming_order line ≡ Some order → asks line order
 unfolding coming_order
 coming_back line order e =
@@ -136,10 +181,13 @@ pub plain_back : (line : List ℕ) (order : Order) → plain_order line ≡ Some
 unfolding plain_order
 plain_back line order = by (is_silent line) refl
   where
-    by : (quiet : Bool) → is_silent line ≡ quiet → cond quiet (Some Nothing) (first_some (screen_order line ∷ coming_order line ∷ [])) ≡ Some order → asks line order
+    by : (quiet : Bool) → is_silent line ≡ quiet → cond quiet (Some Nothing) (first_some (screen_order line ∷ input_order line ∷ coming_order line ∷ [])) ≡ Some order → asks line order
     by true is e = as_made line Nothing order e (silent_back line is)
     by false is e =
-        elim (one_of_two (screen_order line) (coming_order line) order e) [ inl s ↦ screen_back line order s | inr c ↦ coming_back line order c ]
+        elim (one_of_three (screen_order line) (input_order line) (coming_order line) order e) [
+          | inl s ↦ screen_back line order s
+          | inr k ↦ elim k [ inl i ↦ input_back line order i | inr c ↦ coming_back line order c ]
+        ]
 
 -- ---- what is on the grammar is read
 
@@ -167,16 +215,36 @@ dump_on : plain_order (codes "dump") ≡ Some Dump
 unfolding plain_order is_silent screen_order word_order
 dump_on = refl
 
-pixel_on : (a b : List ℕ) (x y : ℕ) → parted (a ++ 32 ∷ b) ≡ Some (a, b) → number_at 0 9999 a ≡ Some x → number_at 0 9999 b ≡ Some y → plain_order (codes "pixel " ++ (a ++ 32 ∷ b)) ≡ Some (Pixel x y)
+place_on : (a b : List ℕ) (x y : ℕ) → parted (a ++ 32 ∷ b) ≡ Some (a, b) → number_at 0 9999 a ≡ Some x → number_at 0 9999 b ≡ Some y → place_at (a ++ 32 ∷ b) ≡ Some (x, y)
+unfolding place_at
+place_on a b x y parts left top = rw (parts, left, top) refl
+
+pixel_on : (text : List ℕ) (x y : ℕ) → place_at text ≡ Some (x, y) → plain_order (codes "pixel " ++ text) ≡ Some (Pixel x y)
 unfolding plain_order is_silent screen_order word_order tick_order pixel_order after
-pixel_on a b x y parts left top = rw (parts, left, top) refl
+pixel_on text x y reads = rw reads refl
+
+press_on : plain_order (codes "press") ≡ Some (Feed Press)
+unfolding plain_order is_silent screen_order word_order tick_order pixel_order input_order button_order after
+press_on = refl
+
+release_on : plain_order (codes "release") ≡ Some (Feed Release)
+unfolding plain_order is_silent screen_order word_order tick_order pixel_order input_order button_order after
+release_on = refl
+
+motion_on : (text : List ℕ) (x y : ℕ) → place_at text ≡ Some (x, y) → plain_order (codes "motion " ++ text) ≡ Some (Feed (Motion x y))
+unfolding plain_order is_silent screen_order word_order tick_order pixel_order input_order button_order motion_order after
+motion_on text x y reads = rw reads refl
+
+key_on : (digits : List ℕ) (byte : ℕ) → number_at 0 255 digits ≡ Some byte → plain_order (codes "key " ++ digits) ≡ Some (Feed (Key byte))
+unfolding plain_order is_silent screen_order word_order tick_order pixel_order input_order button_order motion_order key_order after
+key_on digits byte reads = rw reads refl
 
 connect_on : (digits : List ℕ) (client : ℕ) → client_at digits ≡ Some client → plain_order (codes "connect " ++ digits) ≡ Some (Connect client)
-unfolding plain_order is_silent screen_order word_order tick_order pixel_order coming_order connect_order after
+unfolding plain_order is_silent screen_order word_order tick_order pixel_order input_order button_order motion_order key_order coming_order connect_order after
 connect_on digits client reads = rw reads refl
 
 bye_on : (digits : List ℕ) (client : ℕ) → client_at digits ≡ Some client → plain_order (codes "bye " ++ digits) ≡ Some (Bye client)
-unfolding plain_order is_silent screen_order word_order tick_order pixel_order coming_order connect_order bye_order after
+unfolding plain_order is_silent screen_order word_order tick_order pixel_order input_order button_order motion_order key_order coming_order connect_order bye_order after
 bye_on digits client reads = rw reads refl
 
 -- ---- lines that begin with a digit
@@ -189,17 +257,23 @@ unfolding after
 after-other first byte start rest e = rw (other_byte first byte e) refl
 
 digit_none : (first : ℕ) (rest : List ℕ) → 48 ≤ first → first ≤ 57 → plain_order (first ∷ rest) ≡ None
-unfolding plain_order is_silent screen_order word_order tick_order pixel_order coming_order connect_order bye_order
+unfolding plain_order is_silent screen_order word_order tick_order pixel_order input_order button_order motion_order key_order coming_order connect_order bye_order
 digit_none first rest l u =
     let no_t : first ≢ 116 = omega arith in
     let no_d : first ≢ 100 = omega arith in
     let no_comment : first ≢ 35 = omega arith in
-    rw (other_byte first 35 no_comment, other_byte first 116 no_t, other_byte first 100 no_d, after-other first 116 (codes "ick ") rest no_t, after-other first 112 (codes "ixel ") rest (omega arith), after-other first 99 (codes "onnect ") rest (omega arith), after-other first 98 (codes "ye ") rest (omega arith)) refl
+    let no_p : first ≢ 112 = omega arith in
+    let no_r : first ≢ 114 = omega arith in
+    rw (other_byte first 35 no_comment, other_byte first 116 no_t, other_byte first 100 no_d, other_byte first 112 no_p, other_byte first 114 no_r, after-other first 116 (codes "ick ") rest no_t, after-other first 112 (codes "ixel ") rest no_p, after-other first 109 (codes "otion ") rest (omega arith), after-other first 107 (codes "ey ") rest (omega arith), after-other first 99 (codes "onnect ") rest (omega arith), after-other first 98 (codes "ye ") rest (omega arith)) refl
+
+-- the line of a client is none of these
+pub heard_none : (client : ℕ) (said : List ℕ) → IsClient client → plain_order (said_by client said) ≡ None
+heard_none client said is =
+    let n : IsNumberOf client (decimal client) = printed_client client is in
+    ap plain_order (ap (λ ds. ds ++ 32 ∷ said) n.split) ∙ digit_none n.first (n.others ++ 32 ∷ said) n.from n.upto
 
 pub said_none : (line : List ℕ) (client : ℕ) (said : List ℕ) → Says line client said → plain_order line ≡ None
-said_none line client said says =
-    let n : IsNumberOf client (decimal client) = printed_client client says.is_client in
-    ap plain_order (says.spelled ∙ ap (λ ds. ds ++ 32 ∷ said) n.split) ∙ digit_none n.first (n.others ++ 32 ∷ said) n.from n.upto
+said_none line client said says = ap plain_order says.spelled ∙ heard_none client said says.is_client
 
 -- ---- all of them
 
@@ -216,18 +290,23 @@ ticks_read line count (inl one) =
 ticks_read line count (inr more) =
     ap plain_order (begins line more.front (codes "tick ") more.after more.split more.word) ∙ ticks_on more.after count (number_at-on 1 1000 more.after count more.goes_on)
 
-pixel_read : (line : List ℕ) (x y : ℕ) → pixel line (x, y) → plain_order line ≡ Some (Pixel x y)
-pixel_read line x y on =
-    let first = on.goes_on in
-    let space = first.goes_on in
+place_read : (text : List ℕ) (x y : ℕ) → x_and_y text (x, y) → place_at text ≡ Some (x, y)
+place_read text x y on =
+    let space = on.goes_on in
     let second = space.goes_on in
-    let left : number_at 0 9999 first.front ≡ Some first.value = number_at-on 0 9999 first.front first.value first.stands in
+    let left : number_at 0 9999 on.front ≡ Some on.value = number_at-on 0 9999 on.front on.value on.stands in
     let top : number_at 0 9999 second.front ≡ Some second.value = number_at-on 0 9999 second.front second.value second.stands in
     let rest : space.after ≡ second.front = second.split ∙ ap (λ xs. second.front ++ xs) second.goes_on.0 ∙ append-nil second.front in
-    let behind : first.after ≡ 32 ∷ second.front = space.split ∙ ap (λ xs. xs ++ space.after) space.word ∙ ap (λ xs. codes " " ++ xs) rest in
-    let whole : line ≡ codes "pixel " ++ (first.front ++ 32 ∷ second.front) = begins line on.front (codes "pixel ") on.after on.split on.word ∙ ap (λ xs. codes "pixel " ++ xs) (first.split ∙ ap (λ xs. first.front ++ xs) behind) in
-    let same : (x, y) ≡ (first.value, second.value) = second.goes_on.1 in
-    ap plain_order whole ∙ pixel_on first.front second.front first.value second.value (parted-on first.front second.front (all_digits first.front first.stands.0.0)) left top ∙ ap (λ (p : ℕ × ℕ). Some (Pixel p.0 p.1)) (sym same)
+    let behind : on.after ≡ 32 ∷ second.front = space.split ∙ ap (λ xs. xs ++ space.after) space.word ∙ ap (λ xs. codes " " ++ xs) rest in
+    let whole : text ≡ on.front ++ 32 ∷ second.front = on.split ∙ ap (λ xs. on.front ++ xs) behind in
+    let same : (x, y) ≡ (on.value, second.value) = second.goes_on.1 in
+    ap place_at whole ∙ place_on on.front second.front on.value second.value (parted-on on.front second.front (all_digits on.front on.stands.0.0)) left top ∙ ap (λ (p : ℕ × ℕ). Some p) (sym same)
+
+input_read : (line : List ℕ) (input : Input) → input_line line input → plain_order line ≡ Some (Feed input)
+input_read line (Motion x y) on = ap plain_order (begins line on.front (codes "motion ") on.after on.split on.word) ∙ motion_on on.after x y (place_read on.after x y on.goes_on)
+input_read line Press on = ap plain_order on ∙ press_on
+input_read line Release on = ap plain_order on ∙ release_on
+input_read line (Key byte) on = ap plain_order (begins line on.front (codes "key ") on.after on.split on.word) ∙ key_on on.after byte (number_at-on 0 255 on.after byte on.goes_on)
 
 pub plain_all : (line : List ℕ) (order : Order) → asks line order → IsRead line order
 unfolding asks
@@ -237,7 +316,8 @@ plain_all line (Connect client) on = inl (ap plain_order (begins line on.front (
 plain_all line (Bye client) on = inl (ap plain_order (begins line on.front (codes "bye ") on.after on.split on.word) ∙ bye_on on.after client (client_at-on on.after client on.goes_on))
 plain_all line (Ask client command) on = inr (said_none line client on.0 on.1, tt)
 plain_all line (Misread client place) on = inr (said_none line client on.0 on.1, tt)
+plain_all line (Feed input) on = inl (input_read line input on)
 plain_all line (Ticks count) on = inl (ticks_read line count on)
 plain_all line Dirty on = inl (ap plain_order on ∙ dirty_on)
-plain_all line (Pixel x y) on = inl (pixel_read line x y on)
+plain_all line (Pixel x y) on = inl (ap plain_order (begins line on.front (codes "pixel ") on.after on.split on.word) ∙ pixel_on on.after x y (place_read on.after x y on.goes_on))
 plain_all line Dump on = inl (ap plain_order on ∙ dump_on)

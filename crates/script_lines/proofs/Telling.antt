@@ -1,16 +1,20 @@
 -- A line asks for at most one thing, and whether it asks for something is told of each.
-use Rattle.std.proofs.Common.{◌≡◌, ◌⊎◌, inl, inr, ℕ, ◌≤◌, List, [], ◌∷◌, Option, Some, None, refl, sym, ap, ◌∙◌, arith}
+use Rattle.std.proofs.Common.{◌≡◌, ◌⊎◌, inl, inr, ℕ, ◌≤◌, ◌<◌, lit≤, List, [], ◌∷◌, Option, Some, None, refl, sym, ap, ◌∙◌, arith}
 use Rattle.std.specs.Prelude.{IfSome}
 use Rattle.cmd_text.proofs.Places.{each_line_is_told as command_or_place}
 use Rattle.script_lines.specs.declared.order.Order.{Order}
-use Rattle.script_lines.specs.declared.order.Order.TheVariants.{Nothing, Connect, Bye, Ask, Misread, Ticks, Dirty, Pixel, Dump}
+use Rattle.script_lines.specs.declared.order.Order.TheVariants.{Nothing, Connect, Bye, Ask, Misread, Feed, Ticks, Dirty, Pixel, Dump}
+use Rattle.desk_model.specs.Commands.{payload_size}
 use Rattle.script_lines.specs.Suits.{Suits}
+use Rattle.script_lines.specs.Sayings.{said_by, frame_limit}
+use Rattle.script_lines.specs.Numbers.{IsClient}
+use Rattle.script_lines.specs.Payloads.{payload_of}
 use Rattle.script_lines.specs.Lines.{asks, ticks, IsOff}
 use Rattle.script_lines.specs.Reading.{plain_order, said_at}
-use Rattle.script_lines.specs.Saying.{IsSaying}
-use Rattle.script_lines.specs.Laws.{OneOrder, EachLineIsTold, CommentsAskForNothing, CommandsAreAsked, OthersAreMisread, AskedWasSaid, MisreadWasSaid}
-use Rattle.script_lines.proofs.PlainLines.{IsRead, plain_back, plain_all}
-use Rattle.script_lines.proofs.SaidLines.{said_at-on, said_at-back, one_saying, saying-asks, asks-saying, asks-this, asks-none, told}
+use Rattle.script_lines.specs.Saying.{IsSaying, saying}
+use Rattle.script_lines.specs.Laws.{OneOrder, EachLineIsTold, CommentsAskForNothing, CommandsAreAsked, OthersAreMisread, AskedWasSaid, MisreadWasSaid, IsBadFrameLine, BadFrameLinesAreOff, OnePayload, PayloadsAreSmall}
+use Rattle.script_lines.proofs.PlainLines.{IsRead, plain_back, plain_all, heard_none}
+use Rattle.script_lines.proofs.SaidLines.{said_at-said, said_at-on, said_at-back, one_saying, saying-asks, asks-saying, asks-this, asks-none, told}
 
 -- ---- what suits
 
@@ -23,8 +27,9 @@ unfolding asks
 asks-suits line Nothing on = tt
 asks-suits line (Connect client) on = on.goes_on.1
 asks-suits line (Bye client) on = on.goes_on.1
-asks-suits line (Ask client command) on = (on.1.is_client, on.3)
+asks-suits line (Ask client command) on = (on.1.is_client, on.1.sayable.few command on.2)
 asks-suits line (Misread client place) on = on.1.is_client
+asks-suits line (Feed input) on = tt
 asks-suits line (Ticks count) on = ticks-suit line count on
 asks-suits line Dirty on = tt
 asks-suits line (Pixel x y) on = tt
@@ -86,7 +91,7 @@ comments_ask_for_nothing = record { empty = inl refl; comment = λ words. inr (r
 
 pub commands_are_asked : CommandsAreAsked
 unfolding asks
-commands_are_asked client said command is sayable on built = (said, record { is_client = is; spelled = refl; sayable = sayable }, on, built)
+commands_are_asked client said command is sayable on = (said, record { is_client = is; spelled = refl; sayable = sayable }, on)
 
 pub others_are_misread : OthersAreMisread
 unfolding asks
@@ -102,3 +107,32 @@ asked_was_said line client command on = record { said = on.0; is_line = on.1.spe
 pub misread_was_said : MisreadWasSaid
 unfolding asks
 misread_was_said line client place on = record { said = on.0; is_line = on.1.spelled; sayable = on.1.sayable; none = on.2.none; is_place = on.2.place }
+
+-- ---- raw bytes
+
+pub one_payload : OnePayload
+one_payload line first second p q = ap payload_of (one_order line first second p q)
+
+pub payloads_are_small : PayloadsAreSmall
+payloads_are_small line Nothing on = lit≤ tt
+payloads_are_small line (Connect client) on = lit≤ tt
+payloads_are_small line (Bye client) on = lit≤ tt
+payloads_are_small line (Ask client command) on = (asks-suits line (Ask client command) on).1
+payloads_are_small line (Misread client place) on = lit≤ tt
+payloads_are_small line (Feed input) on = lit≤ tt
+payloads_are_small line (Ticks count) on = lit≤ tt
+payloads_are_small line Dirty on = lit≤ tt
+payloads_are_small line (Pixel x y) on = lit≤ tt
+payloads_are_small line Dump on = lit≤ tt
+
+-- a bad frame line asks for nothing
+not_said : (client : ℕ) (said : List ℕ) (order : Order) → IsBadFrameLine said → saying client said order → ⊥
+not_said client said order bad (inl p) = (let few : payload_size p.0 ≤ frame_limit = p.2.few p.0 p.3 in let many : frame_limit < payload_size p.0 = bad.large p.0 p.3 in omega arith)
+not_said client said order bad (inr q) = (let is = q.2.framed bad.frame in q.3.none is.0 is.1)
+
+pub bad_frame_lines_are_off : BadFrameLinesAreOff
+bad_frame_lines_are_off client said is bad order on = by (plain_all (said_by client said) order on)
+  where
+    by : IsRead (said_by client said) order → ⊥
+    by (inl read) = (let none : plain_order (said_by client said) ≡ None = heard_none client said is in cc)
+    by (inr heard) = not_said client said order bad (asks-this (said_by client said) client said order (said_at-said client said is) heard.1 on)

@@ -1,13 +1,15 @@
 -- The laws of a script's lines.
-use Rattle.std.specs.Prelude.{◌≡◌, ◌⊎◌, ℕ, List, [], ◌∷◌, IsTrue}
+use Rattle.std.specs.Prelude.{◌≡◌, ◌⊎◌, ℕ, ◌≤◌, ◌<◌, List, [], ◌∷◌}
 use Rattle.cmd_words.specs.declared.commands.Command.{Command}
 use Rattle.cmd_words.specs.Grammar.{command_line, IsPlace}
-use Rattle.desk_model.specs.Commands.{is_built}
+use Rattle.cmd_text.specs.FrameLine.{IsFrameLine}
+use Rattle.desk_model.specs.Commands.{payload_size}
 use Rattle.script_lines.specs.declared.order.Order.{Order}
 use Rattle.script_lines.specs.declared.order.Order.TheVariants.{Nothing, Ask, Misread}
 use Rattle.script_lines.specs.Numbers.{IsClient}
-use Rattle.script_lines.specs.Sayings.{said_by, IsSayable}
+use Rattle.script_lines.specs.Sayings.{said_by, frame_limit, IsSayable}
 use Rattle.script_lines.specs.Lines.{asks, IsOff}
+use Rattle.script_lines.specs.Payloads.{payload_of}
 
 -- a line asks for at most one thing
 abbrev pub OneOrder : Type 0
@@ -22,10 +24,10 @@ pub record CommentsAskForNothing : Type 0 where
   pub empty : asks [] Nothing
   pub comment : (words : List ℕ) → asks (35 ∷ words) Nothing
 
--- a command that is built is asked for by the line in which a client says it
+-- a command is asked for by the line in which a client says it
 abbrev pub CommandsAreAsked : Type 0
 CommandsAreAsked =
-    (client : ℕ) (said : List ℕ) (command : Command) → IsClient client → IsSayable said → command_line said command → IsTrue (is_built command) → asks (said_by client said) (Ask client command)
+    (client : ℕ) (said : List ℕ) (command : Command) → IsClient client → IsSayable said → command_line said command → asks (said_by client said) (Ask client command)
 
 -- a line that says no command is a misread one, with its place in what the client said
 pub record IsMisreadLine (client : ℕ) (said : List ℕ) : Type 0 where
@@ -61,3 +63,20 @@ pub record WasMisread (line : List ℕ) (client place : ℕ) : Type 0 where
 abbrev pub MisreadWasSaid : Type 0
 MisreadWasSaid =
     (line : List ℕ) (client place : ℕ) → asks line (Misread client place) → WasMisread line client place
+
+-- a frame line is bad: each command that it stands for, if any, comes with too many bytes
+pub record IsBadFrameLine (said : List ℕ) : Type 0 where
+  pub frame : IsFrameLine said
+  pub large : (command : Command) → command_line said command → frame_limit < payload_size command
+
+-- a line in which a client says a bad frame line is off the grammar
+abbrev pub BadFrameLinesAreOff : Type 0
+BadFrameLinesAreOff = (client : ℕ) (said : List ℕ) → IsClient client → IsBadFrameLine said → IsOff (said_by client said)
+
+-- how many raw bytes follow a line is told by it alone
+abbrev pub OnePayload : Type 0
+OnePayload = (line : List ℕ) (first second : Order) → asks line first → asks line second → payload_of first ≡ payload_of second
+
+-- and they are no more than a frame may have
+abbrev pub PayloadsAreSmall : Type 0
+PayloadsAreSmall = (line : List ℕ) (order : Order) → asks line order → payload_of order ≤ frame_limit

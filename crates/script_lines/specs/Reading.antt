@@ -2,9 +2,10 @@
 use Rattle.std.specs.Prelude.{ℕ, ◌+◌, Bool, true, false, ◌&&◌, ◌==◌, nat_le, if◌then◌else◌, List, [], ◌∷◌, length, take, drop, codes, Option, Some, None, option_map}
 use Rattle.std.specs.Str.{bytes_eq}
 use Rattle.std.specs.List.{position}
+use Rattle.cmd_words.specs.declared.inputs.Input.TheVariants.{Motion, Press, Release, Key}
 use Rattle.cmd_words.specs.Productions.{are_digits, number_of}
 use Rattle.script_lines.specs.declared.order.Order.{Order}
-use Rattle.script_lines.specs.declared.order.Order.TheVariants.{Nothing, Connect, Bye, Ticks, Dirty, Pixel, Dump}
+use Rattle.script_lines.specs.declared.order.Order.TheVariants.{Nothing, Connect, Bye, Feed, Ticks, Dirty, Pixel, Dump}
 
 -- steps of which each has an answer, or the whole has none
 infixl 10 ◌>>=◌
@@ -58,13 +59,36 @@ tick_order line = do
   count ← number_at 1 1000 digits
   Some (Ticks count)
 
-unfoldable pub pixel_order : List ℕ → Option Order
-pixel_order line = do
-  place ← after (codes "pixel ") line
-  sides ← parted place
+-- a pixel, in two numbers
+unfoldable pub place_at : List ℕ → Option (ℕ × ℕ)
+place_at text = do
+  sides ← parted text
   x ← number_at 0 9999 sides.0
   y ← number_at 0 9999 sides.1
-  Some (Pixel x y)
+  Some (x, y)
+
+unfoldable pub pixel_order : List ℕ → Option Order
+pixel_order line = do
+  text ← after (codes "pixel ") line
+  place ← place_at text
+  Some (Pixel place.0 place.1)
+
+unfoldable pub button_order : List ℕ → Option Order
+button_order line =
+    if bytes_eq line (codes "press") then Some (Feed Press)
+    else (if bytes_eq line (codes "release") then Some (Feed Release) else None)
+
+unfoldable pub motion_order : List ℕ → Option Order
+motion_order line = do
+  text ← after (codes "motion ") line
+  place ← place_at text
+  Some (Feed (Motion place.0 place.1))
+
+unfoldable pub key_order : List ℕ → Option Order
+key_order line = do
+  digits ← after (codes "key ") line
+  byte ← number_at 0 255 digits
+  Some (Feed (Key byte))
 
 unfoldable pub connect_order : List ℕ → Option Order
 connect_order line = do
@@ -82,6 +106,10 @@ bye_order line = do
 unfoldable pub screen_order : List ℕ → Option Order
 screen_order line = first_some (word_order line ∷ tick_order line ∷ pixel_order line ∷ [])
 
+-- a line of the pointer or the keyboard
+unfoldable pub input_order : List ℕ → Option Order
+input_order line = first_some (button_order line ∷ motion_order line ∷ key_order line ∷ [])
+
 -- a line that comes or goes
 unfoldable pub coming_order : List ℕ → Option Order
 coming_order line = first_some (connect_order line ∷ bye_order line ∷ [])
@@ -90,7 +118,7 @@ coming_order line = first_some (connect_order line ∷ bye_order line ∷ [])
 unfoldable pub plain_order : List ℕ → Option Order
 plain_order line =
     if is_silent line then Some Nothing
-    else first_some (screen_order line ∷ coming_order line ∷ [])
+    else first_some (screen_order line ∷ input_order line ∷ coming_order line ∷ [])
 
 -- the client, and what it says
 unfoldable pub said_at : List ℕ → Option (ℕ × List ℕ)

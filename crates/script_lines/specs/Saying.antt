@@ -1,9 +1,8 @@
 -- Inner words of the proofs: what a client asks for by what it says.
-use Rattle.std.specs.Prelude.{◌≡◌, ◌⊎◌, ℕ, List, IsTrue}
+use Rattle.std.specs.Prelude.{◌≡◌, ◌⊎◌, ℕ, List}
 use Rattle.cmd_words.specs.declared.commands.Command.{Command}
 use Rattle.cmd_words.specs.Grammar.{command_line}
 use Rattle.cmd_text.specs.Misread.{IsMisread}
-use Rattle.desk_model.specs.Commands.{is_built}
 use Rattle.script_lines.specs.declared.order.Order.{Order}
 use Rattle.script_lines.specs.declared.order.Order.TheVariants.{Ask, Misread}
 use Rattle.script_lines.specs.Sayings.{IsSayable}
@@ -17,5 +16,5 @@ IsSaying _ = ⊥
 -- what this client asks for by saying this: its command, or it is misread
 abbrev pub saying : ℕ → List ℕ → Order → Type 0
 saying client said order =
-    ((command : Command) × (order ≡ Ask client command) × IsSayable said × command_line said command × IsTrue (is_built command))
+    ((command : Command) × (order ≡ Ask client command) × IsSayable said × command_line said command)
     ⊎ ((place : ℕ) × (order ≡ Misread client place) × IsSayable said × IsMisread said place)

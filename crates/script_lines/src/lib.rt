@@ -2,7 +2,6 @@
 //! here takes memory.
 #![tactic(auto)]
 
-mod built;
 mod client;
 mod digits;
 pub mod laws;
@@ -10,10 +9,11 @@ mod line;
 mod number;
 mod order;
 mod parts;
+mod payload;
 mod plain;
 
-pub use built::is_built;
-pub use cmd_text::Command;
+pub use cmd_text::{Command, Input};
 pub use line::line_order;
 pub use number::number_in;
 pub use order::Order;
+pub use payload::{payload_of, payload_size};
