@@ -1,3 +1,4 @@
 mod MarkLemmas
 mod DrawLemmas
 mod FollowLemmas
+mod BandingLemmas

@@ -1,3 +1,4 @@
 pub mod Marking
 pub mod Drawing
 pub mod Following
+pub mod Banding

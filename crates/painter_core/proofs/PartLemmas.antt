@@ -103,7 +103,7 @@ count_span-most test from (suc n) = omega (arith, count_span-most test from n, o
     one true = omega arith
     one false = omega arith
 
-count_rows-most : (test : ℤ → ℤ → Bool) (x : ℤ) (w : ℕ) (y : ℤ) (rows : ℕ) → count_rows test x w y rows ≤ w * rows
+pub count_rows-most : (test : ℤ → ℤ → Bool) (x : ℤ) (w : ℕ) (y : ℤ) (rows : ℕ) → count_rows test x w y rows ≤ w * rows
 count_rows-most test x w y zero = omega arith
 count_rows-most test x w y (suc rows) =
     let more : w * suc rows ≡ w * rows + w = omega arith in
