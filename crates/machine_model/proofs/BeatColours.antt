@@ -75,7 +75,7 @@ pixel-beaten film place x y is some lies low out =
 shown_size-beaten : (film : FilmState) → IsFilm film → 0 < film.period → length (beaten film).shown ≡ film.width * film.height
 shown_size-beaten film is some = let keeps = beaten_keeps film in (IsFilm-beaten film is some).shown_size ∙ ap₂ (λ (w h : ℕ). w * h) keeps.width keeps.height
 
-abbrev film_look : FilmState → Seen
+abbrev pub film_look : FilmState → Seen
 film_look film = seen.film film.width film.height film.shown
 
 -- so its colours are kept
@@ -107,7 +107,7 @@ film_colour-beaten film place x y is some there out = by (nat_lt u film.width) r
     by false across c down = refl
 
 -- what a VScreen with this film shows
-abbrev screen_look : Option FilmState → Seen
+abbrev pub screen_look : Option FilmState → Seen
 screen_look film = option_map_or film_look film seen.no_film
 
 -- whether the pixel is in the band that was drawn of the film
@@ -146,7 +146,7 @@ row_colour-beaten scene row place x y is there out Variable = refl
 row_colour-beaten scene row place x y is there out VScreen = screen_colour-beaten row.film place x y is there out
 
 -- the film of a row that is there is whole
-fit_film : (rows : List Row) (i : ℕ) (row : Row) → HaveFitFilms rows → slice_get rows i ≡ Some row → IsFitFilm row
+pub fit_film : (rows : List Row) (i : ℕ) (row : Row) → HaveFitFilms rows → slice_get rows i ≡ Some row → IsFitFilm row
 fit_film [] i row films there = absurd (cc)
 fit_film (first ∷ rows) zero row films there = let same : first ≡ row = cc in subst (λ (r : Row). IsFitFilm r) same (All-head IsFitFilm first rows films)
 fit_film (first ∷ rows) (suc i) row films there = fit_film rows i row (All-tail IsFitFilm first rows films) there

@@ -7,6 +7,10 @@ pub mod Steps
 pub mod Progress
 pub mod Ticks
 pub mod FilmSteps
+pub mod FilmRuns
+pub mod ShownBands
+pub mod RunParts
+pub mod Periods
 pub mod Runs
 pub mod Counting
 pub mod FilmPixels
