@@ -2,7 +2,6 @@ pub mod Marks
 pub mod Reach
 pub mod Opening
 pub mod Pixels
-pub mod StepShapes
 pub mod Steps
 pub mod Progress
 pub mod Ticks
