@@ -5,9 +5,8 @@ use Rattle.std.specs.List.{list_all}
 use Rattle.vscreen_core.specs.FilmState.{FilmState}
 use Rattle.vscreen_core.specs.Band.{share_of}
 use Rattle.widget_model.specs.Rows.{Row}
-use Rattle.widget_model.specs.Kinds.{any_kind, counts_with, is_variable_kind, is_window_kind}
+use Rattle.widget_model.specs.Kinds.{any_kind, counts_with, is_window_kind}
 use Rattle.widget_model.specs.Named.{row_named, is_kind_of}
-use Rattle.widget_model.specs.Trees.{root_of}
 use Rattle.widget_model.specs.Pointer.{Pointer, Grab, no_grab, on_widget, drags}
 use Rattle.widget_model.specs.Clients.{is_joined}
 use Rattle.widget_model.specs.Fitting.{fits_table, fits_rules, has_slots, IsFitFilm}

@@ -1,6 +1,6 @@
 -- The bands of a desk have together at most as many pixels on the screen as the shares of its roster: each pixel of a
 -- band shows an admitted VScreen, which is in the roster, and no two pixels show one pixel of its film.
-use Rattle.std.proofs.Common.{◌≡◌, ℕ, ◌+◌, ◌-◌, ◌*◌, ◌/◌, ◌%◌, ◌<◌, ◌≤◌, ℤ, pos, Bool, true, false, cond, ◌&&◌, ◌||◌, not, nat_lt, nat_eq, nat_le, List, [], ◌∷◌, Option, Some, None, refl, sym, ap, ◌∙◌, subst, slice_get, arith}
+use Rattle.std.proofs.Common.{◌≡◌, ℕ, ◌+◌, ◌-◌, ◌*◌, ◌/◌, ◌%◌, ◌<◌, ◌≤◌, ℤ, pos, Bool, true, false, ◌&&◌, ◌||◌, nat_lt, nat_eq, nat_le, List, [], ◌∷◌, Option, Some, None, refl, sym, ap, ◌∙◌, subst, arith}
 use Rattle.std.proofs.lemmas.Bool.{true≢false, and_parts, and_from, eqb-true, or_left, or_right, leb-true, ltb-true}
 use Rattle.std.proofs.lemmas.List.Sums.{sum_by-cons}
 use Rattle.std.proofs.lemmas.Nat.{div-add-mod'}
@@ -10,8 +10,7 @@ use Rattle.std.specs.Option.{option_map_or, option_and_then}
 use Rattle.std.specs.Str.{bytes_eq}
 use Rattle.geom_core.specs.declared.rectangle.Rect.{Rect}
 use Rattle.geom_core.specs.Rect.{in_rect}
-use Rattle.vscreen_core.specs.declared.band.Band.{Band}
-use Rattle.vscreen_core.specs.Band.{has_pixel, share_of, band_size}
+use Rattle.vscreen_core.specs.Band.{has_pixel, share_of}
 use Rattle.vscreen_core.specs.Changes.{band_drawn, phase_before}
 use Rattle.vscreen_core.specs.FilmState.{FilmState, pixels_in}
 use Rattle.vscreen_core.proofs.Bands.{band_few}

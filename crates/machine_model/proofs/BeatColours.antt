@@ -1,6 +1,6 @@
 -- The colours of a beat: outside the bands that it draws each pixel keeps its own.
-use Rattle.std.proofs.Common.{◌≡◌, ℕ, zero, suc, [], ◌∷◌, length, slice_get, ◌+◌, ◌*◌, ◌<◌, ℤ, pos, ◌+ℤ◌, ◌-ℤ◌, Bool, true, false, cond, ◌&&◌, nat_lt, int_le, int_lt, get_or, unsigned_abs, List, map, Option, Some, None, IfSome, refl, sym, ap, ap₂, ◌∙◌, subst, arith}
-use Rattle.std.proofs.lemmas.Bool.{true≢false, and_parts, and_from, ltb-true, lt-ltb, cond-false}
+use Rattle.std.proofs.Common.{◌≡◌, ℕ, zero, suc, [], ◌∷◌, length, slice_get, ◌*◌, ◌<◌, ℤ, pos, ◌+ℤ◌, ◌-ℤ◌, Bool, true, false, cond, ◌&&◌, nat_lt, int_le, int_lt, get_or, unsigned_abs, List, Option, Some, None, IfSome, refl, sym, ap, ap₂, ◌∙◌, subst, arith}
+use Rattle.std.proofs.lemmas.Bool.{and_parts, and_from, ltb-true, cond-false}
 use Rattle.std.proofs.lemmas.Int.{ints}
 use Rattle.std.proofs.lemmas.List.Elements.{All-head, All-tail}
 use Rattle.std.specs.Option.{option_map, option_map_or, option_and_then}
@@ -24,14 +24,14 @@ use Rattle.vscreen_core.proofs.Films.{IsFilm-beaten}
 use Rattle.vscreen_core.proofs.Periods.{only_the_band, band_was_drawn, beaten_keeps}
 use Rattle.vscreen_core.proofs.Pictures.{rows_hold_pixels}
 use Rattle.widget_model.specs.Rows.{Row}
-use Rattle.widget_model.specs.Named.{has_name, row_named}
+use Rattle.widget_model.specs.Named.{has_name}
 use Rattle.widget_model.specs.Keys as keys
 use Rattle.widget_model.specs.Fitting.{IsFitFilm, HaveFitFilms}
 use Rattle.widget_model.proofs.Hanging.{find-element}
 use Rattle.scene_model.specs.Scene.{Scene}
 use Rattle.scene_model.specs.Values.{text_of, count_of, is_vertical, linked_value, number_of}
 use Rattle.scene_model.specs.LookOf.{is_held, look_by, look_of}
-use Rattle.scene_model.specs.Showing.{place_of, top_of, shows_at}
+use Rattle.scene_model.specs.Showing.{place_of, top_of}
 use Rattle.scene_model.specs.Bands as bands
 use Rattle.scene_model.specs.Bands.{lying_at}
 use Rattle.scene_model.specs.Colours.{look_at, colour_in, colour_at}

@@ -1,9 +1,8 @@
 -- A VScreen's film along a run, as long as the VScreen stays admitted: a beat at each tick, and frames between.
-use Rattle.std.proofs.Common.{◌≡◌, ℕ, ◌+◌, ◌<◌, ◌≤◌, Bool, true, false, cond, nat_lt, List, [], ◌∷◌, ◌++◌, Option, Some, None, IfSome, refl, sym, ap, ap₂, ◌∙◌, ◌⊎◌, inl, inr, subst, arith}
+use Rattle.std.proofs.Common.{◌≡◌, ℕ, ◌+◌, Bool, true, false, cond, nat_lt, List, [], ◌∷◌, ◌++◌, Option, Some, None, IfSome, refl, sym, ap, ap₂, ◌∙◌, inl, inr, subst, arith}
 use Rattle.std.proofs.lemmas.Bool.{true≢false, ltb-true}
 use Rattle.std.proofs.lemmas.List.Elements.{All-head, All-tail}
 use Rattle.std.proofs.lemmas.List.Sums.{sum_by-cons}
-use Rattle.std.specs.List.{All, count_by, flat_map}
 use Rattle.std.specs.Option.{option_map, option_map_or, option_and_then}
 use Rattle.cmd_words.specs.declared.inputs.Drew.{Drew}
 use Rattle.cmd_words.specs.declared.replies.Reply.{Reply}
@@ -12,7 +11,6 @@ use Rattle.vscreen_core.specs.FilmState.{FilmState, IsFilm}
 use Rattle.vscreen_core.specs.Changes.{committed, beaten, band_now, band_drawn}
 use Rattle.vscreen_core.specs.Period.{FilmStep, after, beats_in, bands_in}
 use Rattle.vscreen_core.specs.Period.FilmStep.{Commit, Beat}
-use Rattle.vscreen_core.proofs.Films.{IsFilm-committed, IsFilm-beaten}
 use Rattle.vscreen_core.proofs.Periods.{band_was_drawn, committed_keeps, beaten_keeps}
 use Rattle.widget_model.specs.Rows.{Row}
 use Rattle.widget_model.specs.Named.{has_name, row_named}

@@ -1,13 +1,12 @@
 -- Each period of an admitted VScreen, whatever else happens in it: each pixel of its film is in the band of one tick, and
 -- after each tick the pixels of its band show the frame that was the newest when the period began.
-use Rattle.std.proofs.Common.{◌≡◌, ℕ, ◌+◌, ◌*◌, ◌<◌, ◌≤◌, ℤ, pos, Bool, true, false, cond, ◌&&◌, ◌||◌, nat_lt, List, [], ◌∷◌, ◌++◌, Option, Some, None, refl, sym, ap, ap₂, ◌∙◌, subst, arith}
-use Rattle.std.proofs.lemmas.Bool.{true≢false, lt-ltb}
-use Rattle.std.proofs.lemmas.List.{flat_map_more, append_assoc}
+use Rattle.std.proofs.Common.{◌≡◌, ℕ, ◌+◌, ◌*◌, ◌<◌, ◌≤◌, pos, Bool, true, false, cond, ◌||◌, nat_lt, List, [], ◌∷◌, ◌++◌, Option, Some, refl, sym, ap, ap₂, ◌∙◌, subst, arith}
+use Rattle.std.proofs.lemmas.Bool.{lt-ltb}
+use Rattle.std.proofs.lemmas.List.{flat_map_more}
 use Rattle.std.proofs.lemmas.List.Elements.{All-nil, All-cons, All-head, All-tail, All-push}
 use Rattle.std.proofs.lemmas.List.Sums.{sum_by-cons, sum_by-append, sum_by_push}
-use Rattle.std.specs.List.{All, count_by, flat_map}
+use Rattle.std.specs.List.{All, count_by}
 use Rattle.std.specs.Option.{option_map_or}
-use Rattle.geom_core.specs.declared.rectangle.Rect.{Rect}
 use Rattle.cmd_words.specs.declared.inputs.Drew.{Drew}
 use Rattle.kind_core.specs.declared.shapes.Shape.{Shape}
 use Rattle.vscreen_core.specs.declared.band.Band.{Band}
@@ -17,22 +16,21 @@ use Rattle.vscreen_core.specs.FilmState.{FilmState, IsFilm, pixels_in}
 use Rattle.vscreen_core.specs.Laws.{StartsPeriod, times_drawn}
 use Rattle.vscreen_core.specs.Period.{FilmStep, after, beats_in, bands_in}
 use Rattle.vscreen_core.specs.Period.FilmStep.{Commit, Beat}
-use Rattle.vscreen_core.specs.Picture.{pixel_number, pixel_of}
+use Rattle.vscreen_core.specs.Picture.{pixel_of}
 use Rattle.vscreen_core.proofs.Periods.{committed_keeps, beaten_keeps, band_was_drawn, each_pixel_once, pixels_of_one_frame}
 use Rattle.scene_model.specs.Showing.{place_of}
 use Rattle.scene_model.specs.Bands.{lying_at, shows_band}
-use Rattle.desk_model.specs.Desk.{Desk}
 use Rattle.desk_model.specs.Seen.{scene_of, colour}
 use Rattle.desk_model.specs.Beat.{in_band}
-use Rattle.machine_model.specs.State.{State, IsState, byte_at, EachPixel}
+use Rattle.machine_model.specs.State.{State, IsState, byte_at}
 use Rattle.machine_model.specs.Events.{Event, Answer}
 use Rattle.machine_model.specs.Events.Event.{Connect, Hello, Bye, Ask, Feed, Misread, Tick, CountDirty, LookAt, Dump}
 use Rattle.machine_model.specs.Events.Answer.{Drawn}
 use Rattle.machine_model.specs.Step.{Step, Ticked, was_cleaned}
 use Rattle.machine_model.specs.Run.{Moment, Run, state_after}
-use Rattle.machine_model.specs.Periods.{film_in, is_admitted_in, admits, StaysAdmitted, is_tick, ticks_in, IsInPeriod, band_of_moment, bands_of, EachPixelOnce, number_at, ShowsFrame, ShowsOneFrame, DrawsPeriod, DrawsEachPeriod}
+use Rattle.machine_model.specs.Periods.{film_in, is_admitted_in, admits, StaysAdmitted, is_tick, ticks_in, IsInPeriod, band_of_moment, bands_of, ShowsFrame, DrawsPeriod, DrawsEachPeriod}
 use Rattle.machine_model.proofs.FilmPixels.{number_on, number_on-below}
-use Rattle.machine_model.proofs.FilmRuns.{IsFilm-state, film_in-ticked, period-after, FilmRuns, film_runs}
+use Rattle.machine_model.proofs.FilmRuns.{IsFilm-state, film_in-ticked, period-after, film_runs}
 use Rattle.machine_model.proofs.RunParts.{state_after-append, Run-append, Run-parts, IsState-run}
 use Rattle.machine_model.proofs.ShownBands.{ShowsDrawn-shows_band, in_band-drawn, colour-drawn}
 use Rattle.machine_model.proofs.Steps.{IsState-step, shape-step}

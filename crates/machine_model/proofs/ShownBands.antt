@@ -1,6 +1,6 @@
 -- A pixel of the screen that shows a band of a film: it lies in a band of the desk, and its colour is the film's byte of
 -- its number.
-use Rattle.std.proofs.Common.{◌≡◌, ℕ, ◌+◌, ◌*◌, ◌<◌, ℤ, pos, ◌-ℤ◌, Bool, true, false, cond, ◌&&◌, nat_lt, get_or, length, unsigned_abs, List, Option, Some, None, IfSome, refl, sym, ap, ap₂, ◌∙◌, subst, arith}
+use Rattle.std.proofs.Common.{◌≡◌, ℕ, ℤ, pos, ◌-ℤ◌, Bool, true, false, ◌&&◌, nat_lt, get_or, unsigned_abs, List, Option, Some, None, IfSome, refl, sym, ap, ◌∙◌, subst}
 use Rattle.std.proofs.lemmas.Bool.{true≢false, and_parts, and_from, lt-ltb, cond-true}
 use Rattle.std.specs.Option.{option_map_or, option_and_then}
 use Rattle.geom_core.specs.declared.rectangle.Rect.{Rect}
@@ -15,12 +15,11 @@ use Rattle.look_core.specs.Colour.{colour_in_row, colour_of}
 use Rattle.vscreen_core.specs.declared.band.Band.{Band}
 use Rattle.vscreen_core.specs.Band.{has_pixel}
 use Rattle.vscreen_core.specs.Changes.{band_drawn}
-use Rattle.vscreen_core.specs.FilmState.{FilmState, IsFilm, pixels_in}
-use Rattle.vscreen_core.specs.Picture.{pixel_of, pixel_number, row_of}
+use Rattle.vscreen_core.specs.FilmState.{FilmState, IsFilm}
+use Rattle.vscreen_core.specs.Picture.{pixel_of, row_of}
 use Rattle.vscreen_core.proofs.Pictures.{rows_hold_pixels}
 use Rattle.widget_model.specs.Rows.{Row}
 use Rattle.widget_model.specs.Named.{has_name, row_named}
-use Rattle.widget_model.specs.Keys as keys
 use Rattle.widget_model.specs.Keys.{same_key}
 use Rattle.widget_model.specs.Fitting.{IsFitFilm}
 use Rattle.widget_model.proofs.Hanging.{find-element}
@@ -37,7 +36,7 @@ use Rattle.desk_model.specs.Seen.{scene_of, colour}
 use Rattle.desk_model.specs.Beat.{in_band, in_band_of}
 use Rattle.machine_model.proofs.BeatColours.{film_look, screen_look, fit_film}
 use Rattle.machine_model.proofs.DamageKeys.{same_key-is}
-use Rattle.machine_model.proofs.FilmPixels.{IsApart-in_span, number_on, number_on-below}
+use Rattle.machine_model.proofs.FilmPixels.{IsApart-in_span, number_on}
 
 -- a film's pixel shows the byte of its number
 film_shows : (film : FilmState) (place : Rect) (x y : ℤ) → IsFilm film → in_rect (lying_at place film.width film.height) x y ≡ true → colour_in (film_look film) place x y ≡ pixel_of film.shown (number_on (lying_at place film.width film.height) x y)
