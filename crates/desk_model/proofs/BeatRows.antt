@@ -1,12 +1,11 @@
 -- What a beat makes of a row: its film is beaten where it is admitted, and all else stays. So the rows of a beat move
 -- nothing, and go by the same names.
-use Rattle.std.proofs.Common.{◌≡◌, ℕ, ℤ, ◌+◌, ◌*◌, ◌<◌, Bool, true, false, cond, nat_lt, List, length, map, Option, Some, None, refl, sym, ap, ap₂, ◌∙◌, slice_get}
+use Rattle.std.proofs.Common.{◌≡◌, ℕ, ℤ, ◌+◌, ◌*◌, Bool, true, false, cond, nat_lt, List, length, map, Option, Some, None, refl, ap, ap₂, ◌∙◌}
 use Rattle.std.proofs.lemmas.Bool.{ltb-true}
 use Rattle.std.specs.Option.{option_map, option_map_or, option_and_then}
 use Rattle.kind_core.specs.declared.kinds.Kind.{Kind}
 use Rattle.kind_core.specs.declared.kinds.Kind.TheVariants.{Window, Grid, Frame, Button, Label, Entry, Scale, Scrollbar, Variable, VScreen}
 use Rattle.kind_core.specs.declared.kinds.Attr.TheVariants.{Text, Value, Y}
-use Rattle.kind_core.specs.declared.shapes.Cell.{Cell}
 use Rattle.kind_core.specs.Effective.{label_text, frame_offset}
 use Rattle.vscreen_core.specs.FilmState.{FilmState, IsFilm}
 use Rattle.vscreen_core.specs.Changes.{beaten}
@@ -23,7 +22,7 @@ use Rattle.scene_model.specs.Values.{text_of, number_of, linked_value, offset_of
 use Rattle.scene_model.specs.Tracks.{rules_of}
 use Rattle.scene_model.specs.Least.{own_size}
 use Rattle.scene_model.specs.Placing.{window_span}
-use Rattle.scene_model.specs.Still.{AsksTheSame, MovesNothing}
+use Rattle.scene_model.specs.Still.{MovesNothing}
 use Rattle.desk_model.specs.Screens.{film_named, with_film_changed}
 use Rattle.desk_model.specs.Beat.{row_beaten}
 

@@ -1,31 +1,28 @@
 -- A beat keeps what holds of a desk.
-use Rattle.std.proofs.Common.{◌≡◌, ℕ, ◌<◌, Bool, true, false, cond, ◌&&◌, ◌||◌, not, nat_lt, nat_eq, List, [], ◌∷◌, map, Option, Some, None, IfSome, refl, sym, ap, ap₂, ◌∙◌, subst, slice_get, inr}
-use Rattle.std.proofs.lemmas.List.Elements.{All-nil, All-cons, All-head, All-tail}
+use Rattle.std.proofs.Common.{◌≡◌, ℕ, Bool, true, cond, nat_lt, List, map, Option, Some, None, refl, sym, ap, ap₂, ◌∙◌, subst, inr}
 use Rattle.std.proofs.lemmas.List.Folds.{list_all-map}
-use Rattle.std.specs.List.{list_all, list_any}
-use Rattle.std.specs.Option.{option_map, option_map_or}
-use Rattle.kind_core.specs.declared.kinds.Kind.{Kind}
-use Rattle.kind_core.specs.declared.kinds.Kind.TheVariants.{VScreen}
-use Rattle.vscreen_core.specs.FilmState.{FilmState, IsFilm}
+use Rattle.std.specs.List.{list_all}
+use Rattle.vscreen_core.specs.FilmState.{FilmState}
 use Rattle.vscreen_core.specs.Band.{share_of}
 use Rattle.widget_model.specs.Rows.{Row}
-use Rattle.widget_model.specs.Kinds.{any_kind, counts_with, is_variable_kind, is_window_kind}
+use Rattle.widget_model.specs.Kinds.{any_kind, counts_with, is_window_kind}
 use Rattle.widget_model.specs.Named.{row_named, is_kind_of}
-use Rattle.widget_model.specs.Trees.{root_of}
 use Rattle.widget_model.specs.Pointer.{Pointer, Grab, no_grab, on_widget, drags}
 use Rattle.widget_model.specs.Clients.{is_joined}
-use Rattle.widget_model.specs.Fitting.{fits_table, fits_rules, has_slots, IsFitFilm, HaveFitFilms}
+use Rattle.widget_model.specs.Fitting.{fits_table, fits_rules, has_slots, IsFitFilm}
 use Rattle.widget_model.proofs.Hanging.{all_at, all_from}
 use Rattle.widget_model.proofs.Planting.{IsPlanted-map}
 use Rattle.scene_model.proofs.StillTops.{root_of-still}
-use Rattle.desk_model.specs.Desk.{Desk, Admission, is_admission, is_open}
-use Rattle.desk_model.specs.DeskFacts.{IsDesk, IsRosterOf, links_right, links_by_kind, has_its_share, is_listed}
+use Rattle.desk_model.specs.Desk.{Desk, is_open}
+use Rattle.desk_model.specs.DeskFacts.{links_right, links_by_kind}
 use Rattle.desk_model.specs.DeskLaws.{BeatsKeepDesks}
 use Rattle.desk_model.specs.LetGo.{is_in_window, grab_left, focus_left, let_go}
-use Rattle.desk_model.specs.Screens.{film_named}
+use Rattle.desk_model.specs.Screens.{roster_limit}
 use Rattle.desk_model.specs.Beat.{row_beaten, beat}
-use Rattle.desk_model.proofs.KeptRows.{AreNamedApart-map, rows_counted-map, is_kind_of-map, links_right-map}
-use Rattle.desk_model.proofs.BeatRows.{film_beaten, film_beaten-keeps, IsFilm-film_beaten, row_beaten-is, client-beaten, name-beaten, kind-beaten, attached-beaten, link-beaten, film-beaten, LeavesNode-beaten, is_admitted-beaten, film_named-beaten, MovesNothing-beaten}
+use Rattle.desk_model.proofs.KeptRows.{AreNamedApart-map, rows_counted-map, is_kind_of-map, links_right-map, HaveFitFilms-map}
+use Rattle.desk_model.proofs.Rosters.{set_aside, share_in, IsRosterOf-map}
+use Rattle.desk_model.proofs.KeptScreens.{IsFitFilm-changed, share_in-changed}
+use Rattle.desk_model.proofs.BeatRows.{film_beaten, film_beaten-keeps, IsFilm-film_beaten, row_beaten-is, client-beaten, attached-beaten, LeavesNode-beaten, LeavesNames-beaten, MovesNothing-beaten}
 
 -- a test that a row passes as it did
 all-beaten : (p q : Row → Bool) (rows : List Row) → ((row : Row) → q (row_beaten row) ≡ p row) → list_all p rows ≡ true → list_all q (map row_beaten rows) ≡ true
@@ -34,50 +31,19 @@ all-beaten p q rows same all =
 
 -- the films stay whole
 IsFitFilm-beaten : (row : Row) → IsFitFilm row → IsFitFilm (row_beaten row)
-IsFitFilm-beaten row fit =
-    let whole : IfSome (option_map film_beaten row.film) (λ (film : FilmState). (row.kind ≡ VScreen) × IsFilm film) = by row.film fit in
-    subst (λ (r : Row). IsFitFilm r) (sym (row_beaten-is row)) whole
+IsFitFilm-beaten row fit = subst (λ (r : Row). IsFitFilm r) (sym (row_beaten-is row)) (IsFitFilm-changed film_beaten row IsFilm-film_beaten fit)
+
+-- and as much is set aside for them
+set_aside-beaten : (film : FilmState) → set_aside (film_beaten film) ≡ set_aside film
+set_aside-beaten film =
+    let keeps = film_beaten-keeps film in
+    ap₂ (λ (width height : ℕ). aside width height (film_beaten film).period) keeps.width keeps.height ∙ ap (λ (period : ℕ). aside film.width film.height period) keeps.period
   where
-    by : (o : Option FilmState) → IfSome o (λ (film : FilmState). (row.kind ≡ VScreen) × IsFilm film) → IfSome (option_map film_beaten o) (λ (film : FilmState). (row.kind ≡ VScreen) × IsFilm film)
-    by None fit = tt
-    by (Some film) fit = (fit.0, IsFilm-film_beaten film fit.1)
+    aside : ℕ → ℕ → ℕ → Option ℕ
+    aside width height period = cond (nat_lt 0 period) (Some (share_of width height period)) None
 
-HaveFitFilms-beaten : (rows : List Row) → HaveFitFilms rows → HaveFitFilms (map row_beaten rows)
-HaveFitFilms-beaten [] films = All-nil IsFitFilm
-HaveFitFilms-beaten (row ∷ rows) films =
-    All-cons IsFitFilm (row_beaten row) (map row_beaten rows) (IsFitFilm-beaten row (All-head IsFitFilm row rows films)) (HaveFitFilms-beaten rows (All-tail IsFitFilm row rows films))
-
--- and so do their shares
-has_its_share-beaten : (rows : List Row) (admission : Admission) → has_its_share (map row_beaten rows) admission ≡ has_its_share rows admission
-has_its_share-beaten rows admission =
-    ap (λ (o : Option FilmState). option_map_or right o false) (film_named-beaten rows admission.client admission.name) ∙ by (film_named rows admission.client admission.name)
-  where
-    right : FilmState → Bool
-    right film = nat_lt 0 film.period && nat_eq admission.share (share_of film.width film.height film.period)
-
-    by : (o : Option FilmState) → option_map_or right (option_map film_beaten o) false ≡ option_map_or right o false
-    by None = refl
-    by (Some film) =
-        let keeps = film_beaten-keeps film in
-        ap₂ (λ (width height : ℕ). nat_lt 0 (film_beaten film).period && nat_eq admission.share (share_of width height (film_beaten film).period)) keeps.width keeps.height
-        ∙ ap (λ (period : ℕ). nat_lt 0 period && nat_eq admission.share (share_of film.width film.height period)) keeps.period
-
-is_listed-beaten : (roster : List Admission) (row : Row) → is_listed roster (row_beaten row) ≡ is_listed roster row
-is_listed-beaten roster row =
-    ap (λ (b : Bool). not b || list_any (is_admission (row_beaten row).client (row_beaten row).name) roster) (is_admitted-beaten row)
-    ∙ ap₂ (λ (client : ℕ) (name : List ℕ). is_listed-at client name) (client-beaten row) (name-beaten row)
-  where
-    is_listed-at : ℕ → List ℕ → Bool
-    is_listed-at client name = is_listed roster (record row { client = client; name = name })
-
-roster-beaten : (limit : ℕ) (rows : List Row) (roster : List Admission) → IsRosterOf limit rows roster → IsRosterOf limit (map row_beaten rows) roster
-roster-beaten limit rows roster is =
-    record {
-      shares = all_from (has_its_share (map row_beaten rows)) roster (λ i admission there. has_its_share-beaten rows admission ∙ all_at (has_its_share rows) roster i admission is.shares there);
-      once = is.once;
-      all = all-beaten (is_listed roster) (is_listed roster) rows (is_listed-beaten roster) is.all;
-      within = is.within;
-    }
+share_in-beaten : (row : Row) → share_in (row_beaten row) ≡ share_in row
+share_in-beaten row = ap (λ (r : Row). share_in r) (row_beaten-is row) ∙ share_in-changed film_beaten row set_aside-beaten
 
 -- the pointer lets go of nothing more
 grab_left-same : (p q : ℕ × List ℕ → Bool) → ((key : ℕ × List ℕ) → p key ≡ q key) → (grab : Grab) → grab_left p grab ≡ grab_left q grab
@@ -122,8 +88,8 @@ beats_keep desk is =
       fitting = all-beaten fits_table fits_table desk.rows (λ row. ap (λ (r : Row). fits_table r) (row_beaten-is row)) is.fitting;
       rules = all-beaten fits_rules fits_rules desk.rows (λ row. ap (λ (r : Row). fits_rules r) (row_beaten-is row)) is.rules;
       slots = all-beaten has_slots has_slots desk.rows (λ row. ap (λ (r : Row). has_slots r) (row_beaten-is row)) is.slots;
-      films = HaveFitFilms-beaten desk.rows is.films;
-      roster = roster-beaten _ desk.rows desk.roster is.roster;
+      films = HaveFitFilms-map desk.rows row_beaten (λ i row there fit. IsFitFilm-beaten row fit) is.films;
+      roster = IsRosterOf-map (roster_limit desk) desk.rows desk.roster row_beaten LeavesNames-beaten (λ i row there. share_in-beaten row) is.roster;
       rings = is.rings;
       windows = all_from (λ (window : ℕ × List ℕ). is_kind_of is_window_kind (row_named (map row_beaten desk.rows) window.0 window.1)) desk.windows (λ i window there. is_kind_of-map desk.rows row_beaten is_window_kind window.0 window.1 LeavesNode-beaten ∙ all_at (λ (window : ℕ × List ℕ). is_kind_of is_window_kind (row_named desk.rows window.0 window.1)) desk.windows i window is.windows there);
       once = is.once;

@@ -1,6 +1,6 @@
 -- The bands of a desk have together at most as many pixels on the screen as the shares of its roster: each pixel of a
 -- band shows an admitted VScreen, which is in the roster, and no two pixels show one pixel of its film.
-use Rattle.std.proofs.Common.{◌≡◌, ℕ, ◌+◌, ◌-◌, ◌*◌, ◌/◌, ◌%◌, ◌<◌, ◌≤◌, ℤ, pos, Bool, true, false, cond, ◌&&◌, ◌||◌, not, nat_lt, nat_eq, nat_le, List, [], ◌∷◌, Option, Some, None, refl, sym, ap, ◌∙◌, subst, slice_get, arith}
+use Rattle.std.proofs.Common.{◌≡◌, ℕ, ◌+◌, ◌-◌, ◌*◌, ◌/◌, ◌%◌, ◌<◌, ◌≤◌, ℤ, pos, Bool, true, false, ◌&&◌, ◌||◌, nat_lt, nat_eq, nat_le, List, [], ◌∷◌, Option, Some, None, refl, sym, ap, ◌∙◌, subst, arith}
 use Rattle.std.proofs.lemmas.Bool.{true≢false, and_parts, and_from, eqb-true, or_left, or_right, leb-true, ltb-true}
 use Rattle.std.proofs.lemmas.List.Sums.{sum_by-cons}
 use Rattle.std.proofs.lemmas.Nat.{div-add-mod'}
@@ -10,25 +10,24 @@ use Rattle.std.specs.Option.{option_map_or, option_and_then}
 use Rattle.std.specs.Str.{bytes_eq}
 use Rattle.geom_core.specs.declared.rectangle.Rect.{Rect}
 use Rattle.geom_core.specs.Rect.{in_rect}
-use Rattle.vscreen_core.specs.declared.band.Band.{Band}
-use Rattle.vscreen_core.specs.Band.{has_pixel, share_of, band_size}
+use Rattle.vscreen_core.specs.Band.{has_pixel, share_of}
 use Rattle.vscreen_core.specs.Changes.{band_drawn, phase_before}
 use Rattle.vscreen_core.specs.FilmState.{FilmState, pixels_in}
 use Rattle.vscreen_core.proofs.Bands.{band_few}
 use Rattle.widget_model.specs.Rows.{Row}
-use Rattle.widget_model.specs.Named.{has_name, row_named}
+use Rattle.widget_model.specs.Named.{row_named}
 use Rattle.widget_model.specs.Keys.{same_key}
 use Rattle.widget_model.specs.Trees.{is_admitted}
-use Rattle.widget_model.proofs.Hanging.{all_at, find-element, IsNamed-row_named}
 use Rattle.scene_model.specs.Shapes.{area}
 use Rattle.scene_model.specs.Bands as bands
 use Rattle.scene_model.specs.Bands.{lying_at, is_top}
 use Rattle.scene_model.specs.Showing.{place_of, top_of}
 use Rattle.desk_model.specs.Desk.{Desk, Admission, is_admission}
-use Rattle.desk_model.specs.DeskFacts.{IsDesk, has_its_share, is_listed}
+use Rattle.desk_model.specs.DeskFacts.{IsDesk, has_its_share}
 use Rattle.desk_model.specs.Screens.{film_named, shares_of, roster_limit}
 use Rattle.desk_model.specs.Seen.{scene_of}
 use Rattle.desk_model.specs.Beat.{beat, in_band, in_band_of, is_banded, band_count}
+use Rattle.desk_model.proofs.FilmNames.{listed_where_admitted}
 use Rattle.desk_model.proofs.KeptBeat.{beats_keep}
 use Rattle.machine_model.proofs.Counting.{count_by-more, count_by-or, count_by-none, StandsFor, range-places}
 use Rattle.machine_model.proofs.DamageKeys.{same_key-own}
@@ -137,19 +136,12 @@ any-more p q (x ∷ xs) more some = by (any-more p q xs more) (p x) refl some
 
 -- an admitted VScreen is in the roster
 in_roster : (desk : Desk) (key : ℕ × List ℕ) (film : FilmState) → IsDesk desk → film_named desk.rows key.0 key.1 ≡ Some film → nat_lt 0 film.period ≡ true → list_any (is_admission key.0 key.1) desk.roster ≡ true
-in_roster desk key film is found admitted = by (row_named desk.rows key.0 key.1) refl found
+in_roster desk key film is found admitted =
+    listed_where_admitted (roster_limit desk) desk.rows desk.roster key.0 key.1 is.roster ∙ by (row_named desk.rows key.0 key.1) found
   where
-    listed : (row : Row) → is_admitted row ≡ true → is_listed desk.roster row ≡ true → list_any (is_admission row.client row.name) desk.roster ≡ true
-    listed row on h = sym (ap (λ (b : Bool). not b || list_any (is_admission row.client row.name) desk.roster) on) ∙ h
-
-    by : (o : Option Row) → row_named desk.rows key.0 key.1 ≡ o → option_and_then (λ (row : Row). row.film) o ≡ Some film → list_any (is_admission key.0 key.1) desk.roster ≡ true
-    by None there h = absurd (cc)
-    by (Some row) there h =
-        let at = find-element (has_name key.0 key.1) desk.rows row there in
-        let named = IsNamed-row_named desk.rows key.0 key.1 row there in
-        let on : is_admitted row ≡ true = ap (λ (o : Option FilmState). option_map_or (λ (f : FilmState). nat_lt 0 f.period) o false) h ∙ admitted in
-        let there : list_any (is_admission row.client row.name) desk.roster ≡ true = listed row on (all_at (is_listed desk.roster) desk.rows at.0 row is.roster.all at.1) in
-        sym (ap (λ (client : ℕ). list_any (is_admission client key.1) desk.roster) named.client_is) ∙ (sym (ap (λ (name : List ℕ). list_any (is_admission row.client name) desk.roster) named.name_is) ∙ there)
+    by : (o : Option Row) → option_and_then (λ (row : Row). row.film) o ≡ Some film → option_map_or is_admitted o false ≡ true
+    by None h = absurd (cc)
+    by (Some row) h = ap (λ (o : Option FilmState). option_map_or (λ (f : FilmState). nat_lt 0 f.period) o false) h ∙ admitted
 
 -- each pixel in a band is in that of an admission
 pixel_of_one : (desk : Desk) (k : ℕ) → IsDesk desk → is_banded desk k ≡ true → list_any (λ (admission : Admission). bands_of desk admission k) desk.roster ≡ true

@@ -1,6 +1,6 @@
 -- The colours of a beat: outside the bands that it draws each pixel keeps its own.
-use Rattle.std.proofs.Common.{◌≡◌, ℕ, zero, suc, [], ◌∷◌, length, slice_get, ◌+◌, ◌*◌, ◌<◌, ℤ, pos, ◌+ℤ◌, ◌-ℤ◌, Bool, true, false, cond, ◌&&◌, nat_lt, int_le, int_lt, get_or, unsigned_abs, List, map, Option, Some, None, IfSome, refl, sym, ap, ap₂, ◌∙◌, subst, arith}
-use Rattle.std.proofs.lemmas.Bool.{true≢false, and_parts, and_from, ltb-true, lt-ltb, cond-false}
+use Rattle.std.proofs.Common.{◌≡◌, ℕ, zero, suc, [], ◌∷◌, length, slice_get, ◌*◌, ◌<◌, ℤ, pos, ◌+ℤ◌, ◌-ℤ◌, Bool, true, false, cond, ◌&&◌, nat_lt, int_le, int_lt, get_or, unsigned_abs, List, Option, Some, None, IfSome, refl, sym, ap, ap₂, ◌∙◌, subst, arith}
+use Rattle.std.proofs.lemmas.Bool.{and_parts, and_from, ltb-true, cond-false}
 use Rattle.std.proofs.lemmas.Int.{ints}
 use Rattle.std.proofs.lemmas.List.Elements.{All-head, All-tail}
 use Rattle.std.specs.Option.{option_map, option_map_or, option_and_then}
@@ -24,14 +24,14 @@ use Rattle.vscreen_core.proofs.Films.{IsFilm-beaten}
 use Rattle.vscreen_core.proofs.Periods.{only_the_band, band_was_drawn, beaten_keeps}
 use Rattle.vscreen_core.proofs.Pictures.{rows_hold_pixels}
 use Rattle.widget_model.specs.Rows.{Row}
-use Rattle.widget_model.specs.Named.{has_name, row_named}
+use Rattle.widget_model.specs.Named.{has_name}
 use Rattle.widget_model.specs.Keys as keys
 use Rattle.widget_model.specs.Fitting.{IsFitFilm, HaveFitFilms}
 use Rattle.widget_model.proofs.Hanging.{find-element}
 use Rattle.scene_model.specs.Scene.{Scene}
 use Rattle.scene_model.specs.Values.{text_of, count_of, is_vertical, linked_value, number_of}
 use Rattle.scene_model.specs.LookOf.{is_held, look_by, look_of}
-use Rattle.scene_model.specs.Showing.{place_of, top_of, shows_at}
+use Rattle.scene_model.specs.Showing.{place_of, top_of}
 use Rattle.scene_model.specs.Bands as bands
 use Rattle.scene_model.specs.Bands.{lying_at}
 use Rattle.scene_model.specs.Colours.{look_at, colour_in, colour_at}
@@ -75,7 +75,7 @@ pixel-beaten film place x y is some lies low out =
 shown_size-beaten : (film : FilmState) → IsFilm film → 0 < film.period → length (beaten film).shown ≡ film.width * film.height
 shown_size-beaten film is some = let keeps = beaten_keeps film in (IsFilm-beaten film is some).shown_size ∙ ap₂ (λ (w h : ℕ). w * h) keeps.width keeps.height
 
-abbrev film_look : FilmState → Seen
+abbrev pub film_look : FilmState → Seen
 film_look film = seen.film film.width film.height film.shown
 
 -- so its colours are kept
@@ -107,7 +107,7 @@ film_colour-beaten film place x y is some there out = by (nat_lt u film.width) r
     by false across c down = refl
 
 -- what a VScreen with this film shows
-abbrev screen_look : Option FilmState → Seen
+abbrev pub screen_look : Option FilmState → Seen
 screen_look film = option_map_or film_look film seen.no_film
 
 -- whether the pixel is in the band that was drawn of the film
@@ -146,7 +146,7 @@ row_colour-beaten scene row place x y is there out Variable = refl
 row_colour-beaten scene row place x y is there out VScreen = screen_colour-beaten row.film place x y is there out
 
 -- the film of a row that is there is whole
-fit_film : (rows : List Row) (i : ℕ) (row : Row) → HaveFitFilms rows → slice_get rows i ≡ Some row → IsFitFilm row
+pub fit_film : (rows : List Row) (i : ℕ) (row : Row) → HaveFitFilms rows → slice_get rows i ≡ Some row → IsFitFilm row
 fit_film [] i row films there = absurd (cc)
 fit_film (first ∷ rows) zero row films there = let same : first ≡ row = cc in subst (λ (r : Row). IsFitFilm r) same (All-head IsFitFilm first rows films)
 fit_film (first ∷ rows) (suc i) row films there = fit_film rows i row (All-tail IsFitFilm first rows films) there

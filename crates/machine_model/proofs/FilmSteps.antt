@@ -1,11 +1,10 @@
 -- What a step of a desk, but for a tick, makes of a VScreen's film: it stays, or takes a frame, or is admitted no more.
 -- Only `admit` begins a period.
-use Rattle.std.proofs.Common.{◌≡◌, ℕ, ℤ, Bool, true, false, cond, ◌&&◌, not, nat_eq, nat_lt, List, [], ◌∷◌, ◌++◌, map, unsigned_abs, is_none, Option, Some, None, refl, sym, ap, ap₂, ◌∙◌, ◌⊎◌, inl, inr, subst}
-use Rattle.std.proofs.lemmas.Bool.{true≢false, eqb-true, eq-eqb, and_parts, and_from}
-use Rattle.std.proofs.lemmas.List.Folds.{find-append}
+use Rattle.std.proofs.Common.{◌≡◌, ℕ, ℤ, Bool, true, false, cond, ◌&&◌, not, nat_eq, nat_lt, List, [], ◌∷◌, unsigned_abs, is_none, Option, Some, None, refl, sym, ap, ap₂, ◌∙◌, ◌⊎◌, inl, inr, subst}
+use Rattle.std.proofs.lemmas.Bool.{true≢false, eq-eqb, and_from}
 use Rattle.std.proofs.lemmas.Slice.Eq.{bytes_eq-Decides}
-use Rattle.std.specs.List.{find, filter}
-use Rattle.std.specs.Option.{option_map, option_map_or, option_and_then, option_or}
+use Rattle.std.specs.List.{filter}
+use Rattle.std.specs.Option.{option_map, option_map_or, option_and_then}
 use Rattle.std.specs.Str.{bytes_eq}
 use Rattle.kind_core.specs.declared.kinds.Attr.{Attr}
 use Rattle.kind_core.specs.declared.kinds.Attr.TheVariants.{Value, Text, Caret, X, Y}
@@ -24,7 +23,7 @@ use Rattle.vscreen_core.specs.Changes.{committed, settled, begun}
 use Rattle.widget_model.specs.Rows.{Row, new_row, with_attr, with_attached, with_link, with_binding, with_film}
 use Rattle.widget_model.specs.Named.{has_name, row_named, with_named, without_named, rows_of_others}
 use Rattle.widget_model.specs.Keys.{same_key}
-use Rattle.widget_model.proofs.Hanging.{LeavesNames, changed, LeavesNames-changed, row_named-map, row_named-filter, IsNamed-row_named, IsNamed-from}
+use Rattle.widget_model.proofs.Hanging.{LeavesNames, changed, LeavesNames-changed, row_named-map, IsNamed-row_named, IsNamed-from}
 use Rattle.scene_model.specs.declared.axis.Axis.{Axis}
 use Rattle.scene_model.specs.declared.axis.Axis.TheVariants.{Across, Down}
 use Rattle.desk_model.specs.Desk.{Desk, is_connected}
@@ -44,6 +43,7 @@ use Rattle.desk_model.specs.Commands.{row_of, step}
 use Rattle.desk_model.specs.Feeding.{with_value_at, with_number, with_text, with_moved, rows_after, carried_out, effects_on, step_feed}
 use Rattle.desk_model.specs.InputEffects.{Effects}
 use Rattle.desk_model.specs.LetGo.{let_go}
+use Rattle.desk_model.proofs.FilmNames.{film_named-left, film_named-push, film_named-filter}
 use Rattle.machine_model.specs.Events.Event.{Ask}
 use Rattle.machine_model.specs.Events.Answer.{Replied}
 use Rattle.machine_model.specs.Periods.{admits}
@@ -87,7 +87,7 @@ record LeavesFilm (change : Row → Row) : Type 0 where
   film : (row : Row) → (change row).film ≡ row.film
 
 go-film : (rows : List Row) (client : ℕ) (name : List ℕ) (change : Row → Row) (key : ℕ × List ℕ) → LeavesFilm change → FilmsGo rows (with_named client name change rows) key
-go-film rows client name change key leaves = go-named rows client name change key leaves.names (λ row found named. inl (leaves.film row))
+go-film rows client name change key leaves = inl (film_named-left rows client name change key.0 key.1 leaves.names leaves.film)
 
 LeavesFilm-attrs : (options : List (Attr × value.Value)) → LeavesFilm (with_attrs options)
 LeavesFilm-attrs options = record { names = record { client = client options; name = name options }; film = film options }
@@ -108,61 +108,33 @@ LeavesFilm-track : (axis : Axis) (index : ℕ) (options : List (ConfigOption × 
 LeavesFilm-track Across index options = record { names = record { client = λ row. refl; name = λ row. refl }; film = λ row. refl }
 LeavesFilm-track Down index options = record { names = record { client = λ row. refl; name = λ row. refl }; film = λ row. refl }
 
--- a row more
-go-push : (rows : List Row) (row : Row) (key : ℕ × List ℕ) → row.film ≡ None → FilmsGo rows (rows ++ row ∷ []) key
-go-push rows row key none =
-    goes-from (film_named rows key.0 key.1) (option_and_then (λ (r : Row). r.film) (option_or (row_named rows key.0 key.1) (cond (has_name key.0 key.1 row) (Some row) None))) (film_named (rows ++ row ∷ []) key.0 key.1)
-    (ap (option_and_then (λ (r : Row). r.film)) (sym (find-append (has_name key.0 key.1) rows (row ∷ []))))
-    (by (row_named rows key.0 key.1))
+-- rows less, left out by their names
+row_named-out : (test : ℕ → List ℕ → Bool) (rows : List Row) (client : ℕ) (name : List ℕ) → test client name ≡ false → row_named (filter (λ (row : Row). test row.client row.name) rows) client name ≡ None
+row_named-out test [] client name out = refl
+row_named-out test (row ∷ rows) client name out = by (row_named-out test rows client name out) (test row.client row.name) refl (has_name client name row) refl
   where
-    last : (b : Bool) → is_on (option_and_then (λ (r : Row). r.film) (cond b (Some row) None)) ≡ false
-    last true = ap is_on none
-    last false = refl
+    own : has_name client name row ≡ true → test row.client row.name ≡ false
+    own named =
+        let is = IsNamed-from client name row named in
+        ap₂ (λ (owner : ℕ) (other : List ℕ). test owner other) is.client_is is.name_is ∙ out
 
-    by : (o : Option Row) → FilmGoes (option_and_then (λ (r : Row). r.film) o) (option_and_then (λ (r : Row). r.film) (option_or o (cond (has_name key.0 key.1 row) (Some row) None)))
-    by None = inr (inr (last (has_name key.0 key.1 row)))
-    by (Some found) = inl refl
+    by : row_named (filter (λ (row : Row). test row.client row.name) rows) client name ≡ None → (b : Bool) → test row.client row.name ≡ b → (c : Bool) → has_name client name row ≡ c → row_named (cond b (row ∷ filter (λ (row : Row). test row.client row.name) rows) (filter (λ (row : Row). test row.client row.name) rows)) client name ≡ None
+    by rest true kept true named = absurd (true≢false (sym kept ∙ own named))
+    by rest true kept false other = rw other rest
+    by rest false gone c named = rest
 
--- a row less
-row_named-without : (rows : List Row) (client : ℕ) (name : List ℕ) → row_named (without_named client name rows) client name ≡ None
-row_named-without [] client name = refl
-row_named-without (row ∷ rows) client name = by (row_named-without rows client name) (has_name client name row) refl
+go-filter : (test : ℕ → List ℕ → Bool) (rows : List Row) (key : ℕ × List ℕ) → FilmsGo rows (filter (λ (row : Row). test row.client row.name) rows) key
+go-filter test rows key = by (test key.0 key.1) refl
   where
-    by : row_named (without_named client name rows) client name ≡ None → (b : Bool) → has_name client name row ≡ b → row_named (cond (not b) (row ∷ without_named client name rows) (without_named client name rows)) client name ≡ None
-    by rest true e = rest
-    by rest false e = rw e rest
+    by : (b : Bool) → test key.0 key.1 ≡ b → FilmsGo rows (filter (λ (row : Row). test row.client row.name) rows) key
+    by true kept = inl (film_named-filter test rows key.0 key.1 kept)
+    by false out = inr (inr (ap (λ (o : Option Row). is_on (option_and_then (λ (r : Row). r.film) o)) (row_named-out test rows key.0 key.1 out)))
 
 go-without : (rows : List Row) (client : ℕ) (name : List ℕ) (key : ℕ × List ℕ) → FilmsGo rows (without_named client name rows) key
-go-without rows client name key = by (nat_eq client key.0 && bytes_eq name key.1) refl
-  where
-    by : (b : Bool) → (nat_eq client key.0 && bytes_eq name key.1) ≡ b → FilmsGo rows (without_named client name rows) key
-    by true e =
-        let parts = and_parts (nat_eq client key.0) (bytes_eq name key.1) e in
-        let owner_is : key.0 ≡ client = sym (eqb-true client key.0 parts.0) in
-        let name_is : key.1 ≡ name = sym ((bytes_eq-Decides name key.1).0 parts.1) in
-        let gone : row_named (without_named client name rows) key.0 key.1 ≡ None = ap (λ (n : ℕ). row_named (without_named client name rows) n key.1) owner_is ∙ ap (row_named (without_named client name rows) client) name_is ∙ row_named-without rows client name in
-        inr (inr (ap (λ (o : Option Row). is_on (option_and_then (λ (r : Row). r.film) o)) gone))
-    by false e =
-        inl (ap (option_and_then (λ (r : Row). r.film)) (row_named-filter (λ (n : ℕ) (t : List ℕ). not (nat_eq client n && bytes_eq name t)) rows key.0 key.1 (ap not e)))
-
--- a client's rows less
-row_named-departed : (rows : List Row) (client : ℕ) (name : List ℕ) → row_named (rows_of_others client rows) client name ≡ None
-row_named-departed [] client name = refl
-row_named-departed (row ∷ rows) client name = by (row_named-departed rows client name) (nat_eq client row.client) refl
-  where
-    by : row_named (rows_of_others client rows) client name ≡ None → (b : Bool) → nat_eq client row.client ≡ b → row_named (cond (not b) (row ∷ rows_of_others client rows) (rows_of_others client rows)) client name ≡ None
-    by rest true e = rest
-    by rest false e = rw e rest
+go-without rows client name key = go-filter (λ (owner : ℕ) (other : List ℕ). not (nat_eq client owner && bytes_eq name other)) rows key
 
 go-others : (rows : List Row) (client : ℕ) (key : ℕ × List ℕ) → FilmsGo rows (rows_of_others client rows) key
-go-others rows client key = by (nat_eq client key.0) refl
-  where
-    by : (b : Bool) → nat_eq client key.0 ≡ b → FilmsGo rows (rows_of_others client rows) key
-    by true e =
-        let gone : row_named (rows_of_others client rows) key.0 key.1 ≡ None = ap (λ (n : ℕ). row_named (rows_of_others client rows) n key.1) (sym (eqb-true client key.0 e)) ∙ row_named-departed rows client key.1 in
-        inr (inr (ap (λ (o : Option Row). is_on (option_and_then (λ (r : Row). r.film) o)) gone))
-    by false e =
-        inl (ap (option_and_then (λ (r : Row). r.film)) (row_named-filter (λ (n : ℕ) (t : List ℕ). not (nat_eq client n)) rows key.0 key.1 (ap not e)))
+go-others rows client key = go-filter (λ (owner : ℕ) (other : List ℕ). not (nat_eq client owner)) rows key
 
 -- a refused command leaves all rows
 go-outcome : (desk : Desk) (refusal : Option Refusal) (effect : Reply × Desk) (key : ℕ × List ℕ) → FilmsGo desk.rows effect.1.rows key → FilmsGo desk.rows (outcome desk refusal effect).1.rows key
@@ -227,7 +199,7 @@ go-admit desk client name payload period key not_anew = by (admit_refusal desk c
 -- each command's row
 go-row : (desk : Desk) (client : ℕ) (command : Command) (payload : List ℕ) (short : Bool) (key : ℕ × List ℕ) → admits key (Ask client command payload) (Replied (row_of command payload desk client short).0) ≡ false → FilmsGo desk.rows (row_of command payload desk client short).1.rows key
 unfolding step_new step_set step_get step_drop step_place step_lift step_link step_unlink step_open step_close step_top step_poll new_row
-go-row desk client (New name kind) payload short key h = go-outcome desk (new_refusal desk client name kind short) (new_effect desk client name kind) key (go-push desk.rows (new_row client name kind) key refl)
+go-row desk client (New name kind) payload short key h = go-outcome desk (new_refusal desk client name kind short) (new_effect desk client name kind) key (inl (film_named-push desk.rows (new_row client name kind) key.0 key.1 refl))
 go-row desk client (Set name options) payload short key h = go-outcome desk (set_refusal desk client name options) (set_effect desk client name options) key (go-film desk.rows client name (with_attrs options) key (LeavesFilm-attrs options))
 go-row desk client (Get name attr) payload short key h = go-outcome desk (get_refusal desk client name attr) (get_effect desk client name attr) key (inl refl)
 go-row desk client (Place parent child options) payload short key h =
@@ -287,17 +259,7 @@ films_go-bye desk client key =
 
 -- an input changes values alone
 film_named-value : (at : ℕ × List ℕ) (attr : Attr) (v : value.Value) (rows : List Row) (key : ℕ × List ℕ) → film_named (with_value_at at attr v rows) key.0 key.1 ≡ film_named rows key.0 key.1
-film_named-value at attr v rows key =
-    ap (option_and_then (λ (r : Row). r.film)) (row_named-map rows (changed at.0 at.1 (with_attr attr v)) key.0 key.1 (LeavesNames-changed at.0 at.1 (with_attr attr v) (record { client = λ row. refl; name = λ row. refl })))
-    ∙ by (row_named rows key.0 key.1)
-  where
-    one : (row : Row) (b : Bool) → (cond b (with_attr attr v row) row).film ≡ row.film
-    one row true = refl
-    one row false = refl
-
-    by : (o : Option Row) → option_and_then (λ (r : Row). r.film) (option_map (changed at.0 at.1 (with_attr attr v)) o) ≡ option_and_then (λ (r : Row). r.film) o
-    by None = refl
-    by (Some row) = one row (has_name at.0 at.1 row)
+film_named-value at attr v rows key = film_named-left rows at.0 at.1 (with_attr attr v) key.0 key.1 (record { client = λ row. refl; name = λ row. refl }) (λ row. refl)
 
 film_named-number : (attr : Attr) (asked : Option ((ℕ × List ℕ) × ℤ)) (rows : List Row) (key : ℕ × List ℕ) → film_named (with_number attr asked rows) key.0 key.1 ≡ film_named rows key.0 key.1
 film_named-number attr None rows key = refl

@@ -2,11 +2,14 @@ pub mod Marks
 pub mod Reach
 pub mod Opening
 pub mod Pixels
-pub mod StepShapes
 pub mod Steps
 pub mod Progress
 pub mod Ticks
 pub mod FilmSteps
+pub mod FilmRuns
+pub mod ShownBands
+pub mod RunParts
+pub mod Periods
 pub mod Runs
 pub mod Counting
 pub mod FilmPixels

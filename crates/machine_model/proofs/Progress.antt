@@ -1,5 +1,5 @@
 -- From each valid state each event has an answer and a state after it, and each list of events has a run.
-use Rattle.std.proofs.Common.{◌≡◌, ℕ, ◌+◌, ◌-◌, ◌*◌, ◌/◌, ◌%◌, min, Bool, true, false, not, ◌&&◌, ◌||◌, cond, List, [], ◌∷◌, length, get_or, map, refl, sym, ap, ◌∙◌}
+use Rattle.std.proofs.Common.{◌≡◌, ℕ, ◌+◌, ◌-◌, ◌*◌, ◌/◌, ◌%◌, min, Bool, false, not, ◌&&◌, ◌||◌, cond, List, [], ◌∷◌, length, get_or, map, refl, sym, ap, ◌∙◌}
 use Rattle.std.specs.List.{All, range_with_len}
 use Rattle.std.proofs.lemmas.List.Elements.{All-head, All-tail}
 use Rattle.std.proofs.lemmas.List.FromFn.{length-map-range_with_len}
@@ -27,8 +27,7 @@ use Rattle.desk_model.proofs.Ample.{ample-connect, ample-hello, ample-bye, ample
 use Rattle.machine_model.proofs.Beat.{shape-beat}
 use Rattle.machine_model.proofs.Marks.{cleaned_first, length-cleaned_first, cleaned_first-was, count_true-cleaned_first}
 use Rattle.machine_model.proofs.Pixels.{get_or-rows}
-use Rattle.machine_model.proofs.Steps.{IsState-step}
-use Rattle.machine_model.proofs.StepShapes.{shape-command, shape-connect, shape-hello, shape-bye, shape-feed}
+use Rattle.machine_model.proofs.Steps.{IsState-step, shape-step_connect, shape-step_hello, shape-step_bye, shape-step_command, shape-step_feed}
 
 -- a change to a desk of the same shape has a state after it
 pub changed_state : (old : State) (next : Desk) → IsState old → next.shape ≡ old.desk.shape → (new : State) × Changed old next new
@@ -91,19 +90,19 @@ answered_state old stepped same ample is =
 
 pub next_state : (old : State) (event : Event) → CanCome event → IsState old → (answer : Answer) × (new : State) × Step old event answer new
 next_state old (Connect client) can is =
-    let to = answered_state old (λ short. step_connect old.desk client short) (shape-connect old.desk client) (ample-connect old.desk client) is in
+    let to = answered_state old (λ short. step_connect old.desk client short) (shape-step_connect old.desk client) (ample-connect old.desk client) is in
     (Replied to.0, to.1, (can, to.2))
 next_state old Hello can is =
-    let to = answered_state old (λ short. step_hello old.desk short) (shape-hello old.desk) (ample-hello old.desk) is in
+    let to = answered_state old (λ short. step_hello old.desk short) (shape-step_hello old.desk) (ample-hello old.desk) is in
     (Replied to.0, to.1, to.2)
 next_state old (Bye client) can is =
-    let to = answered_state old (λ short. step_bye old.desk client) (λ short. shape-bye old.desk client) (ample-bye old.desk client) is in
+    let to = answered_state old (λ short. step_bye old.desk client) (λ short. shape-step_bye old.desk client) (ample-bye old.desk client) is in
     (Replied to.0, to.1, to.2)
 next_state old (Ask client command payload) can is =
-    let to = answered_state old (λ short. step old.desk client command payload short) (shape-command old.desk client command payload) (ample-command old.desk client command payload) is in
+    let to = answered_state old (λ short. step old.desk client command payload short) (shape-step_command old.desk client command payload) (ample-command old.desk client command payload) is in
     (Replied to.0, to.1, to.2)
 next_state old (Feed input) can is =
-    let to = changed_state old (step_feed old.desk input) is (shape-feed old.desk input) in
+    let to = changed_state old (step_feed old.desk input) is (shape-step_feed old.desk input) in
     (Replied Done, to.0, (refl, to.1))
 next_state old (Misread client place) can is = (Replied (Refused (Syntax place)), old, (refl, refl))
 next_state old Tick can is = let to = ticked_state old is in (Drawn to.0, to.1, to.2)

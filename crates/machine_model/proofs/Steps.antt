@@ -1,18 +1,22 @@
 -- A step from a valid state leads to a valid state and keeps the shape, whatever the event and the answer.
-use Rattle.std.proofs.Common.{◌≡◌, ◌≢◌, ℕ, ◌<◌, Bool, true, false, not, ◌&&◌, ◌||◌, cond, length, refl, sym, ap, ◌∙◌, subst, arith}
+use Rattle.std.proofs.Common.{◌≡◌, ◌≢◌, ℕ, ◌<◌, Bool, true, false, not, ◌&&◌, ◌||◌, cond, List, [], ◌∷◌, length, Option, Some, None, is_none, refl, sym, ap, ◌∙◌, subst, arith}
 use Rattle.std.proofs.lemmas.Bool.{or_parts, true≢false}
 use Rattle.cmd_words.specs.declared.inputs.Drew.{Drew}
+use Rattle.cmd_words.specs.declared.commands.Command.{Command}
+use Rattle.cmd_words.specs.declared.inputs.Input.{Input}
 use Rattle.cmd_words.specs.declared.replies.Reply.{Reply}
+use Rattle.cmd_words.specs.declared.replies.Refusal.{Refusal}
+use Rattle.cmd_words.specs.declared.replies.Refusal.TheVariants.{Full, Memory}
 use Rattle.kind_core.specs.declared.shapes.Shape.{Shape}
 use Rattle.scene_model.specs.Shapes.{area}
 use Rattle.desk_model.specs.Desk.{Desk}
 use Rattle.desk_model.specs.DeskFacts.{IsDesk}
 use Rattle.desk_model.specs.Seen.{colour}
 use Rattle.machine_model.specs.Reach.{is_reached}
-use Rattle.desk_model.specs.Refusals.{is_memory}
-use Rattle.desk_model.specs.Clients.{step_connect, step_hello, step_bye}
+use Rattle.desk_model.specs.Refusals.{is_memory, when, first_refusal, outcome}
+use Rattle.desk_model.specs.Clients.{step_connect, step_hello, step_bye, free_client, hello_effect}
 use Rattle.desk_model.specs.Commands.{step}
-use Rattle.desk_model.specs.Feeding.{step_feed}
+use Rattle.desk_model.specs.Feeding.{carried_out, effects_on, step_feed}
 use Rattle.desk_model.specs.Beat.{in_band}
 use Rattle.machine_model.specs.State.{State, IsState, byte_at, is_dirty}
 use Rattle.machine_model.specs.Events.{Event, Answer}
@@ -22,7 +26,7 @@ use Rattle.machine_model.specs.Step.{Step, Changed, Answered, Ticked}
 use Rattle.machine_model.proofs.Reach.{colour-outside_reach}
 use Rattle.desk_model.proofs.Desks.{IsDesk-connect, IsDesk-hello, IsDesk-bye, IsDesk-command}
 use Rattle.desk_model.proofs.KeptInputs.{inputs_keep}
-use Rattle.machine_model.proofs.StepShapes.{shape-command, shape-connect, shape-hello, shape-bye, shape-feed}
+use Rattle.desk_model.proofs.OwnPart.{command_ends, connect_ends, bye_ends, shape-let_go, shape-ends}
 use Rattle.machine_model.proofs.Beat.{shape-beat, IsDesk-beat, colour-beat}
 
 pub IsState-same : (old new : State) → new ≡ old → IsState old → IsState new
@@ -77,21 +81,44 @@ IsState-answered old stepped reply new fine same is s =
 shape-answered : (old : State) (stepped : Bool → Reply × Desk) (reply : Reply) (new : State) → ((short : Bool) → (stepped short).1.shape ≡ old.desk.shape) → Answered old stepped reply new → new.desk.shape ≡ old.desk.shape
 shape-answered old stepped reply new same s = ap (λ (d : Desk). d.shape) s.change.desk ∙ same (is_memory reply)
 
+pub shape-step_connect : (desk : Desk) (client : ℕ) (short : Bool) → (step_connect desk client short).1.shape ≡ desk.shape
+shape-step_connect desk client short = shape-ends client desk _ (connect_ends desk client short)
+
+shape-outcome : (desk : Desk) (refusal : Option Refusal) (effect : Reply × Desk) → effect.1.shape ≡ desk.shape → (outcome desk refusal effect).1.shape ≡ desk.shape
+shape-outcome desk None effect same = same
+shape-outcome desk (Some refusal) effect same = refl
+
 pub shape-step_hello : (desk : Desk) (short : Bool) → (step_hello desk short).1.shape ≡ desk.shape
-shape-step_hello desk short = shape-hello desk short
+unfolding step_hello
+shape-step_hello desk short =
+    shape-let_go _ ∙ shape-outcome desk (first_refusal (when (is_none (free_client desk.clients)) (Full 16) ∷ when short Memory ∷ [])) (hello_effect desk (free_client desk.clients)) (by (free_client desk.clients))
+  where
+    by : (free : Option ℕ) → (hello_effect desk free).1.shape ≡ desk.shape
+    by None = refl
+    by (Some client) = refl
+
+pub shape-step_bye : (desk : Desk) (client : ℕ) → (step_bye desk client).1.shape ≡ desk.shape
+shape-step_bye desk client = shape-ends client desk _ (bye_ends desk client)
+
+pub shape-step_command : (desk : Desk) (client : ℕ) (command : Command) (payload : List ℕ) (short : Bool) → (step desk client command payload short).1.shape ≡ desk.shape
+shape-step_command desk client command payload short = shape-ends client desk _ (command_ends desk client command payload short)
+
+pub shape-step_feed : (desk : Desk) (input : Input) → (step_feed desk input).shape ≡ desk.shape
+unfolding step_feed carried_out
+shape-step_feed desk input = shape-let_go (carried_out (effects_on desk input) desk)
 
 -- what holds of a state holds after each step
 pub IsState-step : (old : State) (event : Event) (answer : Answer) (new : State) → IsState old → Step old event answer new → IsState new
 IsState-step old (Connect client) (Replied reply) new is s =
-    IsState-answered old (λ short. step_connect old.desk client short) reply new (λ short. IsDesk-connect old.desk client short s.0 is.desk) (shape-connect old.desk client) is s.1
+    IsState-answered old (λ short. step_connect old.desk client short) reply new (λ short. IsDesk-connect old.desk client short s.0 is.desk) (shape-step_connect old.desk client) is s.1
 IsState-step old Hello (Replied reply) new is s =
     IsState-answered old (λ short. step_hello old.desk short) reply new (λ short. IsDesk-hello old.desk short is.desk) (shape-step_hello old.desk) is s
 IsState-step old (Bye client) (Replied reply) new is s =
-    IsState-answered old (λ short. step_bye old.desk client) reply new (λ short. IsDesk-bye old.desk client is.desk) (λ short. shape-bye old.desk client) is s
+    IsState-answered old (λ short. step_bye old.desk client) reply new (λ short. IsDesk-bye old.desk client is.desk) (λ short. shape-step_bye old.desk client) is s
 IsState-step old (Ask client command payload) (Replied reply) new is s =
-    IsState-answered old (λ short. step old.desk client command payload short) reply new (λ short. IsDesk-command old.desk client command payload short is.desk) (shape-command old.desk client command payload) is s
+    IsState-answered old (λ short. step old.desk client command payload short) reply new (λ short. IsDesk-command old.desk client command payload short is.desk) (shape-step_command old.desk client command payload) is s
 IsState-step old (Feed input) (Replied reply) new is s =
-    IsState-changed old (step_feed old.desk input) new is (inputs_keep old.desk input is.desk) (shape-feed old.desk input) s.1
+    IsState-changed old (step_feed old.desk input) new is (inputs_keep old.desk input is.desk) (shape-step_feed old.desk input) s.1
 IsState-step old (Misread client place) (Replied reply) new is s = IsState-same old new s.0 is
 IsState-step old Tick (Drawn drew) new is s = IsState-ticked old drew new is s
 IsState-step old CountDirty (Counted n) new is s = IsState-same old new s.0 is
@@ -101,13 +128,13 @@ IsState-step old _ _ new is s = elim s [ ]
 
 pub shape-step : (old : State) (event : Event) (answer : Answer) (new : State) → Step old event answer new → new.desk.shape ≡ old.desk.shape
 shape-step old (Connect client) (Replied reply) new s =
-    shape-answered old (λ short. step_connect old.desk client short) reply new (shape-connect old.desk client) s.1
+    shape-answered old (λ short. step_connect old.desk client short) reply new (shape-step_connect old.desk client) s.1
 shape-step old Hello (Replied reply) new s = shape-answered old (λ short. step_hello old.desk short) reply new (shape-step_hello old.desk) s
 shape-step old (Bye client) (Replied reply) new s =
-    shape-answered old (λ short. step_bye old.desk client) reply new (λ short. shape-bye old.desk client) s
+    shape-answered old (λ short. step_bye old.desk client) reply new (λ short. shape-step_bye old.desk client) s
 shape-step old (Ask client command payload) (Replied reply) new s =
-    shape-answered old (λ short. step old.desk client command payload short) reply new (shape-command old.desk client command payload) s
-shape-step old (Feed input) (Replied reply) new s = ap (λ (d : Desk). d.shape) s.1.desk ∙ shape-feed old.desk input
+    shape-answered old (λ short. step old.desk client command payload short) reply new (shape-step_command old.desk client command payload) s
+shape-step old (Feed input) (Replied reply) new s = ap (λ (d : Desk). d.shape) s.1.desk ∙ shape-step_feed old.desk input
 shape-step old (Misread client place) (Replied reply) new s = ap (λ (q : State). q.desk.shape) s.0
 shape-step old Tick (Drawn drew) new s = ap (λ (d : Desk). d.shape) s.desk ∙ shape-beat old.desk
 shape-step old CountDirty (Counted n) new s = ap (λ (q : State). q.desk.shape) s.0

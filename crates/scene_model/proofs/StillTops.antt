@@ -1,5 +1,5 @@
 -- Where a change of rows moves nothing, each widget shows the pixels that it showed, and the same widgets are on top.
-use Rattle.std.proofs.Common.{◌≡◌, ℕ, zero, suc, ℤ, pos, Bool, false, ◌&&◌, List, [], ◌∷◌, map, Option, Some, None, refl, sym, ap, ap₂, ◌∙◌, slice_get}
+use Rattle.std.proofs.Common.{◌≡◌, ℕ, zero, suc, ℤ, pos, Bool, ◌&&◌, List, map, Option, Some, None, refl, ap, ap₂, ◌∙◌}
 use Rattle.std.specs.List.{find}
 use Rattle.std.specs.Option.{option_map, option_map_or, option_and_then}
 use Rattle.geom_core.specs.declared.rectangle.Rect.{Rect}
@@ -8,8 +8,8 @@ use Rattle.kind_core.specs.declared.shapes.Cell.{Cell}
 use Rattle.widget_model.specs.Rows.{Row}
 use Rattle.widget_model.specs.Named.{has_name, row_named}
 use Rattle.widget_model.specs.Trees.{is_child, parent_of, root_in, root_of, most_levels}
-use Rattle.widget_model.specs.Keys.{key_of, row_of, parent_key}
-use Rattle.widget_model.proofs.Hanging.{LeavesNames, row_named-map, find-element, find-map, find-same}
+use Rattle.widget_model.specs.Keys.{key_of, row_of}
+use Rattle.widget_model.proofs.Hanging.{row_named-map, find-element, find-map, find-same}
 use Rattle.scene_model.specs.Scene.{Scene}
 use Rattle.scene_model.specs.Placing.{place_in}
 use Rattle.scene_model.specs.Showing.{place_of, parent_in, on_screen, shows_in, shows_at, window_at, child_at, lowest_in, top_of}
