@@ -27,5 +27,6 @@ pub mod KeptScreens
 pub mod KeptPoll
 pub mod FilmNames
 pub mod BeatSteps
+pub mod FedRows
 pub mod Desks
 pub mod ByePointer
