@@ -11,6 +11,7 @@ use Rattle.desk_model.specs.Clients.{with_client, free_from, free_client}
 use Rattle.desk_model.specs.DeskFacts.{AreConnectedOnce}
 use Rattle.widget_model.proofs.Hanging.{all_at, all_from}
 use Rattle.desk_model.proofs.Sound.{AreRows, IsSound}
+use Rattle.desk_model.proofs.Rings.{AreRingsOf-push}
 
 pub AreConnectedOnce-push : (clients : List ℕ) (client : ℕ) → AreConnectedOnce clients → is_joined clients client ≡ false → AreConnectedOnce (clients ++ client ∷ [])
 AreConnectedOnce-push [] client once new = (refl, tt)
@@ -36,6 +37,7 @@ AreRows-joined clients client rows kept =
       fitting = kept.fitting;
       rules = kept.rules;
       slots = kept.slots;
+      films = kept.films;
     }
 
 pub IsSound-with_client : (desk : Desk) (client : ℕ) → IsSound desk → is_client client ≡ true → is_connected desk client ≡ false → IsSound (with_client client desk)
@@ -45,6 +47,8 @@ IsSound-with_client desk client sound range new =
       clients = list_all-append is_client desk.clients (client ∷ []) ∙ and_from _ _ sound.clients (and_from _ _ range refl);
       connected_once = AreConnectedOnce-push desk.clients client sound.connected_once new;
       rows = AreRows-joined desk.clients client desk.rows sound.rows;
+      roster = sound.roster;
+      rings = AreRingsOf-push desk.clients desk.rings client sound.rings;
       windows = sound.windows;
     }
 

@@ -29,6 +29,7 @@ Suits-with_link rows client name row link planted leads suits =
       fitting = λ h. h;
       rules = λ h. h;
       slots = λ h. h;
+      films = λ h. h;
     }
 
 pub IsSound-link : (desk : Desk) (client : ℕ) (name variable : List ℕ) → IsSound desk → IsSound (step_link desk client name variable).1
@@ -48,7 +49,7 @@ IsSound-link desk client name variable sound = IsSound-outcome desk (link_refusa
         let named = IsNamed-row_named desk.rows client name found.0 found.1 in
         let leads : links_right desk.rows (with_link (Some variable) found.0) ≡ true = rw named.client_is kinds.1 in
         let suits : links_by_kind (with_link (Some variable) found.0) ≡ true = sym (ap (is_kind_of can_link) found.1) ∙ kinds.0 in
-        IsSound-with_named desk client name found.0 (with_link (Some variable)) sound found.1 (Suits-with_link desk.rows client name found.0 (Some variable) sound.rows.planted leads suits)
+        IsSound-with_named desk client name found.0 (with_link (Some variable)) sound found.1 (Suits-with_link desk.rows client name found.0 (Some variable) sound.rows.planted leads suits) refl
 
 pub IsSound-unlink : (desk : Desk) (client : ℕ) (name : List ℕ) → IsSound desk → IsSound (step_unlink desk client name).1
 unfolding step_unlink
@@ -58,7 +59,7 @@ IsSound-unlink desk client name sound = IsSound-outcome desk (unlink_refusal des
     done none =
         let one = passed _ _ none in
         let found = unless_there-none (row_named desk.rows client name) one.0 in
-        IsSound-with_named desk client name found.0 (with_link None) sound found.1 (Suits-with_link desk.rows client name found.0 None sound.rows.planted refl refl)
+        IsSound-with_named desk client name found.0 (with_link None) sound found.1 (Suits-with_link desk.rows client name found.0 None sound.rows.planted refl refl) refl
 
 pub IsSound-bind : (desk : Desk) (client : ℕ) (name : List ℕ) (event : EventKind) (tag : Option (List ℕ)) → IsSound desk → IsSound (step_bind desk client name event tag).1
 unfolding step_bind
@@ -69,5 +70,5 @@ IsSound-bind desk client name event tag sound = IsSound-outcome desk (bind_refus
         let one = passed _ _ none in
         let found = unless_there-none (row_named desk.rows client name) one.0 in
         IsSound-with_named desk client name found.0 (with_binding event tag) sound found.1
-        (Suits-change desk.rows client name found.0 (with_binding event tag) (record { leaves = record { client = λ row. refl; name = λ row. refl; kind = λ row. refl }; attached = λ row. refl }) (λ row. refl) sound.rows.planted
-        (λ h. h) (λ h. h) (λ h. has_slots-with_binding event tag found.0 ∙ h))
+        (Suits-change desk.rows client name found.0 (with_binding event tag) (record { leaves = record { client = λ row. refl; name = λ row. refl; kind = λ row. refl }; attached = λ row. refl }) (λ row. refl) (λ row. refl) sound.rows.planted
+        (λ h. h) (λ h. h) (λ h. has_slots-with_binding event tag found.0 ∙ h)) refl

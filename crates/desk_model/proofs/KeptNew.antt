@@ -1,6 +1,7 @@
 -- What rows keep when a new one is put last.
 use Rattle.std.proofs.Common.{◌≡◌, ℕ, ◌+◌, ◌<◌, ◌≤◌, Bool, true, false, cond, ◌&&◌, nat_eq, List, [], ◌∷◌, ◌++◌, Option, Some, None, zero, suc, refl, sym, ap, ◌∙◌, arith}
 use Rattle.std.proofs.lemmas.Bool.{true≢false, eqb-true, and_from, or_from, false_from_ne_true}
+use Rattle.std.proofs.lemmas.List.Elements.{All-push}
 use Rattle.std.proofs.lemmas.List.Folds.{list_all-append, list_any-append, find-append}
 use Rattle.std.proofs.lemmas.List.Sums.{sum_by-cons, sum_by-append}
 use Rattle.std.specs.List.{list_all}
@@ -11,13 +12,15 @@ use Rattle.widget_model.specs.Rows.{Row}
 use Rattle.widget_model.specs.Kinds.{any_kind, counts_with, is_variable_kind, is_window_kind}
 use Rattle.widget_model.specs.Named.{has_name, row_named, rows_counted, is_kind_of}
 use Rattle.widget_model.specs.Clients.{is_joined}
-use Rattle.widget_model.specs.Fitting.{fits_table, fits_rules, has_slots}
-use Rattle.desk_model.specs.Desk.{Desk}
-use Rattle.desk_model.specs.DeskFacts.{links_right, links_by_kind}
+use Rattle.widget_model.specs.Fitting.{fits_table, fits_rules, has_slots, IsFitFilm}
+use Rattle.desk_model.specs.Desk.{Desk, Admission}
+use Rattle.desk_model.specs.Screens.{roster_limit}
+use Rattle.desk_model.specs.DeskFacts.{links_right, links_by_kind, has_its_share, is_listed, IsRosterOf}
 use Rattle.widget_model.specs.Named.{AreNamedApart}
 use Rattle.widget_model.proofs.Hanging.{all_at, all_from, find_none_at, find_none_from, IsNamed-from, has_name-own}
 use Rattle.widget_model.proofs.Planting.{IsPlanted-push}
 use Rattle.desk_model.proofs.Sound.{AreRows, names_window, AreWindows, IsSound}
+use Rattle.desk_model.proofs.Rosters.{has_share, film_in}
 
 -- a row that can be put last: there is room for it and its name is free, and it stands alone
 pub record IsNew (clients : List ℕ) (rows : List Row) (row : Row) : Type 0 where
@@ -30,8 +33,9 @@ pub record IsNew (clients : List ℕ) (rows : List Row) (row : Row) : Type 0 whe
   pub fitting : fits_table row ≡ true
   pub rules : fits_rules row ≡ true
   pub slots : has_slots row ≡ true
+  pub no_film : row.film ≡ None
 
-all-push : {X : Type 0} (p : X → Bool) (xs : List X) (x : X) → list_all p xs ≡ true → p x ≡ true → list_all p (xs ++ x ∷ []) ≡ true
+pub all-push : {X : Type 0} (p : X → Bool) (xs : List X) (x : X) → list_all p xs ≡ true → p x ≡ true → list_all p (xs ++ x ∷ []) ≡ true
 all-push p xs x all last = list_all-append p xs (x ∷ []) ∙ and_from _ _ all (and_from _ _ last refl)
 
 -- a name that isn't there is unlike each that is
@@ -102,6 +106,7 @@ AreRows-push clients rows row kept new =
       fitting = all-push fits_table rows row kept.fitting new.fitting;
       rules = all-push fits_rules rows row kept.rules new.rules;
       slots = all-push has_slots rows row kept.slots new.slots;
+      films = All-push IsFitFilm rows row kept.films (rw new.no_film tt);
     }
 
 pub AreWindows-push : (rows : List Row) (row : Row) (windows : List (ℕ × List ℕ)) → AreWindows rows windows → AreWindows (rows ++ row ∷ []) windows
@@ -111,6 +116,22 @@ AreWindows-push rows row windows kept =
       once = kept.once;
     }
 
+-- a row without a film isn't admitted
+IsRosterOf-push : (limit : ℕ) (rows : List Row) (roster : List Admission) (row : Row) → row.film ≡ None → IsRosterOf limit rows roster → IsRosterOf limit (rows ++ row ∷ []) roster
+IsRosterOf-push limit rows roster row none kept =
+    record {
+      shares = all_from (has_its_share (rows ++ row ∷ [])) roster (λ i admission there. by admission (row_named rows admission.client admission.name) refl (all_at (has_its_share rows) roster i admission kept.shares there));
+      once = kept.once;
+      all = all-push (is_listed roster) rows row kept.all (rw none refl);
+      within = kept.within;
+    }
+  where
+    by : (admission : Admission) (o : Option Row) → row_named rows admission.client admission.name ≡ o → has_share admission.share (film_in o) ≡ true → has_its_share (rows ++ row ∷ []) admission ≡ true
+    by admission None found h = absurd (true≢false (sym h))
+    by admission (Some other) found h =
+        let still : row_named (rows ++ row ∷ []) admission.client admission.name ≡ Some other = find-append (has_name admission.client admission.name) rows (row ∷ []) ∙ rw found refl in
+        ap (λ (o : Option Row). has_share admission.share (film_in o)) still ∙ h
+
 pub IsSound-push : (desk : Desk) (row : Row) → IsSound desk → IsNew desk.clients desk.rows row → IsSound (record desk { rows = desk.rows ++ row ∷ [] })
 IsSound-push desk row sound new =
     record {
@@ -118,5 +139,7 @@ IsSound-push desk row sound new =
       clients = sound.clients;
       connected_once = sound.connected_once;
       rows = AreRows-push desk.clients desk.rows row sound.rows new;
+      roster = IsRosterOf-push (roster_limit desk) desk.rows desk.roster row new.no_film sound.roster;
+      rings = sound.rings;
       windows = AreWindows-push desk.rows row desk.windows sound.windows;
     }

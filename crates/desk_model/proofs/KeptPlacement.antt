@@ -32,6 +32,7 @@ Suits-with_attached rows client name row attached planted =
       fitting = λ h. h;
       rules = λ h. h;
       slots = λ h. h;
+      films = λ h. h;
     }
 
 -- what `place` asks, where it refuses nothing
@@ -80,7 +81,7 @@ IsSound-place desk client parent child options sound = IsSound-outcome desk (pla
     done none =
         let place = IsPlace-from desk client parent child options none in
         let planted = IsPlanted-attach desk.rows client parent child (cell_given options) place.upper place.lower sound.rows.names place.can sound.rows.planted in
-        IsSound-with_named desk client child place.lower (with_attached (Some (parent, cell_given options))) sound place.can.lower_there (Suits-with_attached desk.rows client child place.lower (Some (parent, cell_given options)) planted)
+        IsSound-with_named desk client child place.lower (with_attached (Some (parent, cell_given options))) sound place.can.lower_there (Suits-with_attached desk.rows client child place.lower (Some (parent, cell_given options)) planted) refl
 
 pub IsSound-lift : (desk : Desk) (client : ℕ) (parent child : List ℕ) → IsSound desk → IsSound (step_lift desk client parent child).1
 unfolding step_lift
@@ -92,4 +93,4 @@ IsSound-lift desk client parent child sound = IsSound-outcome desk (lift_refusal
         let one = passed (unless_there (row_named desk.rows client parent)) (unless_there (row_named desk.rows client child) ∷ last ∷ []) none in
         let two = passed (unless_there (row_named desk.rows client child)) (last ∷ []) one.1 in
         let found = unless_there-none (row_named desk.rows client child) two.0 in
-        IsSound-with_named desk client child found.0 (with_attached None) sound found.1 (Suits-with_attached desk.rows client child found.0 None (IsPlanted-detach desk.rows client child sound.rows.planted))
+        IsSound-with_named desk client child found.0 (with_attached None) sound found.1 (Suits-with_attached desk.rows client child found.0 None (IsPlanted-detach desk.rows client child sound.rows.planted)) refl

@@ -1,5 +1,6 @@
 -- What rows keep when one of them is changed, but for what names it.
-use Rattle.std.proofs.Common.{◌≡◌, ℕ, ◌+◌, Bool, true, false, cond, ◌&&◌, nat_eq, List, [], ◌∷◌, map, Option, Some, None, refl, sym, ap, ◌∙◌, slice_get}
+use Rattle.std.proofs.Common.{◌≡◌, ℕ, zero, suc, ◌+◌, Bool, true, false, cond, ◌&&◌, nat_eq, List, [], ◌∷◌, map, Option, Some, None, refl, sym, ap, subst, ◌∙◌, slice_get}
+use Rattle.std.proofs.lemmas.List.Elements.{All-cons, All-head, All-tail}
 use Rattle.std.proofs.lemmas.List.Folds.{list_all-map}
 use Rattle.std.proofs.lemmas.List.Sums.{sum_by-cons}
 use Rattle.std.specs.List.{list_all, list_any}
@@ -10,14 +11,16 @@ use Rattle.widget_model.specs.Kinds.{any_kind, counts_with, is_variable_kind, is
 use Rattle.widget_model.specs.Named.{has_name, row_named, with_named, rows_counted, is_kind_of}
 use Rattle.widget_model.specs.Clients.{is_joined}
 use Rattle.widget_model.specs.Planted.{IsPlanted}
-use Rattle.widget_model.specs.Fitting.{fits_table, fits_rules, has_slots}
-use Rattle.desk_model.specs.Desk.{Desk}
-use Rattle.desk_model.specs.DeskFacts.{links_right, links_by_kind}
+use Rattle.widget_model.specs.Fitting.{fits_table, fits_rules, has_slots, IsFitFilm, HaveFitFilms}
+use Rattle.desk_model.specs.Desk.{Desk, Admission}
+use Rattle.desk_model.specs.Screens.{roster_limit}
+use Rattle.desk_model.specs.DeskFacts.{links_right, links_by_kind, IsRosterOf}
 use Rattle.widget_model.specs.Named.{AreNamedApart}
 use Rattle.widget_model.proofs.Leaves.{LeavesNode, LeavesNode-changed}
 use Rattle.widget_model.proofs.Planting.{LeavesPlace, IsPlanted-change}
 use Rattle.widget_model.proofs.Hanging.{all_at, all_from, LeavesNames, changed, row_named-map, row_named-only}
 use Rattle.desk_model.proofs.Sound.{AreRows, names_window, AreWindows, IsSound}
+use Rattle.desk_model.proofs.Rosters.{share_in, IsRosterOf-with_named}
 
 -- it leaves which names there are, how many rows, and of what kinds
 has_name-map : (rows : List Row) (change : Row → Row) (client : ℕ) (name : List ℕ) → LeavesNode change → list_any (has_name client name) (map change rows) ≡ list_any (has_name client name) rows
@@ -66,6 +69,23 @@ all-with_named p q rows client name change named apart found others here all =
         rw same (here (ap p (sym same) ∙ old))
     by i row there false passes old = others row old
 
+-- each film is whole still, where the change leaves it so
+pub HaveFitFilms-map : (rows : List Row) (change : Row → Row) → ((i : ℕ) (row : Row) → slice_get rows i ≡ Some row → IsFitFilm row → IsFitFilm (change row)) → HaveFitFilms rows → HaveFitFilms (map change rows)
+HaveFitFilms-map [] change each films = films
+HaveFitFilms-map (row ∷ rows) change each films =
+    All-cons IsFitFilm (change row) (map change rows) (each zero row refl (All-head IsFitFilm row rows films)) (HaveFitFilms-map rows change (λ i other there. each (suc i) other there) (All-tail IsFitFilm row rows films))
+
+HaveFitFilms-with_named : (rows : List Row) (client : ℕ) (name : List ℕ) (named : Row) (change : Row → Row) → AreNamedApart rows → row_named rows client name ≡ Some named → (IsFitFilm named → IsFitFilm (change named)) → HaveFitFilms rows → HaveFitFilms (with_named client name change rows)
+HaveFitFilms-with_named rows client name named change apart found here films =
+    HaveFitFilms-map rows (changed client name change) (λ i row there. by i row there (has_name client name row) refl) films
+  where
+    by : (i : ℕ) (row : Row) → slice_get rows i ≡ Some row → (b : Bool) → has_name client name row ≡ b → IsFitFilm row → IsFitFilm (cond b (change row) row)
+    by i row there true passes fit =
+        let same : row ≡ named = row_named-only rows i row named client name apart found there passes in
+        let F : Row → Type 0 = λ row. IsFitFilm row in
+        subst (λ (row : Row). IsFitFilm (change row)) (sym same) (here (subst F same fit))
+    by i row there false passes fit = fit
+
 -- what a change of the named row has to keep
 pub record Suits (rows : List Row) (client : ℕ) (name : List ℕ) (row : Row) (change : Row → Row) : Type 0 where
   pub leaves : LeavesNode change
@@ -75,10 +95,11 @@ pub record Suits (rows : List Row) (client : ℕ) (name : List ℕ) (row : Row) 
   pub fitting : fits_table row ≡ true → fits_table (change row) ≡ true
   pub rules : fits_rules row ≡ true → fits_rules (change row) ≡ true
   pub slots : has_slots row ≡ true → has_slots (change row) ≡ true
+  pub films : IsFitFilm row → IsFitFilm (change row)
 
--- a change that leaves how the row hangs and what it is linked to
-pub Suits-change : (rows : List Row) (client : ℕ) (name : List ℕ) (row : Row) (change : Row → Row) → LeavesPlace change → ((row : Row) → (change row).link ≡ row.link) → IsPlanted rows → (fits_table row ≡ true → fits_table (change row) ≡ true) → (fits_rules row ≡ true → fits_rules (change row) ≡ true) → (has_slots row ≡ true → has_slots (change row) ≡ true) → Suits rows client name row change
-Suits-change rows client name row change leaves link planted fitting rules slots =
+-- a change that leaves how the row hangs, what it is linked to, and its film
+pub Suits-change : (rows : List Row) (client : ℕ) (name : List ℕ) (row : Row) (change : Row → Row) → LeavesPlace change → ((row : Row) → (change row).link ≡ row.link) → ((row : Row) → (change row).film ≡ row.film) → IsPlanted rows → (fits_table row ≡ true → fits_table (change row) ≡ true) → (fits_rules row ≡ true → fits_rules (change row) ≡ true) → (has_slots row ≡ true → has_slots (change row) ≡ true) → Suits rows client name row change
+Suits-change rows client name row change leaves link film planted fitting rules slots =
     record {
       leaves = leaves.leaves;
       planted = IsPlanted-change rows client name change leaves planted;
@@ -87,6 +108,7 @@ Suits-change rows client name row change leaves link planted fitting rules slots
       fitting = fitting;
       rules = rules;
       slots = slots;
+      films = λ h. rw (film row, leaves.leaves.kind row) h;
     }
 
 pub AreRows-with_named : (clients : List ℕ) (rows : List Row) (client : ℕ) (name : List ℕ) (row : Row) (change : Row → Row) → AreRows clients rows → row_named rows client name ≡ Some row → Suits rows client name row change → AreRows clients (with_named client name change rows)
@@ -106,6 +128,7 @@ AreRows-with_named clients rows client name row change kept found suits =
       fitting = each fits_table suits.fitting kept.fitting;
       rules = each fits_rules suits.rules kept.rules;
       slots = each has_slots suits.slots kept.slots;
+      films = HaveFitFilms-with_named rows client name row change kept.names found suits.films kept.films;
     }
   where
     leaves : LeavesNode (changed client name change)
@@ -122,12 +145,21 @@ AreWindows-with_named rows client name change windows leaves kept =
       once = kept.once;
     }
 
-pub IsSound-with_named : (desk : Desk) (client : ℕ) (name : List ℕ) (row : Row) (change : Row → Row) → IsSound desk → row_named desk.rows client name ≡ Some row → Suits desk.rows client name row change → IsSound (record desk { rows = with_named client name change desk.rows })
-IsSound-with_named desk client name row change sound found suits =
+-- The named row changes, and with it the roster.
+pub IsSound-with_roster : (desk : Desk) (client : ℕ) (name : List ℕ) (row : Row) (change : Row → Row) (roster : List Admission) → IsSound desk → row_named desk.rows client name ≡ Some row → Suits desk.rows client name row change → IsRosterOf (roster_limit desk) (with_named client name change desk.rows) roster → IsSound (record desk { rows = with_named client name change desk.rows; roster = roster })
+IsSound-with_roster desk client name row change roster sound found suits listed =
     record {
       shape = sound.shape;
       clients = sound.clients;
       connected_once = sound.connected_once;
       rows = AreRows-with_named desk.clients desk.rows client name row change sound.rows found suits;
+      roster = listed;
+      rings = sound.rings;
       windows = AreWindows-with_named desk.rows client name change desk.windows suits.leaves sound.windows;
     }
+
+-- A change that leaves what is set aside for the row's film leaves the roster.
+pub IsSound-with_named : (desk : Desk) (client : ℕ) (name : List ℕ) (row : Row) (change : Row → Row) → IsSound desk → row_named desk.rows client name ≡ Some row → Suits desk.rows client name row change → share_in (change row) ≡ share_in row → IsSound (record desk { rows = with_named client name change desk.rows })
+IsSound-with_named desk client name row change sound found suits share =
+    IsSound-with_roster desk client name row change desk.roster sound found suits
+    (IsRosterOf-with_named (roster_limit desk) desk.rows desk.roster client name row change (record { client = suits.leaves.client; name = suits.leaves.name }) sound.rows.names found share sound.roster)

@@ -5,6 +5,7 @@ use Rattle.std.specs.Option.{option_map_or, option_and_then}
 use Rattle.kind_core.specs.declared.kinds.Kind.{Kind}
 use Rattle.kind_core.specs.declared.kinds.Attr.{Attr}
 use Rattle.kind_core.specs.declared.values.Value as value
+use Rattle.vscreen_core.specs.FilmState.{FilmState}
 use Rattle.widget_model.specs.Rows.{Row, new_row}
 use Rattle.widget_model.specs.Kinds.{any_kind, counts_with}
 use Rattle.widget_model.specs.Named.{row_named, rows_counted}
@@ -16,6 +17,7 @@ use Rattle.desk_model.specs.Desk.{Desk, is_connected, is_open}
 use Rattle.desk_model.specs.AttrOptions.{attrs_refusal, with_attrs}
 use Rattle.desk_model.specs.WidgetCommands.{new_refusal, new_effect, set_refusal, set_effect, get_refusal, get_effect, drop_refusal, drop_effect, step_new, step_set, step_get, step_drop}
 use Rattle.desk_model.proofs.Sound.{IsSound, IsSound-outcome}
+use Rattle.desk_model.proofs.Rosters.{set_aside}
 use Rattle.desk_model.proofs.KeptRows.{Suits, Suits-change, IsSound-with_named}
 use Rattle.desk_model.proofs.KeptNew.{IsNew, IsSound-push}
 use Rattle.desk_model.proofs.KeptOut.{IsSound-remove}
@@ -36,6 +38,7 @@ IsNew-new_row clients rows client name kind joined free few few_alike =
       fitting = fits_table-new client name kind;
       rules = refl;
       slots = refl;
+      no_film = refl;
     }
 
 pub IsSound-new : (desk : Desk) (client : ℕ) (name : List ℕ) (kind : Kind) (short : Bool) → IsSound desk → is_connected desk client ≡ true → IsSound (step_new desk client name kind short).1
@@ -59,7 +62,7 @@ Suits-with_attrs rows client name options row planted none =
       leaves = record { client = λ row. same-with_attrs (λ (row : Row). row.client) (λ attr v row. refl) options row; name = λ row. same-with_attrs (λ (row : Row). row.name) (λ attr v row. refl) options row; kind = λ row. same-with_attrs (λ (row : Row). row.kind) (λ attr v row. refl) options row };
       attached = λ row. same-with_attrs (λ (row : Row). row.attached) (λ attr v row. refl) options row;
     })
-    (same-with_attrs (λ (row : Row). row.link) (λ attr v row. refl) options) planted (fits_table-with_attrs options row none)
+    (same-with_attrs (λ (row : Row). row.link) (λ attr v row. refl) options) (same-with_attrs (λ (row : Row). row.film) (λ attr v row. refl) options) planted (fits_table-with_attrs options row none)
     (λ h. same-with_attrs fits_rules (λ attr v row. refl) options row ∙ h) (λ h. same-with_attrs has_slots (λ attr v row. refl) options row ∙ h)
 
 pub IsSound-set : (desk : Desk) (client : ℕ) (name : List ℕ) (options : List (Attr × value.Value)) → IsSound desk → IsSound (step_set desk client name options).1
@@ -73,6 +76,7 @@ IsSound-set desk client name options sound = IsSound-outcome desk (set_refusal d
         let found = unless_there-none (row_named desk.rows client name) one.0 in
         let taken : attrs_refusal found.0.kind options ≡ None = sym (ap (λ (o : Option Row). option_and_then (λ (row : Row). attrs_refusal row.kind options) o) found.1) ∙ two.0 in
         IsSound-with_named desk client name found.0 (with_attrs options) sound found.1 (Suits-with_attrs desk.rows client name options found.0 sound.rows.planted taken)
+        (ap (λ (film : Option FilmState). option_and_then set_aside film) (same-with_attrs (λ (row : Row). row.film) (λ attr v row. refl) options found.0))
 
 pub IsSound-get : (desk : Desk) (client : ℕ) (name : List ℕ) (attr : Attr) → IsSound desk → IsSound (step_get desk client name attr).1
 unfolding step_get

@@ -28,6 +28,8 @@ IsSound-open desk client name sound = IsSound-outcome desk (open_refusal desk cl
           clients = sound.clients;
           connected_once = sound.connected_once;
           rows = sound.rows;
+          roster = sound.roster;
+          rings = sound.rings;
           windows = record {
             there = and_from _ _ (unless_kind-none is_window_kind (row_named desk.rows client name) two.0) sound.windows.there;
             once = (when-none (is_open desk client name) AlreadyOpen three.0, sound.windows.once);
@@ -35,7 +37,7 @@ IsSound-open desk client name sound = IsSound-outcome desk (open_refusal desk cl
         }
 
 -- what a test leaves out isn't left
-none-left : {X : Type 0} (p : X → Bool) (xs : List X) → list_any p (filter (λ x. not (p x)) xs) ≡ false
+pub none-left : {X : Type 0} (p : X → Bool) (xs : List X) → list_any p (filter (λ x. not (p x)) xs) ≡ false
 none-left p [] = refl
 none-left p (x ∷ xs) = by (none-left p xs) (p x) refl
   where
@@ -54,6 +56,8 @@ IsSound-close desk client name sound = IsSound-outcome desk (unless_open desk cl
           clients = sound.clients;
           connected_once = sound.connected_once;
           rows = sound.rows;
+          roster = sound.roster;
+          rings = sound.rings;
           windows = record {
             there = all-kept _ (λ window. not (is_window client name window)) desk.windows sound.windows.there;
             once = AreOpenOnce-filter (λ window. not (is_window client name window)) desk.windows sound.windows.once;
@@ -74,6 +78,8 @@ IsSound-top desk client name sound = IsSound-outcome desk (unless_open desk clie
           clients = sound.clients;
           connected_once = sound.connected_once;
           rows = sound.rows;
+          roster = sound.roster;
+          rings = sound.rings;
           windows = record {
             there = and_from _ _ (unless_kind-none is_window_kind (row_named desk.rows client name) two.0) (all-kept _ (λ window. not (is_window client name window)) desk.windows sound.windows.there);
             once = (none-left (is_window client name) desk.windows, AreOpenOnce-filter (λ window. not (is_window client name window)) desk.windows sound.windows.once);

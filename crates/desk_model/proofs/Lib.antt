@@ -1,10 +1,14 @@
 pub mod OthersRows
+pub mod OthersAdmissions
+pub mod OwnShares
 pub mod OwnAnswers
 pub mod OwnPart
 pub mod Outcomes
 pub mod Ample
 pub mod Refused
 pub mod Sound
+pub mod Rosters
+pub mod Rings
 pub mod KeptRows
 pub mod KeptNew
 pub mod KeptOut
@@ -18,5 +22,11 @@ pub mod KeptPlacement
 pub mod KeptTracks
 pub mod KeptLinks
 pub mod KeptWindows
+pub mod Admissions
+pub mod KeptScreens
+pub mod KeptPoll
+pub mod FilmNames
+pub mod BeatSteps
+pub mod FedRows
 pub mod Desks
 pub mod ByePointer

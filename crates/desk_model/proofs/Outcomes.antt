@@ -2,7 +2,6 @@
 -- none.
 use Rattle.std.proofs.Common.{◌≡◌, ℕ, ℤ, Bool, true, false, ◌&&◌, not, is_none, List, [], ◌∷◌, map, Option, Some, None, ◌⊎◌, inl, inr, refl, sym, ap, ◌∙◌, Result, Ok, Err}
 use Rattle.std.proofs.lemmas.Bool.{true≢false, and_right}
-use Rattle.std.specs.Prelude.{IfSome}
 use Rattle.std.specs.Option.{option_and_then}
 use Rattle.kind_core.specs.declared.kinds.Kind.{Kind}
 use Rattle.kind_core.specs.declared.kinds.Attr.{Attr}
@@ -13,7 +12,7 @@ use Rattle.kind_core.specs.declared.values.AttrRefusal.{AttrRefusal}
 use Rattle.kind_core.specs.declared.values.AttrRefusal.TheVariants.{NotOfKind, OutOfRange}
 use Rattle.kind_core.specs.Attributes.{domain_of, judged}
 use Rattle.cmd_words.specs.declared.commands.Command.{Command}
-use Rattle.cmd_words.specs.declared.commands.Command.TheVariants.{New, Set, Get, Place, Lift, ColumnConfig, RowConfig, Link, Unlink, Bind, Unbind, OpenWindow, CloseWindow, TopWindow, DropWidget}
+use Rattle.cmd_words.specs.declared.commands.Command.TheVariants.{New, Set, Get, Place, Lift, ColumnConfig, RowConfig, Link, Unlink, Bind, Unbind, OpenWindow, CloseWindow, TopWindow, Mode, Admit, Leave, SendFrame, DropWidget, Poll}
 use Rattle.cmd_words.specs.declared.commands.PlaceOption.{PlaceOption}
 use Rattle.cmd_words.specs.declared.commands.PlaceOption.TheVariants.{Column, Row as line, Pad}
 use Rattle.cmd_words.specs.declared.commands.ConfigOption.{ConfigOption}
@@ -22,9 +21,12 @@ use Rattle.cmd_words.specs.declared.replies.Reply.{Reply}
 use Rattle.cmd_words.specs.declared.replies.Reply.TheVariants.{Done, Refused}
 use Rattle.cmd_words.specs.declared.replies.Refusal.{Refusal}
 use Rattle.cmd_words.specs.declared.replies.Refusal.TheVariants.{Memory, Full, NotConnected, Connected}
+use Rattle.vscreen_core.specs.FilmState.{FilmState}
+use Rattle.bind_core.specs.declared.polled.Polled.{Polled}
+use Rattle.bind_core.specs.declared.polled.Polled.TheVariants as polled
+use Rattle.bind_core.specs.Polling.{poll_answer}
 use Rattle.scene_model.specs.declared.axis.Axis.{Axis}
 use Rattle.scene_model.specs.declared.axis.Axis.TheVariants.{Across, Down}
-use Rattle.widget_model.specs.Rows.{Row}
 use Rattle.widget_model.specs.Named.{row_named}
 use Rattle.desk_model.specs.Desk.{Desk, is_connected}
 use Rattle.desk_model.specs.Refusals.{when, first_refusal, outcome, is_memory}
@@ -38,8 +40,10 @@ use Rattle.desk_model.specs.Tracks.{track_refusal, track_effect, step_track}
 use Rattle.desk_model.specs.Links.{link_refusal, link_effect, unlink_refusal, unlink_effect, step_link, step_unlink}
 use Rattle.desk_model.specs.Bindings.{bind_refusal, bind_effect, step_bind}
 use Rattle.desk_model.specs.Windows.{open_refusal, open_effect, step_open, unless_open, close_effect, step_close, top_effect, step_top}
+use Rattle.desk_model.specs.Screens.{unless_size_fits, share_wanted, unless_share_fits, film_named, mode_refusal, mode_effect, step_mode, admit_refusal, admit_effect, step_admit, leave_refusal, leave_effect, step_leave, frame_refusal, frame_effect, step_frame}
+use Rattle.desk_model.specs.Polling.{poll_reply, ring_of, step_poll}
 use Rattle.desk_model.specs.Clients.{with_client, without_client, free_client, hello_effect}
-use Rattle.desk_model.specs.Commands.{row_of, asked}
+use Rattle.desk_model.specs.Commands.{row_of}
 
 abbrev pub is_refused : Reply → Bool
 is_refused (Refused refusal) = true
@@ -78,9 +82,9 @@ want-each : {X : Type 0} (short : Bool) (judge : X → Option Refusal) (xs : Lis
 want-each short judge [] h = refl
 want-each short judge (x ∷ xs) h = then short (judge x) (map judge xs) (h x) (want-each short judge xs h)
 
-want-row : (short : Bool) (judge : Row → Option Refusal) (row : Option Row) → ((r : Row) → is_want short (judge r) ≡ false) → is_want short (option_and_then judge row) ≡ false
-want-row short judge None h = refl
-want-row short judge (Some r) h = h r
+want-some : {X : Type 0} (short : Bool) (judge : X → Option Refusal) (o : Option X) → ((x : X) → is_want short (judge x) ≡ false) → is_want short (option_and_then judge o) ≡ false
+want-some short judge None h = refl
+want-some short judge (Some x) h = h x
 
 want-told : (short : Bool) (said : Result (Unit {0}) AttrRefusal) → is_want short (told said) ≡ false
 want-told short (Ok _) = refl
@@ -115,37 +119,57 @@ ends-bind : (desk : Desk) (client : ℕ) (name : List ℕ) (event : EventKind) (
 unfolding step_bind
 ends-bind desk client name event tag short = ends-outcome desk short (bind_refusal desk client name event) (bind_effect desk client name event tag) (search (then, want-when)) refl
 
--- each row
-ends-row : (desk : Desk) (client : ℕ) (command : Command) (short : Bool) → IfSome (row_of command) (λ row. Ends desk short (row desk client short))
-unfolding step_new step_set step_get step_drop step_place step_lift step_link step_unlink step_open step_close step_top
-ends-row desk client (New name kind) short = ends-outcome desk short (new_refusal desk client name kind short) (new_effect desk client name kind) (search (then, want-when, want-memory)) refl
-ends-row desk client (Set name options) short =
-    ends-outcome desk short (set_refusal desk client name options) (set_effect desk client name options)
-    (let row = want-row short (λ row. attrs_refusal row.kind options) (row_named desk.rows client name) (λ row. want-attrs short row.kind options) in search (then, want-when, row)) refl
-ends-row desk client (Get name attr) short = ends-outcome desk short (get_refusal desk client name attr) (get_effect desk client name attr) (search (then, want-when)) (reads (value_of desk client name attr))
-ends-row desk client (Place parent child options) short =
-    ends-outcome desk short (place_refusal desk client parent child options) (place_effect desk client parent child options)
-    (let row = want-row short (λ row. cell_options_refusal row.kind options) (row_named desk.rows client parent) (λ row. want-each short (cell_option_refusal row.kind) options (want-cell short row.kind)) in
-    search (then, want-when, row) depth 12) refl
-ends-row desk client (Lift parent child) short = ends-outcome desk short (lift_refusal desk client parent child) (lift_effect desk client child) (search (then, want-when)) refl
-ends-row desk client (ColumnConfig name index options) short = ends-track Across desk client name index options short
-ends-row desk client (RowConfig name index options) short = ends-track Down desk client name index options short
-ends-row desk client (Link name variable) short = ends-outcome desk short (link_refusal desk client name variable) (link_effect desk client name variable) (search (then, want-when)) refl
-ends-row desk client (Unlink name) short = ends-outcome desk short (unlink_refusal desk client name) (unlink_effect desk client name) (search (then, want-when)) refl
-ends-row desk client (Bind name event tag) short = ends-bind desk client name event (Some tag) short
-ends-row desk client (Unbind name event) short = ends-bind desk client name event None short
-ends-row desk client (OpenWindow name) short = ends-outcome desk short (open_refusal desk client name) (open_effect desk client name) (search (then, want-when)) refl
-ends-row desk client (CloseWindow name) short = ends-outcome desk short (unless_open desk client name) (close_effect desk client name) (search (then, want-when)) refl
-ends-row desk client (TopWindow name) short = ends-outcome desk short (unless_open desk client name) (top_effect desk client name) (search (then, want-when)) refl
-ends-row desk client (DropWidget name) short = ends-outcome desk short (drop_refusal desk client name) (drop_effect desk client name) (search (then, want-when)) refl
-ends-row desk client _ short = tt
+want-share : (desk : Desk) (client : ℕ) (name : List ℕ) (share : ℕ) (short : Bool) → is_want short (unless_share_fits desk client name share) ≡ false
+want-share desk client name share short = search want-when
 
-pub ends-asked : (desk : Desk) (client : ℕ) (command : Command) (short : Bool) → IfSome (row_of command) (λ row. Ends desk short (asked row desk client short))
-ends-asked desk client command short = by (row_of command) (ends-row desk client command short)
-  where
-    by : (row : Option (Desk → ℕ → Bool → Reply × Desk)) → IfSome row (λ row. Ends desk short (row desk client short)) → IfSome row (λ row. Ends desk short (asked row desk client short))
-    by None ends = tt
-    by (Some row) ends = ends-after desk short (when (not (is_connected desk client)) NotConnected) (row desk client short) (want-when short (not (is_connected desk client)) NotConnected refl) ends
+want-size : (frame : List ℕ) (short : Bool) (film : FilmState) → is_want short (unless_size_fits frame film) ≡ false
+want-size frame short film = search want-when
+
+-- what a poll is answered is no refusal
+polls : (answer : Polled) → is_refused (poll_reply answer) ≡ false
+polls (polled.Lost count) = refl
+polls (polled.One posted) = refl
+polls polled.Empty = refl
+
+-- each row
+ends-row : (desk : Desk) (client : ℕ) (command : Command) (payload : List ℕ) (short : Bool) → Ends desk short (row_of command payload desk client short)
+unfolding step_new step_set step_get step_drop step_place step_lift step_link step_unlink step_open step_close step_top step_mode step_admit step_leave step_frame step_poll
+ends-row desk client (New name kind) payload short = ends-outcome desk short (new_refusal desk client name kind short) (new_effect desk client name kind) (search (then, want-when, want-memory)) refl
+ends-row desk client (Set name options) payload short =
+    ends-outcome desk short (set_refusal desk client name options) (set_effect desk client name options)
+    (let row = want-some short (λ row. attrs_refusal row.kind options) (row_named desk.rows client name) (λ row. want-attrs short row.kind options) in search (then, want-when, row)) refl
+ends-row desk client (Get name attr) payload short = ends-outcome desk short (get_refusal desk client name attr) (get_effect desk client name attr) (search (then, want-when)) (reads (value_of desk client name attr))
+ends-row desk client (Place parent child options) payload short =
+    ends-outcome desk short (place_refusal desk client parent child options) (place_effect desk client parent child options)
+    (let row = want-some short (λ row. cell_options_refusal row.kind options) (row_named desk.rows client parent) (λ row. want-each short (cell_option_refusal row.kind) options (want-cell short row.kind)) in
+    search (then, want-when, row) depth 12) refl
+ends-row desk client (Lift parent child) payload short = ends-outcome desk short (lift_refusal desk client parent child) (lift_effect desk client child) (search (then, want-when)) refl
+ends-row desk client (ColumnConfig name index options) payload short = ends-track Across desk client name index options short
+ends-row desk client (RowConfig name index options) payload short = ends-track Down desk client name index options short
+ends-row desk client (Link name variable) payload short = ends-outcome desk short (link_refusal desk client name variable) (link_effect desk client name variable) (search (then, want-when)) refl
+ends-row desk client (Unlink name) payload short = ends-outcome desk short (unlink_refusal desk client name) (unlink_effect desk client name) (search (then, want-when)) refl
+ends-row desk client (Bind name event tag) payload short = ends-bind desk client name event (Some tag) short
+ends-row desk client (Unbind name event) payload short = ends-bind desk client name event None short
+ends-row desk client (OpenWindow name) payload short = ends-outcome desk short (open_refusal desk client name) (open_effect desk client name) (search (then, want-when)) refl
+ends-row desk client (CloseWindow name) payload short = ends-outcome desk short (unless_open desk client name) (close_effect desk client name) (search (then, want-when)) refl
+ends-row desk client (TopWindow name) payload short = ends-outcome desk short (unless_open desk client name) (top_effect desk client name) (search (then, want-when)) refl
+ends-row desk client (Mode name w h) payload short = ends-outcome desk short (mode_refusal desk client name w h short) (mode_effect desk client name w h) (search (then, want-when, want-memory) depth 12) refl
+ends-row desk client (Admit name period) payload short =
+    ends-outcome desk short (admit_refusal desk client name period) (admit_effect desk client name period)
+    (let fits = want-some short (λ film. unless_share_fits desk client name (share_wanted film period)) (film_named desk.rows client name) (λ film. want-share desk client name (share_wanted film period) short) in
+    search (then, want-when, fits) depth 12) refl
+ends-row desk client (Leave name) payload short = ends-outcome desk short (leave_refusal desk client name) (leave_effect desk client name) (search (then, want-when)) refl
+ends-row desk client (SendFrame name size) payload short =
+    ends-outcome desk short (frame_refusal desk client name payload) (frame_effect desk client name payload)
+    (let fits = want-some short (unless_size_fits payload) (film_named desk.rows client name) (want-size payload short) in
+    search (then, want-when, fits) depth 12) refl
+ends-row desk client (DropWidget name) payload short = ends-outcome desk short (drop_refusal desk client name) (drop_effect desk client name) (search (then, want-when)) refl
+ends-row desk client Poll payload short = inr (polls (poll_answer (ring_of desk.rings client)))
+
+-- so does the row of a client that has to be connected
+pub ends-asked : (desk : Desk) (client : ℕ) (command : Command) (payload : List ℕ) (short : Bool) → Ends desk short (outcome desk (when (not (is_connected desk client)) NotConnected) (row_of command payload desk client short))
+ends-asked desk client command payload short =
+    ends-after desk short (when (not (is_connected desk client)) NotConnected) (row_of command payload desk client short) (want-when short (not (is_connected desk client)) NotConnected refl) (ends-row desk client command payload short)
 
 pub ends-connect : (desk : Desk) (client : ℕ) (short : Bool) → Ends desk short (outcome desk (first_refusal (when (is_connected desk client) Connected ∷ when short Memory ∷ [])) (Done, with_client client desk))
 ends-connect desk client short = ends-outcome desk short (first_refusal (when (is_connected desk client) Connected ∷ when short Memory ∷ [])) (Done, with_client client desk) (search (then, want-when, want-memory)) refl

@@ -1,20 +1,17 @@
 -- What a client does leaves the others' part of the desk, and what it is answered depends on its own part alone.
 use Rattle.std.proofs.Common.{◌≡◌, ℕ, ℤ, Bool, true, false, cond, not, nat_eq, is_none, List, [], ◌∷◌, ◌++◌, Option, Some, None, ◌⊎◌, inl, inr, refl, sym, ap, ◌∙◌, subst}
 use Rattle.std.proofs.lemmas.Bool.{eqb-true}
-use Rattle.std.proofs.lemmas.Option.{some_pair_parts}
 use Rattle.std.specs.Prelude.{unsigned_abs, IfSome}
-use Rattle.std.specs.List.{filter}
-use Rattle.std.specs.Option.{option_map}
 use Rattle.std.specs.Str.{bytes_eq}
 use Rattle.kind_core.specs.declared.kinds.EventKind.{EventKind}
 use Rattle.cmd_words.specs.declared.commands.ConfigOption.{ConfigOption}
 use Rattle.cmd_words.specs.declared.commands.Command.{Command}
-use Rattle.cmd_words.specs.declared.commands.Command.TheVariants.{New, Set, Get, Place, Lift, ColumnConfig, RowConfig, Link, Unlink, Bind, Unbind, OpenWindow, CloseWindow, TopWindow, DropWidget}
+use Rattle.cmd_words.specs.declared.commands.Command.TheVariants.{New, Set, Get, Place, Lift, ColumnConfig, RowConfig, Link, Unlink, Bind, Unbind, OpenWindow, CloseWindow, TopWindow, Mode, Admit, Leave, SendFrame, DropWidget, Poll}
 use Rattle.cmd_words.specs.declared.replies.Reply.{Reply}
 use Rattle.cmd_words.specs.declared.replies.Reply.TheVariants.{Done}
 use Rattle.cmd_words.specs.declared.replies.Refusal.{Refusal}
 use Rattle.cmd_words.specs.declared.replies.Refusal.TheVariants.{Memory, Full, NotConnected, Connected}
-use Rattle.widget_model.specs.Rows.{Row, new_row, with_attached, with_link, with_binding}
+use Rattle.widget_model.specs.Rows.{Row, new_row, with_attached, with_link, with_binding, with_film}
 use Rattle.widget_model.specs.Named.{rows_of_others, with_named, without_named}
 use Rattle.widget_model.specs.Pointer.{Pointer, Grab, no_grab, on_widget, drags}
 use Rattle.desk_model.specs.Desk.{Desk, Admission, Ring, is_connected, is_open}
@@ -29,14 +26,21 @@ use Rattle.desk_model.specs.Bindings.{bind_refusal, bind_effect, step_bind}
 use Rattle.desk_model.specs.Windows.{open_refusal, open_effect, step_open, unless_open, close_effect, step_close, top_effect, step_top, without_window, with_top}
 use Rattle.scene_model.specs.declared.axis.Axis.{Axis}
 use Rattle.scene_model.specs.declared.axis.Axis.TheVariants.{Across, Down}
+use Rattle.vscreen_core.specs.FilmState.{blank_film}
+use Rattle.vscreen_core.specs.Changes.{begun, settled}
+use Rattle.bind_core.specs.Ring.{new_ring}
+use Rattle.bind_core.specs.Polling.{after_poll}
+use Rattle.desk_model.specs.Screens.{other_admissions, with_film_changed, framed, admission_of, mode_refusal, mode_effect, step_mode, admit_refusal, admit_effect, step_admit, leave_refusal, leave_effect, step_leave, frame_refusal, frame_effect, step_frame}
+use Rattle.desk_model.specs.Polling.{with_ring, step_poll}
 use Rattle.desk_model.specs.Clients.{step_connect, step_hello, step_bye, with_client, without_client, free_client, hello_effect}
-use Rattle.desk_model.specs.Commands.{row_of, asked, step}
-use Rattle.desk_model.specs.LetGo.{is_in_window, grab_left, focus_left, let_go, event_end}
+use Rattle.desk_model.specs.Commands.{row_of, step}
+use Rattle.desk_model.specs.LetGo.{is_in_window, grab_left, focus_left, let_go}
 use Rattle.widget_model.specs.Trees.{root_of, most_levels}
-use Rattle.desk_model.specs.OwnPart.{own_windows, windows_of_others, IsGrabOf, IsFocusOf, LeavesPointer, reply_of, LeavesOthers, CommandsLeaveOthers, ConnectsLeaveOthers, HellosLeaveOthers, ByesLeaveOthers, AnswersDependOnOwnPart, ConnectsDependOnOwnPart, ByesDependOnOwnPart}
+use Rattle.desk_model.specs.OwnPart.{own_windows, windows_of_others, IsGrabOf, IsFocusOf, LeavesPointer, LeavesOthers, admissions_of_others, CommandsLeaveOthers, ConnectsLeaveOthers, HellosLeaveOthers, ByesLeaveOthers, AnswersDependOnOwnPart, ConnectsDependOnOwnPart, ByesDependOnOwnPart}
 use Rattle.widget_model.specs.Named.{own_rows}
 use Rattle.desk_model.proofs.OthersRows.{filter-filter, filter-within, rows_of_others-with_named, rows_of_others-without_named, rows_of_others-push, client-new_row, client-with_attrs, windows_of_others-cons, windows_of_others-without, list_any-push_other, list_any-without_other}
 use Rattle.widget_model.proofs.OwnRows.{list_any-agree, root_in-agree}
+use Rattle.desk_model.proofs.OthersAdmissions.{rings_of_others, admissions_of_others-without, admissions_of_others-push, rings_of_others-push, rings_of_others-with_ring}
 use Rattle.desk_model.proofs.OwnAnswers.{answer-outcome, answer-row}
 
 -- What is not the client's, and the whole pointer, is as it was: before a step's ending.
@@ -46,8 +50,8 @@ pub record LeavesApart (client : ℕ) (old new : Desk) : Type 0 where
   pub rows : rows_of_others client new.rows ≡ rows_of_others client old.rows
   pub windows : windows_of_others client new.windows ≡ windows_of_others client old.windows
   pub pointer : new.pointer ≡ old.pointer
-  pub roster : filter (λ admission. not (nat_eq client admission.client)) new.roster ≡ filter (λ admission. not (nat_eq client admission.client)) old.roster
-  pub rings : filter (λ ring. not (nat_eq client ring.client)) new.rings ≡ filter (λ ring. not (nat_eq client ring.client)) old.rings
+  pub roster : admissions_of_others client new.roster ≡ admissions_of_others client old.roster
+  pub rings : rings_of_others client new.rings ≡ rings_of_others client old.rings
 
 -- a change of the rows alone
 LeavesApart-rows : (client : ℕ) (desk : Desk) (rows : List Row) → rows_of_others client rows ≡ rows_of_others client desk.rows → LeavesApart client desk (record desk { rows = rows })
@@ -64,6 +68,30 @@ LeavesApart-rows client desk rows kept = record {
 -- other windows, where the others' are the same
 LeavesApart-windows : (client : ℕ) (desk : Desk) (windows : List (ℕ × List ℕ)) → windows_of_others client windows ≡ windows_of_others client desk.windows → LeavesApart client desk (record desk { windows = windows })
 LeavesApart-windows client desk windows same = record { shape = refl; clients = λ other differ. refl; rows = refl; windows = same; pointer = refl; roster = refl; rings = refl }
+
+-- a change of the rows and of the roster
+LeavesApart-roster : (client : ℕ) (desk : Desk) (rows : List Row) (roster : List Admission) → rows_of_others client rows ≡ rows_of_others client desk.rows → admissions_of_others client roster ≡ admissions_of_others client desk.roster → LeavesApart client desk (record desk { rows = rows; roster = roster })
+LeavesApart-roster client desk rows roster kept same = record {
+  shape = refl;
+  clients = λ other differ. refl;
+  rows = kept;
+  windows = refl;
+  pointer = refl;
+  roster = same;
+  rings = refl;
+}
+
+-- an event of the client's ring is told
+LeavesApart-poll : (client : ℕ) (desk : Desk) → LeavesApart client desk (record desk { rings = with_ring client after_poll desk.rings })
+LeavesApart-poll client desk = record {
+  shape = refl;
+  clients = λ other differ. refl;
+  rows = refl;
+  windows = refl;
+  pointer = refl;
+  roster = refl;
+  rings = rings_of_others-with_ring client after_poll desk.rings;
+}
 
 -- a desk that stays
 pub LeavesApart-same : (client : ℕ) (desk : Desk) → LeavesApart client desk desk
@@ -94,39 +122,54 @@ LeavesApart-bind desk client name event tag =
     LeavesApart-outcome client desk (bind_refusal desk client name event) (bind_effect desk client name event tag) (LeavesApart-with_named client name (with_binding event tag) desk (λ row. refl))
 
 -- each row
-LeavesApart-row : (desk : Desk) (client : ℕ) (command : Command) (short : Bool) → IfSome (row_of command) (λ row. LeavesApart client desk (row desk client short).1)
-unfolding step_new step_set step_get step_drop step_place step_lift step_link step_unlink step_open step_close step_top
-LeavesApart-row desk client (New name kind) short =
+LeavesApart-row : (desk : Desk) (client : ℕ) (command : Command) (payload : List ℕ) (short : Bool) → LeavesApart client desk (row_of command payload desk client short).1
+unfolding step_new step_set step_get step_drop step_place step_lift step_link step_unlink step_open step_close step_top step_mode step_admit step_leave step_frame step_poll
+LeavesApart-row desk client (New name kind) payload short =
     LeavesApart-outcome client desk (new_refusal desk client name kind short) (new_effect desk client name kind)
     (LeavesApart-rows client desk (desk.rows ++ new_row client name kind ∷ []) (rows_of_others-push client desk.rows (new_row client name kind) (client-new_row client name kind)))
-LeavesApart-row desk client (Set name options) short =
+LeavesApart-row desk client (Set name options) payload short =
     LeavesApart-outcome client desk (set_refusal desk client name options) (set_effect desk client name options) (LeavesApart-with_named client name (with_attrs options) desk (client-with_attrs options))
-LeavesApart-row desk client (Get name attr) short = LeavesApart-outcome client desk (get_refusal desk client name attr) (get_effect desk client name attr) (LeavesApart-same client desk)
-LeavesApart-row desk client (Place parent child options) short =
+LeavesApart-row desk client (Get name attr) payload short = LeavesApart-outcome client desk (get_refusal desk client name attr) (get_effect desk client name attr) (LeavesApart-same client desk)
+LeavesApart-row desk client (Place parent child options) payload short =
     LeavesApart-outcome client desk (place_refusal desk client parent child options) (place_effect desk client parent child options)
     (LeavesApart-with_named client child (with_attached (Some (parent, cell_given options))) desk (λ row. refl))
-LeavesApart-row desk client (Lift parent child) short =
+LeavesApart-row desk client (Lift parent child) payload short =
     LeavesApart-outcome client desk (lift_refusal desk client parent child) (lift_effect desk client child) (LeavesApart-with_named client child (with_attached None) desk (λ row. refl))
-LeavesApart-row desk client (ColumnConfig name index options) short = LeavesApart-track Across desk client name index options
-LeavesApart-row desk client (RowConfig name index options) short = LeavesApart-track Down desk client name index options
-LeavesApart-row desk client (Link name variable) short =
+LeavesApart-row desk client (ColumnConfig name index options) payload short = LeavesApart-track Across desk client name index options
+LeavesApart-row desk client (RowConfig name index options) payload short = LeavesApart-track Down desk client name index options
+LeavesApart-row desk client (Link name variable) payload short =
     LeavesApart-outcome client desk (link_refusal desk client name variable) (link_effect desk client name variable) (LeavesApart-with_named client name (with_link (Some variable)) desk (λ row. refl))
-LeavesApart-row desk client (Unlink name) short =
+LeavesApart-row desk client (Unlink name) payload short =
     LeavesApart-outcome client desk (unlink_refusal desk client name) (unlink_effect desk client name) (LeavesApart-with_named client name (with_link None) desk (λ row. refl))
-LeavesApart-row desk client (Bind name event tag) short = LeavesApart-bind desk client name event (Some tag)
-LeavesApart-row desk client (Unbind name event) short = LeavesApart-bind desk client name event None
-LeavesApart-row desk client (OpenWindow name) short =
+LeavesApart-row desk client (Bind name event tag) payload short = LeavesApart-bind desk client name event (Some tag)
+LeavesApart-row desk client (Unbind name event) payload short = LeavesApart-bind desk client name event None
+LeavesApart-row desk client (OpenWindow name) payload short =
     LeavesApart-outcome client desk (open_refusal desk client name) (open_effect desk client name)
     (LeavesApart-windows client desk ((client, name) ∷ desk.windows) (windows_of_others-cons client name desk.windows))
-LeavesApart-row desk client (CloseWindow name) short =
+LeavesApart-row desk client (CloseWindow name) payload short =
     LeavesApart-outcome client desk (unless_open desk client name) (close_effect desk client name)
     (LeavesApart-windows client desk (without_window client name desk.windows) (windows_of_others-without client name desk.windows))
-LeavesApart-row desk client (TopWindow name) short =
+LeavesApart-row desk client (TopWindow name) payload short =
     LeavesApart-outcome client desk (unless_open desk client name) (top_effect desk client name)
     (LeavesApart-windows client desk (with_top client name desk.windows) (windows_of_others-cons client name (without_window client name desk.windows) ∙ windows_of_others-without client name desk.windows))
-LeavesApart-row desk client (DropWidget name) short =
+LeavesApart-row desk client (Mode name w h) payload short =
+    LeavesApart-outcome client desk (mode_refusal desk client name w h short) (mode_effect desk client name w h)
+    (LeavesApart-with_named client name (with_film (Some (blank_film (unsigned_abs w) (unsigned_abs h)))) desk (λ row. refl))
+LeavesApart-row desk client (Admit name period) payload short =
+    let change : Row → Row = with_film_changed (λ film. begun film (unsigned_abs period)) in
+    LeavesApart-outcome client desk (admit_refusal desk client name period) (admit_effect desk client name period)
+    (LeavesApart-roster client desk (with_named client name change desk.rows) (other_admissions client name desk.roster ++ admission_of desk client name period ∷ [])
+    (rows_of_others-with_named client name change desk.rows (λ row. refl))
+    (admissions_of_others-push client (other_admissions client name desk.roster) (admission_of desk client name period) refl ∙ admissions_of_others-without client name desk.roster))
+LeavesApart-row desk client (Leave name) payload short =
+    LeavesApart-outcome client desk (leave_refusal desk client name) (leave_effect desk client name)
+    (LeavesApart-roster client desk (with_named client name (with_film_changed settled) desk.rows) (other_admissions client name desk.roster)
+    (rows_of_others-with_named client name (with_film_changed settled) desk.rows (λ row. refl)) (admissions_of_others-without client name desk.roster))
+LeavesApart-row desk client (SendFrame name size) payload short =
+    LeavesApart-outcome client desk (frame_refusal desk client name payload) (frame_effect desk client name payload) (LeavesApart-with_named client name (with_film_changed (framed payload)) desk (λ row. refl))
+LeavesApart-row desk client (DropWidget name) payload short =
     LeavesApart-outcome client desk (drop_refusal desk client name) (drop_effect desk client name) (LeavesApart-rows client desk (without_named client name desk.rows) (rows_of_others-without_named client name desk.rows))
-LeavesApart-row desk client _ short = tt
+LeavesApart-row desk client Poll payload short = LeavesApart-poll client desk
 
 -- the client comes
 pub LeavesApart-with_client : (client : ℕ) (desk : Desk) → LeavesApart client desk (with_client client desk)
@@ -137,7 +180,7 @@ LeavesApart-with_client client desk = record {
   windows = refl;
   pointer = refl;
   roster = refl;
-  rings = refl;
+  rings = rings_of_others-push client desk.rings (record { client = client; events = new_ring }) refl;
 }
 
 -- the client goes
@@ -223,17 +266,13 @@ pub record Ends (client : ℕ) (old next : Desk) : Type 0 where
   pub ended : next ≡ let_go before
   pub leaves : LeavesApart client old before
 
-pub command_ends : (desk : Desk) (client : ℕ) (command : Command) (short : Bool) (reply : Reply) (next : Desk) → step desk client command short ≡ Some (reply, next) → Ends client desk next
+pub command_ends : (desk : Desk) (client : ℕ) (command : Command) (payload : List ℕ) (short : Bool) → Ends client desk (step desk client command payload short).1
 unfolding step
-command_ends desk client command short reply next e = by (row_of command) (LeavesApart-row desk client command short) e
-  where
-    by : (row : Option (Desk → ℕ → Bool → Reply × Desk)) → IfSome row (λ row. LeavesApart client desk (row desk client short).1) → option_map (λ row. event_end (asked row desk client short)) row ≡ Some (reply, next) → Ends client desk next
-    by None leaves e = absurd (cc)
-    by (Some row) leaves e = record {
-      before = (asked row desk client short).1;
-      ended = sym (some_pair_parts (asked row desk client short).0 reply (let_go (asked row desk client short).1) next e).1;
-      leaves = LeavesApart-outcome client desk (when (not (is_connected desk client)) NotConnected) (row desk client short) leaves;
-    }
+command_ends desk client command payload short = record {
+  before = (outcome desk (when (not (is_connected desk client)) NotConnected) (row_of command payload desk client short)).1;
+  ended = refl;
+  leaves = LeavesApart-outcome client desk (when (not (is_connected desk client)) NotConnected) (row_of command payload desk client short) (LeavesApart-row desk client command payload short);
+}
 
 pub connect_ends : (desk : Desk) (client : ℕ) (short : Bool) → Ends client desk (step_connect desk client short).1
 unfolding step_connect
@@ -272,7 +311,7 @@ leaves-ends client old next held ends =
 
 -- the laws
 pub commands_leave_others : CommandsLeaveOthers
-commands_leave_others desk client command short reply next is e = leaves-ends client desk next is.held (command_ends desk client command short reply next e)
+commands_leave_others desk client command payload short is = leaves-ends client desk _ is.held (command_ends desk client command payload short)
 
 pub connects_leave_others : ConnectsLeaveOthers
 connects_leave_others desk client short is = leaves-ends client desk _ is.held (connect_ends desk client short)
@@ -289,13 +328,9 @@ byes_leave_others desk client is = leaves-ends client desk _ is.held (bye_ends d
 
 pub answers_depend_on_own_part : AnswersDependOnOwnPart
 unfolding step
-answers_depend_on_own_part one two client command short agree = by (row_of command) (answer-row one two client command short agree)
-  where
-    by : (row : Option (Desk → ℕ → Bool → Reply × Desk)) → option_map (λ row. (row one client short).0) row ≡ option_map (λ row. (row two client short).0) row → reply_of (option_map (λ row. event_end (asked row one client short)) row) ≡ reply_of (option_map (λ row. event_end (asked row two client short)) row)
-    by None same = refl
-    by (Some row) same =
-        let replies : (row one client short).0 ≡ (row two client short).0 = cc in
-        ap Some (answer-outcome one two (when (not (is_connected one client)) NotConnected) (when (not (is_connected two client)) NotConnected) (row one client short) (row two client short) (rw agree.connected refl) replies)
+answers_depend_on_own_part one two client command payload short is_one is_two agree =
+    answer-outcome one two (when (not (is_connected one client)) NotConnected) (when (not (is_connected two client)) NotConnected) (row_of command payload one client short) (row_of command payload two client short) (rw agree.connected refl)
+    (answer-row one two client command payload short is_one is_two agree)
 
 pub connects_depend_on_own_part : ConnectsDependOnOwnPart
 unfolding step_connect

@@ -12,11 +12,12 @@ use Rattle.widget_model.specs.Kinds.{any_kind, counts_with, is_window_kind}
 use Rattle.widget_model.specs.Named.{row_named, rows_counted, is_kind_of}
 use Rattle.widget_model.specs.Clients.{is_joined, is_client}
 use Rattle.widget_model.specs.Planted.{IsPlanted}
-use Rattle.widget_model.specs.Fitting.{fits_table, fits_rules, has_slots}
+use Rattle.widget_model.specs.Fitting.{fits_table, fits_rules, has_slots, HaveFitFilms}
 use Rattle.desk_model.specs.Desk.{Desk}
 use Rattle.desk_model.specs.LetGo.{is_in_window, grab_left, focus_left, let_go}
 use Rattle.desk_model.specs.Refusals.{outcome}
-use Rattle.desk_model.specs.DeskFacts.{AreConnectedOnce, AreOpenOnce, links_right, links_by_kind, IsDesk}
+use Rattle.desk_model.specs.Screens.{roster_limit}
+use Rattle.desk_model.specs.DeskFacts.{AreConnectedOnce, AreOpenOnce, links_right, links_by_kind, IsRosterOf, AreRingsOf, IsDesk}
 use Rattle.widget_model.specs.Named.{AreNamedApart}
 
 -- what holds of the rows, where these clients are connected
@@ -31,6 +32,7 @@ pub record AreRows (clients : List ℕ) (rows : List Row) : Type 0 where
   pub fitting : list_all fits_table rows ≡ true
   pub rules : list_all fits_rules rows ≡ true
   pub slots : list_all has_slots rows ≡ true
+  pub films : HaveFitFilms rows
 
 -- whether the window is one of the rows, and a Window
 abbrev pub names_window : List Row → ℕ × List ℕ → Bool
@@ -46,6 +48,8 @@ pub record IsSound (desk : Desk) : Type 0 where
   pub clients : list_all is_client desk.clients ≡ true
   pub connected_once : AreConnectedOnce desk.clients
   pub rows : AreRows desk.clients desk.rows
+  pub roster : IsRosterOf (roster_limit desk) desk.rows desk.roster
+  pub rings : AreRingsOf desk.clients desk.rings
   pub windows : AreWindows desk.rows desk.windows
 
 pub IsSound-desk : (desk : Desk) → IsDesk desk → IsSound desk
@@ -65,7 +69,10 @@ IsSound-desk desk kept =
         fitting = kept.fitting;
         rules = kept.rules;
         slots = kept.slots;
+        films = kept.films;
       };
+      roster = kept.roster;
+      rings = kept.rings;
       windows = record { there = kept.windows; once = kept.once };
     }
 
@@ -85,6 +92,9 @@ IsDesk-sound desk sound held =
       fitting = sound.rows.fitting;
       rules = sound.rows.rules;
       slots = sound.rows.slots;
+      films = sound.rows.films;
+      roster = sound.roster;
+      rings = sound.rings;
       windows = sound.windows.there;
       once = sound.windows.once;
       held = held;
@@ -120,7 +130,7 @@ let_go-again desk =
 
 pub IsSound-let_go : (desk : Desk) → IsSound desk → IsSound (let_go desk)
 unfolding let_go
-IsSound-let_go desk sound = record { shape = sound.shape; clients = sound.clients; connected_once = sound.connected_once; rows = sound.rows; windows = sound.windows }
+IsSound-let_go desk sound = record { shape = sound.shape; clients = sound.clients; connected_once = sound.connected_once; rows = sound.rows; roster = sound.roster; rings = sound.rings; windows = sound.windows }
 
 -- so each event ends with a whole desk
 pub IsDesk-let_go : (desk : Desk) → IsSound desk → IsDesk (let_go desk)
