@@ -71,6 +71,7 @@ closed_all w client name key kind keys keys' reply kept found window there gone 
       clients = refl;
       kept = record { clients = kept.clients; tree = kept.tree; stack = stack; windows = subst P (sym gone) (all-without (names_window (nodes w.entries)) keys key kept.windows) };
       names = λ stage id key named inside. named;
+      admitted = λ entry there. refl;
       numbers = numbers-same w.entries kept.tree.forest.own_names;
       places = λ id row there. refl;
     }
@@ -88,6 +89,7 @@ raised_all w client name key kind keys keys' reply kept found window there raise
       clients = refl;
       kept = record { clients = kept.clients; tree = kept.tree; stack = stack; windows = subst P (sym raised) (and_from _ _ (found-window w client name key kind found window) (all-without (names_window (nodes w.entries)) keys key kept.windows)) };
       names = λ stage id key named inside. named;
+      admitted = λ entry there. refl;
       numbers = numbers-same w.entries kept.tree.forest.own_names;
       places = λ id row there. refl;
     }

@@ -49,7 +49,7 @@ all_listed rows roster later client name change here others all =
     by row false named listed = others row named listed
 
 -- whichever is tested, two names are alike or not
-is_admission-turned : (one two : Admission) → is_admission one.client one.name two ≡ is_admission two.client two.name one
+pub is_admission-turned : (one two : Admission) → is_admission one.client one.name two ≡ is_admission two.client two.name one
 is_admission-turned one two = rw (nat_eq_equiv.symm one.client two.client, nat_list_eq_equiv.symm one.name two.name) refl
 
 AreAdmittedOnce-push : (roster : List Admission) (last : Admission) → AreAdmittedOnce roster → list_any (is_admission last.client last.name) roster ≡ false → AreAdmittedOnce (roster ++ last ∷ [])

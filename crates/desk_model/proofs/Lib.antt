@@ -1,3 +1,11 @@
+pub mod OthersRows
+pub mod OthersAdmissions
+pub mod OwnShares
+pub mod OwnAnswers
+pub mod OwnPart
+pub mod Outcomes
+pub mod Ample
+pub mod Refused
 pub mod Sound
 pub mod Rosters
 pub mod Rings
@@ -9,7 +17,6 @@ pub mod AttrOptions
 pub mod Tracks
 pub mod PlaceOptions
 pub mod Clients
-pub mod OthersRows
 pub mod KeptWidgets
 pub mod KeptPlacement
 pub mod KeptTracks
@@ -18,10 +25,11 @@ pub mod KeptWindows
 pub mod Admissions
 pub mod KeptScreens
 pub mod KeptPoll
+pub mod FilmNames
+pub mod BeatSteps
+pub mod FedRows
 pub mod Desks
-pub mod Outcomes
-pub mod Ample
-pub mod Refused
+pub mod ByePointer
 pub mod Shares
 pub mod Texts
 pub mod Limits

@@ -30,7 +30,7 @@ has_share share film = option_map_or (λ film. nat_lt 0 film.period && nat_eq sh
 abbrev pub film_in : Option Row → Option FilmState
 film_in row = option_and_then (λ row. row.film) row
 
-has_share-aside : (share : ℕ) (film : Option FilmState) → has_share share film ≡ option_map_or (nat_eq share) (option_and_then set_aside film) false
+pub has_share-aside : (share : ℕ) (film : Option FilmState) → has_share share film ≡ option_map_or (nat_eq share) (option_and_then set_aside film) false
 has_share-aside share None = refl
 has_share-aside share (Some film) = by (nat_lt 0 film.period)
   where
