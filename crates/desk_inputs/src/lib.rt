@@ -3,7 +3,9 @@
 #![tactic(auto)]
 
 mod posting;
+mod raising;
 mod values;
 
 pub use posting::posted_of;
+pub use raising::raise;
 pub use values::set_values;
