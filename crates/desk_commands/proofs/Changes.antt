@@ -12,7 +12,8 @@ use Rattle.widget_model.specs.Forest.{IsWidgets}
 use Rattle.desk_model.specs.Desk.{Desk}
 use Rattle.widget_model.proofs.Naming.{rows-with_row, with_named-kept, with_named-same}
 use Rattle.desk_commands.specs.Parts.{names_window}
-use Rattle.desk_commands.specs.Effects.{Did, TellsRows, TellsAll}
+use Rattle.admit_core.specs.Roster.{RosterState}
+use Rattle.desk_commands.specs.Effects.{Did, DidListed, TellsRows, TellsAll}
 use Rattle.desk_commands.specs.Lookup.{IsFound}
 use Rattle.desk_commands.proofs.Effects.{titles_kept}
 
@@ -99,5 +100,11 @@ rule_eq-false a b h same =
 -- the open windows stay
 pub tells_all : (step : Desk → Reply × Desk) (old new : Widgets) (keys : List ℕ) (reply : Reply) (changed : Bool) → Did step old new reply → list_all (names_window (nodes old.entries)) keys ≡ true → TellsRows old new changed → TellsAll old new keys keys changed
 tells_all step old new keys reply changed did windows tells =
+    let titles = titles_kept (nodes old.entries) (nodes new.entries) keys did.kept windows in
+    (λ h both. tells.0 h both.0, λ n. tells.1 (λ r. n (r, titles)))
+
+-- the same where the roster may change
+pub tells_listed : (step : Desk → Reply × Desk) (old new : Widgets) (keys : List ℕ) (roster roster' : RosterState) (reply : Reply) (changed : Bool) → DidListed step old new roster roster' reply → list_all (names_window (nodes old.entries)) keys ≡ true → TellsRows old new changed → TellsAll old new keys keys changed
+tells_listed step old new keys roster roster' reply changed did windows tells =
     let titles = titles_kept (nodes old.entries) (nodes new.entries) keys did.kept windows in
     (λ h both. tells.0 h both.0, λ n. tells.1 (λ r. n (r, titles)))

@@ -2,7 +2,7 @@
 use Rattle.std.proofs.Common.{◌≡◌, ℕ, Bool, true, false, cond, not, ◌||◌, nat_eq, List, [], ◌∷◌, Option, Some, None, refl, sym, ap, ap₂, ◌∙◌, subst}
 use Rattle.std.proofs.lemmas.Bool.{true≢false, eqb-true, and_parts, and_from, or_parts}
 use Rattle.std.proofs.lemmas.Option.{same_Some as some_same}
-use Rattle.std.specs.List.{list_all}
+use Rattle.std.specs.List.{list_all, list_any}
 use Rattle.std.specs.Option.{option_map, option_map_or, option_and_then}
 use Rattle.kind_core.specs.declared.kinds.Kind.{Kind}
 use Rattle.kind_core.specs.declared.shapes.Cell.{Cell}
@@ -13,7 +13,7 @@ use Rattle.stack_core.specs.Stack.{holds_key}
 use Rattle.widget_model.specs.Rows.{Row}
 use Rattle.widget_model.specs.Nodes.{node_of, node_at}
 use Rattle.widget_model.specs.Named.{has_name, row_named, without_named}
-use Rattle.widget_model.specs.Trees.{hangs, is_used, parent_of, most_levels}
+use Rattle.widget_model.specs.Trees.{hangs, is_child, links_to, is_admitted, is_used, parent_of, most_levels}
 use Rattle.widget_model.specs.Keys.{key_of}
 use Rattle.widget_model.specs.Widgets.{key_at, Widgets, nodes, rows_of, row_at, without_row, removed}
 use Rattle.widget_model.specs.Forest.{IsWidgets}
@@ -21,7 +21,7 @@ use Rattle.desk_model.specs.Desk.{Desk, is_open}
 use Rattle.desk_model.specs.Refusals.{when, first_refusal, outcome, unless_there}
 use Rattle.desk_model.specs.WidgetCommands.{drop_effect, step_drop}
 use Rattle.widget_model.proofs.Naming.{rows-without_row}
-use Rattle.desk_commands.specs.Parts.{Stage, windows_at, desk_of, names_window, AreParts}
+use Rattle.desk_commands.specs.Parts.{Stage, windows_at, desk_of, names_window, names_admitted, AreParts}
 use Rattle.desk_model.specs.LetGo.{is_in_window}
 use Rattle.desk_commands.specs.Effects.{DidAll, TellsAll}
 use Rattle.desk_commands.specs.Lookup.{IsFound}
@@ -87,6 +87,25 @@ names_left w client name id kind keys stage found shut unused other key named in
         absurd (true≢false (sym inside ∙ ap (is_in_window (desk_of stage w keys)) is ∙ out))
     by false q = key_at-kept w.entries (without_row id w.entries) other key (λ there. node_at-without_row w.entries id other q) named
 
+-- A widget that isn't used is no admitted VScreen, so a number that names one is another.
+admitted_left : (w : Widgets) (client : ℕ) (name : List ℕ) (id : ℕ) (kind : Kind) → (found : IsFound w client name id kind) → is_used (rows_of w) found.row ≡ false → (entry : ℕ × ℕ) → names_admitted w.entries entry ≡ true → node_at (nodes (without_row id w.entries)) entry.0 ≡ node_at (nodes w.entries) entry.0
+admitted_left w client name id kind found unused entry there = by (nat_eq entry.0 id) refl
+  where
+    links : Bool
+    links = list_any (links_to found.row.client found.row.name) (rows_of w)
+
+    child : Bool
+    child = list_any (is_child found.row.client found.row.name) (rows_of w)
+
+    free : is_admitted found.row ≡ false
+    free = (or_parts links (is_admitted found.row) (or_parts child (links || is_admitted found.row) (or_parts (hangs found.row) (child || (links || is_admitted found.row)) unused).1).1).1
+
+    by : (b : Bool) → nat_eq entry.0 id ≡ b → node_at (nodes (without_row id w.entries)) entry.0 ≡ node_at (nodes w.entries) entry.0
+    by true q =
+        let row : row_at w.entries entry.0 ≡ Some found.row = ap (row_at w.entries) (eqb-true entry.0 id q) ∙ found.there in
+        absurd (true≢false (sym there ∙ ap (λ (o : Option Row). option_map_or is_admitted o false) row ∙ free))
+    by false q = node_at-without_row w.entries id entry.0 q
+
 -- there is none of the name left
 unnamed : (rs : List Row) (client : ℕ) (name : List ℕ) → row_named (without_named client name rs) client name ≡ None
 unnamed [] client name = refl
@@ -111,6 +130,7 @@ dropped_all w new client name key kind keys reply kept found closed unused left 
       clients = refl;
       kept = record { clients = refl; tree = sound; stack = kept.stack; windows = windows_left w.entries key keys closed kept.windows };
       names = λ stage. names_left w client name key kind keys stage found shut unused;
+      admitted = admitted_left w client name key kind found unused;
       numbers = numbers-fewer w.entries (without_row key w.entries) kept.tree.forest.own_names (λ id row there. (without-left w.entries key id row there).was);
       places = λ id row there. removed-place w key id row there;
     })

@@ -1,5 +1,6 @@
 pub mod Counting
 pub mod Effects
+pub mod Rosters
 pub mod Wholes
 pub mod Unmoved
 mod NewStays
@@ -9,7 +10,12 @@ pub mod Edits
 pub mod AttrSteps
 pub mod WidgetSteps
 pub mod TrackSteps
+pub mod Films
+pub mod ScreenSteps
+mod KindRoom
 pub mod WindowSteps
+pub mod Admissions
+pub mod AdmitSteps
 pub mod WindowOrder
 pub mod CommandSteps
 pub mod Changes

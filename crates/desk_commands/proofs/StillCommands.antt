@@ -1,9 +1,8 @@
 -- Commands that move nothing: they open a window, change what an event is bound to, or set what layout doesn't read.
-use Rattle.std.proofs.Common.{◌≡◌, ◌+◌, ◌*◌, ℕ, ℤ, pos, Bool, true, false, cond, int_lt, unsigned_abs, length, get_or, List, [], ◌∷◌, map, slice_get, Option, Some, None, is_some, refl, sym, ap, ap₂, ◌∙◌, subst}
+use Rattle.std.proofs.Common.{◌≡◌, ◌+◌, ◌*◌, ℕ, ℤ, pos, Bool, true, false, cond, int_lt, nat_eq, nat_lt, unsigned_abs, length, get_or, List, [], ◌∷◌, map, slice_get, Option, Some, None, is_some, refl, sym, ap, ap₂, ◌∙◌, subst}
 use Rattle.std.proofs.lemmas.Bool.{true≢false, or_parts}
 use Rattle.std.proofs.lemmas.List.{get_or-set_other}
 use Rattle.std.specs.List.{list_any}
-use Rattle.std.specs.Prelude.{IfSome}
 use Rattle.std.specs.Option.{option_map, option_map_or, option_and_then}
 use Rattle.kind_core.specs.declared.kinds.Kind.{Kind}
 use Rattle.kind_core.specs.declared.kinds.Kind.TheVariants.{Window, Grid, Frame, Button, Label, Entry, Scale, Scrollbar, Variable, VScreen}
@@ -12,7 +11,8 @@ use Rattle.kind_core.specs.declared.kinds.Attr.TheVariants.{X, Y, W, H, Title, T
 use Rattle.kind_core.specs.declared.kinds.EventKind.{EventKind}
 use Rattle.kind_core.specs.declared.values.Value as value
 use Rattle.kind_core.specs.Effective.{label_text, frame_offset}
-use Rattle.vscreen_core.specs.FilmState.{FilmState}
+use Rattle.vscreen_core.specs.FilmState.{FilmState, pixels_in}
+use Rattle.vscreen_core.specs.Changes.{committed, begun, settled}
 use Rattle.cmd_words.specs.declared.commands.Command.{Command}
 use Rattle.cmd_words.specs.declared.commands.Command.TheVariants.{New, Set, Get, Place, Lift, ColumnConfig, RowConfig, Link, Unlink, Bind, Unbind, OpenWindow, CloseWindow, TopWindow, Mode, Admit, Leave, SendFrame, DropWidget, Poll}
 use Rattle.cmd_words.specs.declared.replies.Reply.{Reply}
@@ -40,10 +40,16 @@ use Rattle.desk_commands.proofs.NewStays.{unmoved-more}
 use Rattle.desk_model.specs.Refusals.{outcome, first_refusal, when}
 use Rattle.desk_model.specs.Bindings.{step_bind, bind_refusal, bind_effect}
 use Rattle.desk_model.specs.Windows.{step_open, open_refusal, open_effect, unless_open, close_effect, step_close, top_effect, step_top}
+use Rattle.desk_model.specs.Screens.{with_film_changed, framed, admit_refusal, admit_effect, step_admit, leave_refusal, leave_effect, step_leave, frame_refusal, frame_effect, step_frame}
+use Rattle.desk_model.specs.Polling.{step_poll}
 use Rattle.desk_model.specs.Commands.{row_of}
 use Rattle.desk_commands.specs.Stays.{MoveNothing, is_asked, may_move}
 use Rattle.desk_commands.proofs.AttrChanges.{same_but_values}
 use Rattle.desk_commands.proofs.Unmoved.{unmoved-same, unmoved-map}
+
+-- the size of a film
+abbrev film_size : FilmState → ℕ × ℕ
+film_size film = (film.width, film.height)
 
 -- A change that leaves all that layout reads of each row.
 record LeavesAsked (change : Row → Row) (rows : List Row) : Type 0 where
@@ -53,7 +59,7 @@ record LeavesAsked (change : Row → Row) (rows : List Row) : Type 0 where
   attached : (row : Row) → (change row).attached ≡ row.attached
   column_rules : (row : Row) → (change row).column_rules ≡ row.column_rules
   row_rules : (row : Row) → (change row).row_rules ≡ row.row_rules
-  film : (row : Row) → (change row).film ≡ row.film
+  film : (row : Row) → option_map film_size (change row).film ≡ option_map film_size row.film
   attrs : (i : ℕ) (row : Row) → slice_get rows i ≡ Some row → (attr : Attr) → is_asked row.kind attr ≡ true → attr_of (change row) attr ≡ attr_of row attr
   linked : (i : ℕ) (row : Row) → slice_get rows i ≡ Some row → linked_value (map change rows) (change row) ≡ linked_value rows row
 
@@ -87,7 +93,11 @@ module _ (change : Row → Row) (rows : List Row) (leaves : LeavesAsked change r
   size-same Entry q = ap (λ (n : ℤ). (6 * unsigned_abs n + 4, 12)) (number-same Cols refl)
   size-same Scale q = ap (λ (n : ℤ). bar_size (int_lt (pos 0) n)) (number-same Vert refl)
   size-same Scrollbar q = ap (λ (n : ℤ). bar_size (int_lt (pos 0) n)) (number-same Vert refl)
-  size-same VScreen q = ap (λ (film : Option FilmState). option_map_or (λ (f : FilmState). (f.width, f.height)) film (16, 16)) (leaves.film row)
+  size-same VScreen q = or_none (change row).film ∙ ap (λ (o : Option (ℕ × ℕ)). option_map_or (λ (size : ℕ × ℕ). size) o (16, 16)) (leaves.film row) ∙ sym (or_none row.film)
+    where
+      or_none : (o : Option FilmState) → option_map_or (λ (f : FilmState). (f.width, f.height)) o (16, 16) ≡ option_map_or (λ (size : ℕ × ℕ). size) (option_map film_size o) (16, 16)
+      or_none None = refl
+      or_none (Some film) = refl
   size-same Frame q = refl
   size-same Window q = ap₂ (λ (w h : ℤ). (unsigned_abs w, unsigned_abs h)) (number-same W refl) (number-same H refl)
   size-same Grid q = refl
@@ -134,7 +144,7 @@ bound-leaves rows client name event tag = record {
   attached = of-changed (λ (r : Row). r.attached) client name (with_binding event tag) (λ row. refl);
   column_rules = of-changed (λ (r : Row). r.column_rules) client name (with_binding event tag) (λ row. refl);
   row_rules = of-changed (λ (r : Row). r.row_rules) client name (with_binding event tag) (λ row. refl);
-  film = of-changed (λ (r : Row). r.film) client name (with_binding event tag) (λ row. refl);
+  film = of-changed (λ (r : Row). option_map film_size r.film) client name (with_binding event tag) (λ row. refl);
   attrs = λ i row there attr asked. of-changed (λ (r : Row). attr_of r attr) client name (with_binding event tag) (λ other. refl) row;
   linked = λ i row there.
       linked-kept (changed client name (with_binding event tag)) rows row
@@ -143,6 +153,29 @@ bound-leaves rows client name event tag = record {
       (of-changed (λ (r : Row). r.link) client name (with_binding event tag) (λ other. refl) row)
       (λ to other q p. of-changed (λ (r : Row). number_of Value r) client name (with_binding event tag) (λ third. refl) other);
 }
+
+-- nor is what a film of its size shows
+filmed-leaves : (rows : List Row) (client : ℕ) (name : List ℕ) (change : FilmState → FilmState) → ((film : FilmState) → film_size (change film) ≡ film_size film) → LeavesAsked (changed client name (with_film_changed change)) rows
+filmed-leaves rows client name change same = record {
+  client = of-changed (λ (r : Row). r.client) client name (with_film_changed change) (λ row. refl);
+  name = of-changed (λ (r : Row). r.name) client name (with_film_changed change) (λ row. refl);
+  kind = of-changed (λ (r : Row). r.kind) client name (with_film_changed change) (λ row. refl);
+  attached = of-changed (λ (r : Row). r.attached) client name (with_film_changed change) (λ row. refl);
+  column_rules = of-changed (λ (r : Row). r.column_rules) client name (with_film_changed change) (λ row. refl);
+  row_rules = of-changed (λ (r : Row). r.row_rules) client name (with_film_changed change) (λ row. refl);
+  film = of-changed (λ (r : Row). option_map film_size r.film) client name (with_film_changed change) (λ row. size row.film);
+  attrs = λ i row there attr asked. of-changed (λ (r : Row). attr_of r attr) client name (with_film_changed change) (λ other. refl) row;
+  linked = λ i row there.
+      linked-kept (changed client name (with_film_changed change)) rows row
+      (record { client = of-changed (λ (r : Row). r.client) client name (with_film_changed change) (λ other. refl); name = of-changed (λ (r : Row). r.name) client name (with_film_changed change) (λ other. refl) })
+      (of-changed (λ (r : Row). r.client) client name (with_film_changed change) (λ other. refl) row)
+      (of-changed (λ (r : Row). r.link) client name (with_film_changed change) (λ other. refl) row)
+      (λ to other q p. of-changed (λ (r : Row). number_of Value r) client name (with_film_changed change) (λ third. refl) other);
+}
+  where
+    size : (o : Option FilmState) → option_map film_size (option_map change o) ≡ option_map film_size o
+    size None = refl
+    size (Some film) = ap Some (same film)
 
 -- each slot is one attribute's
 slot-attr : (attr : Attr) → get_or all_attrs (attr_slot attr) X ≡ attr
@@ -213,7 +246,7 @@ module _ (desk : Desk) (client : ℕ) (name : List ℕ) (options : List (Attr ×
       attached = kept-by (λ (r : Row). r.attached) (λ row values. refl);
       column_rules = kept-by (λ (r : Row). r.column_rules) (λ row values. refl);
       row_rules = kept-by (λ (r : Row). r.row_rules) (λ row values. refl);
-      film = kept-by (λ (r : Row). r.film) (λ row values. refl);
+      film = kept-by (λ (r : Row). option_map film_size r.film) (λ row values. refl);
       attrs = attrs-left;
       linked = λ i other there. linked-kept change desk.rows other names (names.client other) (kept-by (λ (r : Row). r.link) (λ r values. refl) other) (variable-left i other there);
     }
@@ -262,25 +295,68 @@ unmoved-new desk client name kind short kept plain hung = by (new_refusal desk c
     by (Some refusal) q after = unmoved-same desk.rows
     by None q after = unmoved-more desk.rows (new_row client name kind) refl (named-none (row_named desk.rows client name) _ q) (record { names = kept.names; planted = kept.planted }) after kept.linked plain
 
+unmoved-film : (desk : Desk) (client : ℕ) (name : List ℕ) (change : FilmState → FilmState) → ((film : FilmState) → film_size (change film) ≡ film_size film) → MoveNothing desk.rows (with_named client name (with_film_changed change) desk.rows)
+unmoved-film desk client name change same =
+    unmoved-map (changed client name (with_film_changed change)) desk.rows (moves-nothing (changed client name (with_film_changed change)) desk.rows (filmed-leaves desk.rows client name change same))
+
+committed-size : (film : FilmState) (frame : List ℕ) → film_size (committed film frame) ≡ film_size film
+unfolding committed
+committed-size film frame = by (nat_eq (length frame) (pixels_in film))
+  where
+    by : (b : Bool) → film_size (cond b (record film { newest = frame }) film) ≡ film_size film
+    by true = refl
+    by false = refl
+
+settled-size : (film : FilmState) → film_size (settled film) ≡ film_size film
+unfolding settled
+settled-size film = refl
+
+begun-size : (film : FilmState) (period : ℕ) → film_size (begun film period) ≡ film_size film
+unfolding begun
+begun-size film period = refl
+
+framed-size : (frame : List ℕ) (film : FilmState) → film_size (framed frame film) ≡ film_size film
+framed-size frame film = by (nat_lt 0 film.period)
+  where
+    by : (b : Bool) → film_size (cond b (committed film frame) (settled (committed film frame))) ≡ film_size film
+    by true = committed-size film frame
+    by false = settled-size (committed film frame) ∙ committed-size film frame
+
+unmoved-admit : (desk : Desk) (client : ℕ) (name : List ℕ) (period : ℤ) → MoveNothing desk.rows (step_admit desk client name period).1.rows
+unfolding step_admit
+unmoved-admit desk client name period = unmoved-outcome desk (admit_refusal desk client name period) (admit_effect desk client name period) (unmoved-film desk client name (λ film. begun film (unsigned_abs period)) (λ film. begun-size film (unsigned_abs period)))
+
+unmoved-leave : (desk : Desk) (client : ℕ) (name : List ℕ) → MoveNothing desk.rows (step_leave desk client name).1.rows
+unfolding step_leave
+unmoved-leave desk client name = unmoved-outcome desk (leave_refusal desk client name) (leave_effect desk client name) (unmoved-film desk client name settled settled-size)
+
+unmoved-frame : (desk : Desk) (client : ℕ) (name frame : List ℕ) → MoveNothing desk.rows (step_frame desk client name frame).1.rows
+unfolding step_frame
+unmoved-frame desk client name frame = unmoved-outcome desk (frame_refusal desk client name frame) (frame_effect desk client name frame) (unmoved-film desk client name (framed frame) (framed-size frame))
+
+unmoved-poll : (desk : Desk) (client : ℕ) → MoveNothing desk.rows (step_poll desk client).1.rows
+unfolding step_poll
+unmoved-poll desk client = unmoved-same desk.rows
+
 -- the commands of which nothing is to be laid out
-pub unmoved-command : (command : Command) (desk : Desk) (client : ℕ) (short : Bool) → IsDesk desk → IfSome (row_of command) (λ row. AreHung (row desk client short).1.rows) → may_move desk.rows client command ≡ false → IfSome (row_of command) (λ row. MoveNothing desk.rows (row desk client short).1.rows)
-unmoved-command (New name kind) desk client short kept hung still = unmoved-new desk client name kind short kept still hung
-unmoved-command (Set name options) desk client short kept hung still = unmoved-set desk client name options kept still
-unmoved-command (Get name attr) desk client short kept hung still = absurd (true≢false still)
-unmoved-command (Place parent child options) desk client short kept hung still = absurd (true≢false still)
-unmoved-command (Lift parent child) desk client short kept hung still = absurd (true≢false still)
-unmoved-command (ColumnConfig name index options) desk client short kept hung still = absurd (true≢false still)
-unmoved-command (RowConfig name index options) desk client short kept hung still = absurd (true≢false still)
-unmoved-command (Link name variable) desk client short kept hung still = absurd (true≢false still)
-unmoved-command (Unlink name) desk client short kept hung still = absurd (true≢false still)
-unmoved-command (Bind name event tag) desk client short kept hung still = unmoved-bind desk client name event (Some tag)
-unmoved-command (Unbind name event) desk client short kept hung still = unmoved-bind desk client name event None
-unmoved-command (OpenWindow name) desk client short kept hung still = unmoved-open desk client name
-unmoved-command (CloseWindow name) desk client short kept hung still = unmoved-close desk client name
-unmoved-command (TopWindow name) desk client short kept hung still = unmoved-top desk client name
-unmoved-command (Mode name w h) desk client short kept hung still = absurd (true≢false still)
-unmoved-command (Admit name period) desk client short kept hung still = absurd (true≢false still)
-unmoved-command (Leave name) desk client short kept hung still = absurd (true≢false still)
-unmoved-command (SendFrame name size) desk client short kept hung still = absurd (true≢false still)
-unmoved-command (DropWidget name) desk client short kept hung still = absurd (true≢false still)
-unmoved-command Poll desk client short kept hung still = absurd (true≢false still)
+pub unmoved-command : (command : Command) (payload : List ℕ) (desk : Desk) (client : ℕ) (short : Bool) → IsDesk desk → AreHung (row_of command payload desk client short).1.rows → may_move desk.rows client command ≡ false → MoveNothing desk.rows (row_of command payload desk client short).1.rows
+unmoved-command (New name kind) payload desk client short kept hung still = unmoved-new desk client name kind short kept still hung
+unmoved-command (Set name options) payload desk client short kept hung still = unmoved-set desk client name options kept still
+unmoved-command (Get name attr) payload desk client short kept hung still = absurd (true≢false still)
+unmoved-command (Place parent child options) payload desk client short kept hung still = absurd (true≢false still)
+unmoved-command (Lift parent child) payload desk client short kept hung still = absurd (true≢false still)
+unmoved-command (ColumnConfig name index options) payload desk client short kept hung still = absurd (true≢false still)
+unmoved-command (RowConfig name index options) payload desk client short kept hung still = absurd (true≢false still)
+unmoved-command (Link name variable) payload desk client short kept hung still = absurd (true≢false still)
+unmoved-command (Unlink name) payload desk client short kept hung still = absurd (true≢false still)
+unmoved-command (Bind name event tag) payload desk client short kept hung still = unmoved-bind desk client name event (Some tag)
+unmoved-command (Unbind name event) payload desk client short kept hung still = unmoved-bind desk client name event None
+unmoved-command (OpenWindow name) payload desk client short kept hung still = unmoved-open desk client name
+unmoved-command (CloseWindow name) payload desk client short kept hung still = unmoved-close desk client name
+unmoved-command (TopWindow name) payload desk client short kept hung still = unmoved-top desk client name
+unmoved-command (Mode name w h) payload desk client short kept hung still = absurd (true≢false still)
+unmoved-command (Admit name period) payload desk client short kept hung still = unmoved-admit desk client name period
+unmoved-command (Leave name) payload desk client short kept hung still = unmoved-leave desk client name
+unmoved-command (SendFrame name size) payload desk client short kept hung still = unmoved-frame desk client name payload
+unmoved-command (DropWidget name) payload desk client short kept hung still = absurd (true≢false still)
+unmoved-command Poll payload desk client short kept hung still = unmoved-poll desk client

@@ -24,7 +24,7 @@ use Rattle.desk_layout.proofs.KeyNumbers.{numbers-same}
 use Rattle.desk_commands.proofs.WindowSteps.{same_window, is_open-holds_key, found-window, found-title}
 
 -- the others by number are the others by name
-windows_at-without : (w : Widgets) (client : ℕ) (name : List ℕ) (key : ℕ) (kind : Kind) (keys : List ℕ) → HaveOwnNames (nodes w.entries) → IsFound w client name key kind → list_all (names_window (nodes w.entries)) keys ≡ true → windows_at (nodes w.entries) (without keys key) ≡ without_window client name (windows_at (nodes w.entries) keys)
+pub windows_at-without : (w : Widgets) (client : ℕ) (name : List ℕ) (key : ℕ) (kind : Kind) (keys : List ℕ) → HaveOwnNames (nodes w.entries) → IsFound w client name key kind → list_all (names_window (nodes w.entries)) keys ≡ true → windows_at (nodes w.entries) (without keys key) ≡ without_window client name (windows_at (nodes w.entries) keys)
 windows_at-without w client name key kind [] own found windows = refl
 windows_at-without w client name key kind (k ∷ ks) own found windows =
     by (windows_at-without w client name key kind ks own found parts.1) (nat_eq k key) (same_window w client name key kind k own found parts.0)
@@ -39,7 +39,7 @@ windows_at-without w client name key kind (k ∷ ks) own found windows =
     by rest true is = rest ∙ sym (rw is refl)
     by rest false is = ap (λ (ws : List (ℕ × List ℕ)). title_at ns k ∷ ws) rest ∙ sym (rw is refl)
 
-all-without : (test : ℕ → Bool) (keys : List ℕ) (key : ℕ) → list_all test keys ≡ true → list_all test (without keys key) ≡ true
+pub all-without : (test : ℕ → Bool) (keys : List ℕ) (key : ℕ) → list_all test keys ≡ true → list_all test (without keys key) ≡ true
 all-without test [] key all = refl
 all-without test (k ∷ ks) key all = by (all-without test ks key parts.1) (nat_eq k key)
   where
@@ -71,6 +71,7 @@ closed_all w client name key kind keys keys' reply kept found window there gone 
       clients = refl;
       kept = record { clients = kept.clients; tree = kept.tree; stack = stack; windows = subst P (sym gone) (all-without (names_window (nodes w.entries)) keys key kept.windows) };
       names = λ stage id key named inside. named;
+      admitted = λ entry there. refl;
       numbers = numbers-same w.entries kept.tree.forest.own_names;
       places = λ id row there. refl;
     }
@@ -88,6 +89,7 @@ raised_all w client name key kind keys keys' reply kept found window there raise
       clients = refl;
       kept = record { clients = kept.clients; tree = kept.tree; stack = stack; windows = subst P (sym raised) (and_from _ _ (found-window w client name key kind found window) (all-without (names_window (nodes w.entries)) keys key kept.windows)) };
       names = λ stage id key named inside. named;
+      admitted = λ entry there. refl;
       numbers = numbers-same w.entries kept.tree.forest.own_names;
       places = λ id row there. refl;
     }

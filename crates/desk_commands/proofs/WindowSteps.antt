@@ -1,5 +1,5 @@
 -- Windows that are open: by number as by name, and there is always room for one more.
-use Rattle.std.proofs.Common.{◌≡◌, ℕ, zero, suc, ◌+◌, ◌*◌, ◌≤◌, ◌<◌, Bool, true, false, cond, ◌&&◌, ◌||◌, nat_eq, nat_le, nat_lt, List, [], ◌∷◌, length, drop, slice_get, Option, Some, None, refl, sym, ap, ap₂, ◌∙◌, subst, arith, add-one}
+use Rattle.std.proofs.Common.{◌≡◌, ℕ, zero, suc, ◌+◌, ◌*◌, ◌≤◌, ◌<◌, Bool, true, false, cond, ◌&&◌, ◌||◌, nat_eq, nat_le, nat_lt, List, [], ◌∷◌, length, drop, slice_get, Option, Some, None, is_some, refl, sym, ap, ap₂, ◌∙◌, subst, arith, add-one}
 use Rattle.std.proofs.lemmas.Bool.{true≢false, eqb-true, eq-eqb, ne_eqb, eqb-false, leb-true, ltb-true, le-leb, lt-ltb, and_parts, and_from, and_right, or_right, false_from_ne_true}
 use Rattle.std.proofs.lemmas.List.Sums.{sum_by-cons}
 use Rattle.std.specs.List.{list_all, list_any, count_by}
@@ -27,7 +27,7 @@ use Rattle.tree_core.proofs.ForestLemmas.{node_at-nodes, joined_in_range}
 use Rattle.desk_commands.specs.Parts.{title_at, windows_at, desk_of, names_window, AreParts}
 use Rattle.desk_commands.specs.Effects.{DidAll}
 use Rattle.desk_commands.specs.Lookup.{IsFound}
-use Rattle.desk_commands.proofs.Counting.{no_longer}
+use Rattle.desk_commands.proofs.KindRoom.{room_for_one}
 use Rattle.desk_layout.proofs.KeyNumbers.{numbers-same}
 use Rattle.desk_commands.proofs.Effects.{found-parts}
 
@@ -43,109 +43,17 @@ holds_key-past [] (suc i) key past = rw (add-one (suc i)) refl
 holds_key-past (j ∷ js) zero key past = absurd (cc)
 holds_key-past (j ∷ js) (suc i) key past = rw (add-one (suc i)) (holds_key-past js i key past ∙ rw (add-one i) refl)
 
--- the numbers of the Windows
-window_numbers : List (ℕ × Node) → List ℕ
-window_numbers [] = []
-window_numbers (e ∷ es) = cond (is_window_kind e.1.kind) (e.0 ∷ window_numbers es) (window_numbers es)
-
-window-held : (ns : List (ℕ × Node)) (key : ℕ) → names_window ns key ≡ true → holds_key (window_numbers ns) key ≡ true
-unfolding window_numbers
-window-held [] key h = absurd (true≢false (sym h))
-window-held (e ∷ es) key h = by (window-held es key) (nat_eq key e.0) refl (is_window_kind e.1.kind) refl h
-  where
-    by : (names_window es key ≡ true → holds_key (window_numbers es) key ≡ true) → (b : Bool) → nat_eq key e.0 ≡ b → (d : Bool) → is_window_kind e.1.kind ≡ d → option_map_or (λ (node : Node). is_window_kind node.kind) (cond b (Some e.1) (node_at es key)) false ≡ true → holds_key (cond d (e.0 ∷ window_numbers es) (window_numbers es)) key ≡ true
-    by rest true q true r h = rw (eq-eqb e.0 key (sym (eqb-true key e.0 q))) refl
-    by rest true q false r h = absurd (true≢false (sym h ∙ r))
-    by rest false q true r h = or_right (nat_eq e.0 key) _ (rest h)
-    by rest false q false r h = rest h
-
-all-held : (ns : List (ℕ × Node)) (keys : List ℕ) → list_all (names_window ns) keys ≡ true → list_all (holds_key (window_numbers ns)) keys ≡ true
-all-held ns [] h = refl
-all-held ns (k ∷ ks) h =
-    let parts = and_parts (names_window ns k) (list_all (names_window ns) ks) h in
-    and_from _ _ (window-held ns k parts.0) (all-held ns ks parts.1)
-
--- how many Windows there are of the clients from `first` on
-within : ℕ → ℕ → ℕ → Bool
-within first n client = nat_le first client && nat_lt client (first + n)
-
-count_in : ℕ → ℕ → List (ℕ × Node) → ℕ
-count_in first n ns = count_by (λ (e : ℕ × Node). is_window_kind e.1.kind && within first n e.1.client) ns
-
-none_within : (first client : ℕ) → within first 0 client ≡ false
-unfolding within
-none_within first client = false_from_ne_true _ (λ h. let parts = and_parts (nat_le first client) (nat_lt client (first + 0)) h in absurd (omega (arith, leb-true first client parts.0, ltb-true client (first + 0) parts.1)))
-
-count_in-none : (first : ℕ) (ns : List (ℕ × Node)) → count_in first 0 ns ≡ 0
-unfolding count_in
-count_in-none first [] = refl
-count_in-none first (e ∷ es) =
-    let none : (is_window_kind e.1.kind && within first 0 e.1.client) ≡ false = and_right _ _ (none_within first e.1.client) in
-    sum_by-cons (λ (e : ℕ × Node). cond (is_window_kind e.1.kind && within first 0 e.1.client) 1 0) e es ∙ rw (none, count_in-none first es) refl
-
 same_test : (kind : Kind) → counts_with Window kind ≡ is_window_kind kind
 same_test Window = refl
 same_test _ = refl
 
-one_more : (first n : ℕ) (client : ℕ) (kind : Kind) → cond (is_window_kind kind && within first (suc n) client) 1 0 ≤ cond (nat_eq first client && counts_with Window kind) 1 0 + cond (is_window_kind kind && within (first + 1) n client) 1 0
-unfolding within
-one_more first n client kind = rw (same_test kind) (by (is_window_kind kind) (nat_eq first client) refl (nat_le first client && nat_lt client (first + suc n)) refl)
-  where
-    by : (w b : Bool) → nat_eq first client ≡ b → (a : Bool) → (nat_le first client && nat_lt client (first + suc n)) ≡ a → cond (w && a) 1 0 ≤ cond (b && w) 1 0 + cond (w && (nat_le (first + 1) client && nat_lt client (first + 1 + n))) 1 0
-    by false b q a r = omega arith
-    by true true q false r = omega arith
-    by true true q true r = omega arith
-    by true false q false r = omega arith
-    by true false q true r =
-        let parts = and_parts (nat_le first client) (nat_lt client (first + suc n)) r in
-        let other = eqb-false first client q in
-        let low = leb-true first client parts.0 in
-        let high = ltb-true client (first + suc n) parts.1 in
-        rw (le-leb (first + 1) client (omega arith), lt-ltb client (first + 1 + n) (omega arith)) (omega arith)
-
-count_in-more : (first n : ℕ) (ns : List (ℕ × Node)) → count_in first (suc n) ns ≤ count_of first (counts_with Window) ns + count_in (first + 1) n ns
-unfolding count_in
-count_in-more first n [] = omega arith
-count_in-more first n (e ∷ es) =
-    omega (
-      arith,
-      one_more first n e.1.client e.1.kind,
-      count_in-more first n es,
-      sum_by-cons (λ (e : ℕ × Node). cond (is_window_kind e.1.kind && within first (suc n) e.1.client) 1 0) e es,
-      sum_by-cons (λ (e : ℕ × Node). cond (nat_eq first e.1.client && counts_with Window e.1.kind) 1 0) e es,
-      sum_by-cons (λ (e : ℕ × Node). cond (is_window_kind e.1.kind && within (first + 1) n e.1.client) 1 0) e es,
-    )
-
-count_in-le : (n first : ℕ) (ns : List (ℕ × Node)) → ((client : ℕ) → count_of client (counts_with Window) ns ≤ 8) → count_in first n ns ≤ 8 * n
-count_in-le zero first ns few = omega (arith, count_in-none first ns)
-count_in-le (suc n) first ns few = omega (arith, count_in-more first n ns, count_in-le n (first + 1) ns few, few first)
-
-length-window_numbers : (clients : List ℕ) (ns : List (ℕ × Node)) → list_all is_client clients ≡ true → list_all (λ (e : ℕ × Node). is_joined clients e.1.client) ns ≡ true → length (window_numbers ns) ≤ count_in 1 16 ns
-unfolding window_numbers count_in within
-length-window_numbers clients [] ranges owners = omega arith
-length-window_numbers clients (e ∷ es) ranges owners = by (length-window_numbers clients es ranges parts.1) (is_window_kind e.1.kind) refl
-  where
-    parts : (is_joined clients e.1.client ≡ true) × (list_all (λ (e : ℕ × Node). is_joined clients e.1.client) es ≡ true)
-    parts = and_parts (is_joined clients e.1.client) (list_all (λ (e : ℕ × Node). is_joined clients e.1.client) es) owners
-
-    by : length (window_numbers es) ≤ count_in 1 16 es → (b : Bool) → is_window_kind e.1.kind ≡ b → length (cond b (e.0 ∷ window_numbers es) (window_numbers es)) ≤ count_in 1 16 (e ∷ es)
-    by rest true q =
-        let range = joined_in_range clients e.1.client parts.0 ranges in
-        let one : ◌≡◌ {A = ℕ} (cond (is_window_kind e.1.kind && within 1 16 e.1.client) 1 0) 1 = rw (q, le-leb 1 e.1.client range.0, lt-ltb e.1.client 17 (omega arith)) refl in
-        omega (arith, rest, one, sum_by-cons (λ (e : ℕ × Node). cond (is_window_kind e.1.kind && within 1 16 e.1.client) 1 0) e es)
-    by rest false q = omega (arith, rest, sum_by-cons (λ (e : ℕ × Node). cond (is_window_kind e.1.kind && within 1 16 e.1.client) 1 0) e es)
-
 -- there are at most 8 Windows of each of 16 clients, and a Window that isn't open is one more than those that are
 pub room_to_open : (clients : List ℕ) (w : Widgets) (keys : List ℕ) (key : ℕ) → AreParts clients w keys → names_window (nodes w.entries) key ≡ true → holds_key keys key ≡ false → length keys < 128
-room_to_open clients w keys key kept window new =
-    let ns = nodes w.entries in
-    let held = all-held ns (key ∷ keys) (and_from _ _ window kept.windows) in
-    let few = no_longer (key ∷ keys) (window_numbers ns) (new, kept.stack.distinct) held in
-    omega (arith, few, length-window_numbers w.clients ns kept.tree.forest.clients_in_range kept.tree.forest.owners, count_in-le 16 1 ns (λ client. kept.tree.forest.most_alike client Window))
+room_to_open clients w keys key kept window new = room_for_one Window is_window_kind same_test w.clients (nodes w.entries) keys key kept.tree.forest kept.stack.distinct kept.windows window new
 
--- an open window has the client and name of the one that was found exactly where it has its number
-pub same_window : (w : Widgets) (client : ℕ) (name : List ℕ) (key : ℕ) (kind : Kind) (k : ℕ) → HaveOwnNames (nodes w.entries) → IsFound w client name key kind → names_window (nodes w.entries) k ≡ true → is_window client name (title_at (nodes w.entries) k) ≡ nat_eq k key
-same_window w client name key kind k own found window = by (row_at w.entries k) refl (node_at-nodes w.entries k) window
+-- a widget has the client and name of the one that was found exactly where it has its number
+pub same_title : (w : Widgets) (client : ℕ) (name : List ℕ) (key : ℕ) (kind : Kind) (k : ℕ) → HaveOwnNames (nodes w.entries) → IsFound w client name key kind → is_some (row_at w.entries k) ≡ true → is_window client name (title_at (nodes w.entries) k) ≡ nat_eq k key
+same_title w client name key kind k own found live = by (row_at w.entries k) refl (node_at-nodes w.entries k) live
   where
     parts : (found.row.client ≡ client) × (found.row.name ≡ name)
     parts = found-parts w client name key kind found
@@ -164,13 +72,19 @@ same_window w client name key kind k own found window = by (row_at w.entries k) 
         let own : has_name client name found.row ≡ true = ap₂ (λ (c : ℕ) (n : List ℕ). has_name c n found.row) (sym parts.0) (sym parts.1) ∙ has_name-own found.row in
         true≢false (sym own ∙ ap (has_name client name) (sym one) ∙ q)))
 
-    by : (o : Option Row) → row_at w.entries k ≡ o → node_at (nodes w.entries) k ≡ option_map node_of (row_at w.entries k) → names_window (nodes w.entries) k ≡ true → is_window client name (title_at (nodes w.entries) k) ≡ nat_eq k key
-    by None p q h =
-        let absent : node_at (nodes w.entries) k ≡ None = q ∙ ap (option_map node_of) p in
-        absurd (true≢false (sym h ∙ rw absent refl))
+    by : (o : Option Row) → row_at w.entries k ≡ o → node_at (nodes w.entries) k ≡ option_map node_of (row_at w.entries k) → is_some o ≡ true → is_window client name (title_at (nodes w.entries) k) ≡ nat_eq k key
+    by None p q h = absurd (true≢false (sym h))
     by (Some row) p q h =
         let there : node_at (nodes w.entries) k ≡ Some (node_of row) = q ∙ ap (option_map node_of) p in
         rw there (same row p (has_name client name row) refl)
+
+-- an open window has the client and name of the one that was found exactly where it has its number
+pub same_window : (w : Widgets) (client : ℕ) (name : List ℕ) (key : ℕ) (kind : Kind) (k : ℕ) → HaveOwnNames (nodes w.entries) → IsFound w client name key kind → names_window (nodes w.entries) k ≡ true → is_window client name (title_at (nodes w.entries) k) ≡ nat_eq k key
+same_window w client name key kind k own found window = same_title w client name key kind k own found (by (row_at w.entries k) (sym (ap (λ (o : Option Node). option_map_or (λ (node : Node). is_window_kind node.kind) o false) (node_at-nodes w.entries k)) ∙ window))
+  where
+    by : (o : Option Row) → option_map_or (λ (node : Node). is_window_kind node.kind) (option_map node_of o) false ≡ true → is_some o ≡ true
+    by None h = absurd (true≢false (sym h))
+    by (Some row) h = refl
 
 pub is_open-holds_key : (w : Widgets) (client : ℕ) (name : List ℕ) (key : ℕ) (kind : Kind) (keys : List ℕ) → HaveOwnNames (nodes w.entries) → IsFound w client name key kind → list_all (names_window (nodes w.entries)) keys ≡ true → list_any (is_window client name) (windows_at (nodes w.entries) keys) ≡ holds_key keys key
 is_open-holds_key w client name key kind [] own found windows = refl
@@ -197,7 +111,7 @@ step_open-by desk client name row b h k = rw (h, k) refl
 -- a step that leaves the widgets and the windows
 pub refused_all : (step : Desk → Reply × Desk) (w : Widgets) (keys : List ℕ) (reply : Reply) (refusal : Refusal) → AreParts w.clients w keys → reply ≡ Refused refusal → ((stage : Stage) → step (desk_of stage w keys) ≡ (Refused refusal, desk_of stage w keys)) → DidAll step w w keys keys reply
 refused_all step w keys reply refusal kept replied answer =
-    record { answer = λ stage. ap (λ (r : Reply). (r, desk_of stage w keys)) replied ∙ sym (answer stage); clients = refl; kept = kept; names = λ stage id key named inside. named; numbers = numbers-same w.entries kept.tree.forest.own_names; places = λ id row there. refl }
+    record { answer = λ stage. ap (λ (r : Reply). (r, desk_of stage w keys)) replied ∙ sym (answer stage); clients = refl; kept = kept; names = λ stage id key named inside. named; admitted = λ entry there. refl; numbers = numbers-same w.entries kept.tree.forest.own_names; places = λ id row there. refl }
 
 pub opened_all : (w : Widgets) (client : ℕ) (name : List ℕ) (key : ℕ) (kind : Kind) (keys keys' : List ℕ) (reply : Reply) → AreParts w.clients w keys → IsFound w client name key kind → is_window_kind kind ≡ true → holds_key keys key ≡ false → keys' ≡ key ∷ keys → IsStack keys' → reply ≡ Done → DidAll (λ desk. step_open desk client name) w w keys keys' reply
 opened_all w client name key kind keys keys' reply kept found window new pushed stack replied =
@@ -213,6 +127,7 @@ opened_all w client name key kind keys keys' reply kept found window new pushed 
       clients = refl;
       kept = record { clients = kept.clients; tree = kept.tree; stack = stack; windows = subst P (sym pushed) (and_from _ _ (found-window w client name key kind found window) kept.windows) };
       names = λ stage id key named inside. named;
+      admitted = λ entry there. refl;
       numbers = numbers-same w.entries kept.tree.forest.own_names;
       places = λ id row there. refl;
     }

@@ -5,3 +5,4 @@ pub mod Effects
 pub mod Lookup
 pub mod TreeRefusals
 pub mod Tracks
+pub mod Screens

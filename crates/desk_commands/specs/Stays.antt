@@ -8,7 +8,7 @@ use Rattle.kind_core.specs.declared.kinds.Kind.TheVariants.{Entry}
 use Rattle.kind_core.specs.declared.kinds.Attr.{Attr}
 use Rattle.kind_core.specs.declared.kinds.Attr.TheVariants.{X, Y, W, H, Text, Cols, Value, Vert}
 use Rattle.cmd_words.specs.declared.commands.Command.{Command}
-use Rattle.cmd_words.specs.declared.commands.Command.TheVariants.{New, Set, Bind, Unbind, OpenWindow, CloseWindow, TopWindow}
+use Rattle.cmd_words.specs.declared.commands.Command.TheVariants.{New, Set, Bind, Unbind, OpenWindow, CloseWindow, TopWindow, Admit, Leave, SendFrame, Poll}
 use Rattle.widget_model.specs.Rows.{Row}
 use Rattle.widget_model.specs.Kinds.{is_variable_kind, is_window_kind}
 use Rattle.widget_model.specs.Named.{row_named}
@@ -38,8 +38,8 @@ is_asked kind Text = not (is_entry kind)
 is_asked kind Value = is_variable_kind kind
 is_asked kind _ = false
 
--- A new widget that is no Window, opening, closing and raising a window, binding an event and setting what layout doesn't read move nothing;
--- any other command may.
+-- A new widget that is no Window, opening, closing and raising a window, binding and polling events, frames, admissions and
+-- setting what layout doesn't read move nothing; any other command may.
 abbrev pub may_move : List Row → ℕ → Command → Bool
 may_move rows client (New name kind) = is_window_kind kind
 may_move rows client (Set name options) = option_map_or (λ row. list_any (λ option. is_asked row.kind option.0) options) (row_named rows client name) false
@@ -48,4 +48,8 @@ may_move rows client (Unbind name event) = false
 may_move rows client (OpenWindow name) = false
 may_move rows client (CloseWindow name) = false
 may_move rows client (TopWindow name) = false
+may_move rows client (Admit name period) = false
+may_move rows client (Leave name) = false
+may_move rows client (SendFrame name size) = false
+may_move rows client Poll = false
 may_move rows client _ = true

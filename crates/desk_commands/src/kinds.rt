@@ -3,6 +3,7 @@
 ghost use Rattle.std.specs.Prelude.{◌≡◌, ◌&&◌};
 ghost use Rattle.widget_model.specs.Trees.{has_children, can_be_child};
 ghost use Rattle.widget_model.specs.Kinds.{can_link, is_variable_kind};
+ghost use Rattle.desk_model.specs.Screens.{is_screen};
 ghost use Rattle.desk_model.specs.Tracks.{is_grid};
 ghost use Rattle.desk_model.specs.PlaceOptions.{last_cell};
 ghost use Rattle.desk_commands.specs.Stays.{is_entry};
@@ -21,6 +22,13 @@ pub(crate) fn is_grid(kind: Kind) -> bool
     ensures { result ≡ is_grid kind }
 {
     matches!(kind, Kind::Grid)
+}
+
+/// Whether the kind is VScreen, which shows films.
+pub(crate) fn is_screen(kind: Kind) -> bool
+    ensures { result ≡ is_screen kind }
+{
+    matches!(kind, Kind::VScreen)
 }
 
 /// The last column and row of a widget of the kind.

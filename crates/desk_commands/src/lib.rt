@@ -1,6 +1,7 @@
 //! What each command of a client does to the parts of a desk: the tree of widgets and the order of the open windows.
 #![tactic(auto)]
 
+mod admission;
 mod answer;
 mod bindings;
 mod commands;
@@ -13,12 +14,14 @@ mod placement;
 mod pointer;
 mod ranges;
 mod rule_options;
+mod screens;
 mod tracks;
 mod widgets;
 mod windows;
 
+pub use admission::dismiss;
 pub use answer::Answer;
-pub use commands::obey;
+pub use commands::{is_poll, obey};
 pub use moves::may_move;
 pub use pointer::let_go;
 pub use widgets::get;

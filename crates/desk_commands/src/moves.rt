@@ -55,7 +55,11 @@ pub fn may_move(tree: &Tree, client: u32, command: &Command) -> bool
         | Command::Unbind { .. }
         | Command::OpenWindow { .. }
         | Command::CloseWindow { .. }
-        | Command::TopWindow { .. } => false,
+        | Command::TopWindow { .. }
+        | Command::Admit { .. }
+        | Command::Leave { .. }
+        | Command::SendFrame { .. }
+        | Command::Poll => false,
         _ => true,
     }
 }

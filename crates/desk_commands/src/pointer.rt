@@ -1,8 +1,10 @@
 //! What the pointer may hold on to: open windows and widgets under them.
 
-ghost use Rattle.std.specs.Prelude.{◌≡◌, IsSome, IfSome};
+ghost use Rattle.std.specs.Prelude.{◌≡◌, IsSome, IfSome, List};
 ghost use Rattle.std.specs.Option.{option_and_then};
 ghost use Rattle.kind_core.specs.declared.shapes.Shape.{Shape};
+ghost use Rattle.admit_core.specs.Roster.{RosterState};
+ghost use Rattle.desk_model.specs.Desk.{Ring};
 ghost use Rattle.widget_model.specs.Widgets.{key_at, row_at};
 ghost use Rattle.tree_core.specs.Holds.{grab_seen};
 ghost use Rattle.desk_model.specs.LetGo.{is_in_window, grab_left, focus_left, let_go};
@@ -72,7 +74,7 @@ fn focus_left(tree: &Tree, windows: &Stack, focus: Option<Id>) -> Option<Id>
 pub fn let_go(tree: &Tree, windows: &Stack, pointer: &mut Pointer)
     requires parts { AreParts tree.now.clients tree.now windows.now }
     requires live { HoldsLive tree.now.entries pointer.old }
-    ensures left { (shape : Shape) → desk_of (stage_of shape tree.now pointer.new) tree.now windows.now ≡ let_go (desk_of (stage_of shape tree.now pointer.old) tree.now windows.now) }
+    ensures left { (shape : Shape) (roster : RosterState) (rings : List Ring) → desk_of (stage_of shape roster rings tree.now pointer.new) tree.now windows.now ≡ let_go (desk_of (stage_of shape roster rings tree.now pointer.old) tree.now windows.now) }
     ensures live { HoldsLive tree.now.entries pointer.new }
 {
     let grab = grab_left(tree, windows, pointer.grab);

@@ -174,6 +174,14 @@ impl Film {
         &self.newest
     }
 
+    /// The frame that the period under way draws, row by row from the top: a byte for each pixel.
+    pub fn current(&self) -> &[u8]
+        ensures current { result.now ≡ self.now.current }
+        ensures valid { IsFilm self.now }
+    {
+        &self.current
+    }
+
     /// The width in pixels, 1 to 256.
     pub fn width(&self) -> u32
         ensures width { result ≡ self.now.width }
@@ -196,6 +204,14 @@ impl Film {
         ensures valid { IsFilm self.now }
     {
         self.period
+    }
+
+    /// The phase that the next beat draws, from 0 below the period. It stays what it was where the film isn't admitted.
+    pub fn phase(&self) -> u32
+        ensures phase { result ≡ self.now.phase }
+        ensures valid { IsFilm self.now }
+    {
+        self.phase
     }
 }
 
