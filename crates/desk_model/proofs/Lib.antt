@@ -30,6 +30,7 @@ pub mod BeatSteps
 pub mod Desks
 pub mod ByePointer
 pub mod BeatRows
+pub mod BeatScene
 pub mod KeptBeat
 pub mod Shares
 pub mod Texts
