@@ -27,6 +27,7 @@ pub mod KeptScreens
 pub mod KeptPoll
 pub mod FilmNames
 pub mod BeatSteps
+pub mod FedRows
 pub mod Desks
 pub mod ByePointer
 pub mod BeatRows
