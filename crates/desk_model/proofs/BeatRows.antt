@@ -79,6 +79,12 @@ kind-beaten row = ap (λ (r : Row). r.kind) (row_beaten-is row)
 pub attached-beaten : (row : Row) → (row_beaten row).attached ≡ row.attached
 attached-beaten row = ap (λ (r : Row). r.attached) (row_beaten-is row)
 
+pub values-beaten : (row : Row) → (row_beaten row).values ≡ row.values
+values-beaten row = ap (λ (r : Row). r.values) (row_beaten-is row)
+
+pub bindings-beaten : (row : Row) → (row_beaten row).bindings ≡ row.bindings
+bindings-beaten row = ap (λ (r : Row). r.bindings) (row_beaten-is row)
+
 pub link-beaten : (row : Row) → (row_beaten row).link ≡ row.link
 link-beaten row = ap (λ (r : Row). r.link) (row_beaten-is row)
 

@@ -31,6 +31,7 @@ pub mod FedRows
 pub mod Desks
 pub mod ByePointer
 pub mod BeatRows
+pub mod BeatScene
 pub mod KeptBeat
 pub mod Shares
 pub mod Texts

@@ -21,8 +21,8 @@ use Rattle.desk_model.specs.Screens.{film_named}
 use Rattle.desk_model.specs.Clients.{step_connect, step_hello, step_bye}
 use Rattle.desk_model.specs.Commands.{step}
 use Rattle.desk_model.specs.Feeding.{step_feed}
-use Rattle.desk_model.specs.Beat.{beat}
-use Rattle.desk_model.proofs.BeatRows.{film_beaten, film_named-beaten}
+use Rattle.desk_model.proofs.BeatRows.{film_beaten}
+use Rattle.desk_model.proofs.BeatScene.{film_named-beat}
 use Rattle.machine_model.specs.State.{State, IsState}
 use Rattle.machine_model.specs.Events.{Event, Answer}
 use Rattle.machine_model.specs.Events.Event.{Connect, Hello, Bye, Ask, Feed, Misread, Tick, CountDirty, LookAt, Dump}
@@ -44,11 +44,6 @@ IsFilm-state state key film is there = by (row_named state.desk.rows key.0 key.1
         let at = find-element (has_name key.0 key.1) state.desk.rows row found in
         let F : Option FilmState → Type 0 = λ o. IfSome o (λ (f : FilmState). IsFilm f) in
         subst F h (whole_film state.desk.rows at.0 row is.desk.films at.1)
-
--- the film of a beat
-film_named-beat : (desk : Desk) (key : ℕ × List ℕ) → film_named (beat desk).rows key.0 key.1 ≡ option_map film_beaten (film_named desk.rows key.0 key.1)
-unfolding beat
-film_named-beat desk key = film_named-beaten desk.rows key.0 key.1
 
 -- A step that isn't a tick: the film goes on.
 film_goes-changed : (old : State) (next : Desk) (new : State) (key : ℕ × List ℕ) → Changed old next new → FilmGoes (film_in old key) (film_named next.rows key.0 key.1) → FilmGoes (film_in old key) (film_in new key)
@@ -96,7 +91,7 @@ moves-goes film old new there on (inr (inr ends)) = absurd (true≢false (sym on
 pub film_in-ticked : (old : State) (drew : Drew) (new : State) (key : ℕ × List ℕ) (film : FilmState) → Ticked old drew new → film_in old key ≡ Some film → nat_lt 0 film.period ≡ true → film_in new key ≡ Some (beaten film)
 film_in-ticked old drew new key film t there on =
     ap (λ (desk : Desk). film_named desk.rows key.0 key.1) t.desk
-    ∙ film_named-beat old.desk key
+    ∙ film_named-beat old.desk key.0 key.1
     ∙ ap (option_map film_beaten) there
     ∙ ap (λ (b : Bool). Some (cond b (beaten film) film)) on
 

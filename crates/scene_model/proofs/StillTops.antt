@@ -1,17 +1,20 @@
 -- Where a change of rows moves nothing, each widget shows the pixels that it showed, and the same widgets are on top.
-use Rattle.std.proofs.Common.{◌≡◌, ℕ, zero, suc, ℤ, pos, Bool, ◌&&◌, List, map, Option, Some, None, refl, ap, ap₂, ◌∙◌}
+use Rattle.std.proofs.Common.{◌≡◌, ℕ, zero, suc, ℤ, pos, Bool, cond, ◌&&◌, List, map, slice_get, Option, Some, None, refl, ap, ap₂, ◌∙◌}
 use Rattle.std.specs.List.{find}
 use Rattle.std.specs.Option.{option_map, option_map_or, option_and_then}
 use Rattle.geom_core.specs.declared.rectangle.Rect.{Rect}
 use Rattle.geom_core.specs.Rect.{in_rect}
+use Rattle.kind_core.specs.declared.kinds.Kind.{Kind}
 use Rattle.kind_core.specs.declared.shapes.Cell.{Cell}
 use Rattle.widget_model.specs.Rows.{Row}
-use Rattle.widget_model.specs.Named.{has_name, row_named}
+use Rattle.widget_model.specs.Named.{has_name, row_named, is_kind_of}
+use Rattle.widget_model.specs.Kinds.{is_window_kind}
 use Rattle.widget_model.specs.Trees.{is_child, parent_of, root_in, root_of, most_levels}
 use Rattle.widget_model.specs.Keys.{key_of, row_of}
 use Rattle.widget_model.proofs.Hanging.{row_named-map, find-element, find-map, find-same}
 use Rattle.scene_model.specs.Scene.{Scene}
 use Rattle.scene_model.specs.Placing.{place_in}
+use Rattle.scene_model.specs.DuePlaces.{due_place}
 use Rattle.scene_model.specs.Showing.{place_of, parent_in, on_screen, shows_in, shows_at, window_at, child_at, lowest_in, top_of}
 use Rattle.scene_model.specs.Still.{MovesNothing}
 use Rattle.scene_model.proofs.Still.{still_places, leaves_names}
@@ -124,3 +127,19 @@ top_of-still change scene still x y =
     by : (o : Option (ℕ × List ℕ)) → option_map (lowest_in most_levels (scene_changed change scene) x y) o ≡ option_map (lowest_in most_levels scene x y) o
     by None = refl
     by (Some window) = ap Some (lowest_in-still most_levels change scene still x y window)
+
+-- and each widget has a place where it had one, the same
+pub due_place-still : (change : Row → Row) (rows : List Row) → MovesNothing change rows → (i : ℕ) (row : Row) → slice_get rows i ≡ Some row → due_place (map change rows) (change row) ≡ due_place rows row
+unfolding due_place
+due_place-still change rows still i row there =
+    ap (λ (key : ℕ × List ℕ). given (row_named (map change rows) key.0 (root_of (map change rows) key.0 key.1)) (place_in (map change rows) (change row))) (key_of-still change rows still row)
+    ∙ ap (λ (root : List ℕ). given (row_named (map change rows) row.client root) (place_in (map change rows) (change row))) (root_of-still change rows still row.client row.name)
+    ∙ ap₂ given (row_of-still change rows still (row.client, root_of rows row.client row.name)) (still_places change rows still i row there)
+    ∙ by (row_named rows row.client (root_of rows row.client row.name))
+  where
+    given : Option Row → Rect → Option Rect
+    given root place = cond (is_kind_of is_window_kind root) (Some place) None
+
+    by : (o : Option Row) → given (option_map change o) (place_in rows row) ≡ given o (place_in rows row)
+    by None = refl
+    by (Some root) = ap (λ (kind : Kind). cond (is_window_kind kind) (Some (place_in rows row)) None) (still.kind root)
