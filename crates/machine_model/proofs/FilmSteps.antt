@@ -7,7 +7,6 @@ use Rattle.std.specs.List.{filter}
 use Rattle.std.specs.Option.{option_map, option_map_or, option_and_then}
 use Rattle.std.specs.Str.{bytes_eq}
 use Rattle.kind_core.specs.declared.kinds.Attr.{Attr}
-use Rattle.kind_core.specs.declared.kinds.Attr.TheVariants.{Value, Text, Caret, X, Y}
 use Rattle.kind_core.specs.declared.kinds.EventKind.{EventKind}
 use Rattle.kind_core.specs.declared.values.Value as value
 use Rattle.cmd_words.specs.declared.commands.ConfigOption.{ConfigOption}
@@ -40,9 +39,9 @@ use Rattle.desk_model.specs.Screens.{film_named, with_film_changed, framed, mode
 use Rattle.desk_model.specs.Polling.{step_poll}
 use Rattle.desk_model.specs.Clients.{with_client, without_client, free_client, hello_effect, step_connect, step_hello, step_bye}
 use Rattle.desk_model.specs.Commands.{row_of, step}
-use Rattle.desk_model.specs.Feeding.{with_value_at, with_number, with_text, with_moved, rows_after, carried_out, effects_on, step_feed}
-use Rattle.desk_model.specs.InputEffects.{Effects}
+use Rattle.desk_model.specs.Feeding.{carried_out, effects_on, step_feed}
 use Rattle.desk_model.specs.LetGo.{let_go}
+use Rattle.desk_model.proofs.FedRows.{film_named-fed}
 use Rattle.desk_model.proofs.FilmNames.{film_named-left, film_named-push, film_named-filter}
 use Rattle.machine_model.specs.Events.Event.{Ask}
 use Rattle.machine_model.specs.Events.Answer.{Replied}
@@ -258,30 +257,6 @@ films_go-bye desk client key =
     go-outcome desk (when (not (is_connected desk client)) NotConnected) (Done, without_client client desk) key (go-others desk.rows client key)
 
 -- an input changes values alone
-film_named-value : (at : ℕ × List ℕ) (attr : Attr) (v : value.Value) (rows : List Row) (key : ℕ × List ℕ) → film_named (with_value_at at attr v rows) key.0 key.1 ≡ film_named rows key.0 key.1
-film_named-value at attr v rows key = film_named-left rows at.0 at.1 (with_attr attr v) key.0 key.1 (record { client = λ row. refl; name = λ row. refl }) (λ row. refl)
-
-film_named-number : (attr : Attr) (asked : Option ((ℕ × List ℕ) × ℤ)) (rows : List Row) (key : ℕ × List ℕ) → film_named (with_number attr asked rows) key.0 key.1 ≡ film_named rows key.0 key.1
-film_named-number attr None rows key = refl
-film_named-number attr (Some ask) rows key = film_named-value ask.0 attr (value.TheVariants.Number ask.1) rows key
-
-film_named-text : (asked : Option ((ℕ × List ℕ) × List ℕ)) (rows : List Row) (key : ℕ × List ℕ) → film_named (with_text asked rows) key.0 key.1 ≡ film_named rows key.0 key.1
-film_named-text None rows key = refl
-film_named-text (Some ask) rows key = film_named-value ask.0 Text (value.TheVariants.Words ask.1) rows key
-
-film_named-moved : (asked : Option ((ℕ × List ℕ) × ℤ × ℤ)) (rows : List Row) (key : ℕ × List ℕ) → film_named (with_moved asked rows) key.0 key.1 ≡ film_named rows key.0 key.1
-film_named-moved None rows key = refl
-film_named-moved (Some ask) rows key =
-    film_named-value ask.0 Y (value.TheVariants.Number ask.2) (with_value_at ask.0 X (value.TheVariants.Number ask.1) rows) key
-    ∙ film_named-value ask.0 X (value.TheVariants.Number ask.1) rows key
-
-film_named-after : (effects : Effects) (rows : List Row) (key : ℕ × List ℕ) → film_named (rows_after effects rows) key.0 key.1 ≡ film_named rows key.0 key.1
-film_named-after effects rows key =
-    film_named-moved effects.moved (with_number Caret effects.caret (with_text effects.text (with_number Value effects.value rows))) key
-    ∙ film_named-number Caret effects.caret (with_text effects.text (with_number Value effects.value rows)) key
-    ∙ film_named-text effects.text (with_number Value effects.value rows) key
-    ∙ film_named-number Value effects.value rows key
-
 pub film_named-feed : (desk : Desk) (input : Input) (key : ℕ × List ℕ) → film_named (step_feed desk input).rows key.0 key.1 ≡ film_named desk.rows key.0 key.1
 unfolding step_feed carried_out let_go
-film_named-feed desk input key = film_named-after (effects_on desk input) desk.rows key
+film_named-feed desk input key = film_named-fed (effects_on desk input) desk.rows key.0 key.1
