@@ -1,4 +1,5 @@
-pub mod SameBytes
+pub mod LooksDiffer
 pub mod OthersLooks
+pub mod ShownFilms
+pub mod ShownAnew
 pub mod OwnLooks
-pub mod FilmsStay

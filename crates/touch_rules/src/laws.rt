@@ -1,16 +1,24 @@
 //! Laws over the definitions. Each function does nothing; its contract is the law.
 
-ghost use Rattle.touch_rules.specs.Films.{CommandsKeepFilms};
-ghost use Rattle.touch_rules.specs.Laws.{OwnLooksAreEnough, LeavingTouchesNothing, StayingTouchesNothing};
+ghost use Rattle.touch_rules.specs.Films.{CommandsShowAnew};
+ghost use Rattle.touch_rules.specs.Laws.{OwnLooksAreEnough, SomeLooksAreEnough, LeavingTouchesNothing, StayingTouchesNothing};
 
-/// Commands leave films alone.
-pub fn commands_keep_films()
-    ensures { CommandsKeepFilms }
+/// A command that is done changes what one VScreen shows at most, the one that the definitions name; a refused one
+/// changes what none shows.
+pub fn commands_show_anew()
+    ensures { CommandsShowAnew }
 {}
 
-/// After an event of one client it is enough to compare that client's looks.
+/// After an event of one client it is enough to compare that client's looks, and what the VScreen shows that the event
+/// shows anew.
 pub fn own_looks_are_enough()
     ensures { OwnLooksAreEnough }
+{}
+
+/// After an event that leaves all films, and the rows of all clients but some with the pointer's hold on their widgets,
+/// it is enough to compare the looks of those some.
+pub fn some_looks_are_enough()
+    ensures { SomeLooksAreEnough }
 {}
 
 /// A client that leaves touches no look.
