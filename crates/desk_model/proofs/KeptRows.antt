@@ -27,12 +27,12 @@ has_name-map : (rows : List Row) (change : Row → Row) (client : ℕ) (name : L
 has_name-map [] change client name leaves = refl
 has_name-map (row ∷ rows) change client name leaves = rw (leaves.client row, leaves.name row, has_name-map rows change client name leaves) refl
 
-AreNamedApart-map : (rows : List Row) (change : Row → Row) → LeavesNode change → AreNamedApart rows → AreNamedApart (map change rows)
+pub AreNamedApart-map : (rows : List Row) (change : Row → Row) → LeavesNode change → AreNamedApart rows → AreNamedApart (map change rows)
 AreNamedApart-map [] change leaves apart = tt
 AreNamedApart-map (row ∷ rows) change leaves apart =
     (rw (leaves.client row, leaves.name row) (has_name-map rows change row.client row.name leaves ∙ apart.0), AreNamedApart-map rows change leaves apart.1)
 
-rows_counted-map : (client : ℕ) (test : Kind → Bool) (rows : List Row) (change : Row → Row) → LeavesNode change → rows_counted client test (map change rows) ≡ rows_counted client test rows
+pub rows_counted-map : (client : ℕ) (test : Kind → Bool) (rows : List Row) (change : Row → Row) → LeavesNode change → rows_counted client test (map change rows) ≡ rows_counted client test rows
 rows_counted-map client test [] change leaves = refl
 rows_counted-map client test (row ∷ rows) change leaves =
     sum_by-cons one (change row) (map change rows)
@@ -42,7 +42,7 @@ rows_counted-map client test (row ∷ rows) change leaves =
     one : Row → ℕ
     one row = cond (nat_eq client row.client && test row.kind) 1 0
 
-is_kind_of-map : (rows : List Row) (change : Row → Row) (test : Kind → Bool) (client : ℕ) (name : List ℕ) → LeavesNode change → is_kind_of test (row_named (map change rows) client name) ≡ is_kind_of test (row_named rows client name)
+pub is_kind_of-map : (rows : List Row) (change : Row → Row) (test : Kind → Bool) (client : ℕ) (name : List ℕ) → LeavesNode change → is_kind_of test (row_named (map change rows) client name) ≡ is_kind_of test (row_named rows client name)
 is_kind_of-map rows change test client name leaves =
     let names : LeavesNames change = record { client = leaves.client; name = leaves.name } in
     ap (is_kind_of test) (row_named-map rows change client name names) ∙ by (row_named rows client name)
@@ -51,7 +51,7 @@ is_kind_of-map rows change test client name leaves =
     by None = refl
     by (Some row) = ap test (leaves.kind row)
 
-links_right-map : (rows : List Row) (change : Row → Row) (row : Row) → LeavesNode change → links_right (map change rows) row ≡ links_right rows row
+pub links_right-map : (rows : List Row) (change : Row → Row) (row : Row) → LeavesNode change → links_right (map change rows) row ≡ links_right rows row
 links_right-map rows change row leaves = by row.link
   where
     by : (o : Option (List ℕ)) → option_map_or (λ (name : List ℕ). is_kind_of is_variable_kind (row_named (map change rows) row.client name)) o true ≡ option_map_or (λ (name : List ℕ). is_kind_of is_variable_kind (row_named rows row.client name)) o true

@@ -63,7 +63,7 @@ Suits-refilmed rows client name row give planted fit =
     }
 
 -- a film that is changed to a whole one is fit
-IsFitFilm-changed : (change : FilmState → FilmState) (row : Row) → ((film : FilmState) → IsFilm film → IsFilm (change film)) → IsFitFilm row → IsFitFilm (with_film_changed change row)
+pub IsFitFilm-changed : (change : FilmState → FilmState) (row : Row) → ((film : FilmState) → IsFilm film → IsFilm (change film)) → IsFitFilm row → IsFitFilm (with_film_changed change row)
 IsFitFilm-changed change row each fit = by row.film fit
   where
     by : (o : Option FilmState) → IfSome o (λ film. (row.kind ≡ VScreen) × IsFilm film) → IfSome (option_map change o) (λ film. (row.kind ≡ VScreen) × IsFilm film)

@@ -30,3 +30,10 @@ pub mod BeatSteps
 pub mod FedRows
 pub mod Desks
 pub mod ByePointer
+pub mod BeatRows
+pub mod KeptBeat
+pub mod Shares
+pub mod Texts
+pub mod Limits
+pub mod TakenInputs
+pub mod KeptInputs

@@ -27,6 +27,11 @@ dragged pointer dx dy row =
     if int_eq x (number_of X row) && int_eq y (number_of Y row) then only_pointer pointer
     else record (only_pointer pointer) { moved = Some (key_of row, x, y); posts = posted Move x y row }
 
+-- Only a Window is dragged.
+unfoldable pub drag_on : Kind → Pointer → ℕ → ℕ → Row → Effects
+drag_on Window pointer dx dy row = dragged pointer dx dy row
+drag_on _ pointer dx dy row = only_pointer pointer
+
 -- A grabbed Scale or Scrollbar takes its value from the pointer; to a grabbed VScreen `motion` is posted.
 unfoldable pub motion_on : Kind → List Row → Pointer → Rect → Row → Effects
 motion_on Scale rows pointer place row = valued rows place row (only_pointer pointer)
@@ -38,7 +43,7 @@ motion_on _ rows pointer place row = only_pointer pointer
 abbrev pub motion_by : Grab → List Row → Pointer → Option Rect → Effects
 motion_by no_grab rows pointer held = only_pointer pointer
 motion_by (on_widget key) rows pointer held = at_widget rows key held pointer (λ place row. motion_on row.kind rows pointer place row)
-motion_by (drags window dx dy) rows pointer held = option_map_or (dragged pointer dx dy) (row_of rows window) (only_pointer pointer)
+motion_by (drags window dx dy) rows pointer held = option_map_or (λ row. drag_on row.kind pointer dx dy row) (row_of rows window) (only_pointer pointer)
 
 -- the pointer at the pixel, or at the nearest one of the screen to the right and below
 abbrev pub pointed_at : ℕ → ℕ → ℕ → ℕ → Pointer → Pointer

@@ -24,4 +24,5 @@ pub mod InputEdits
 pub mod InputValues
 pub mod InputTable
 pub mod Inputs
+pub mod InputFacts
 pub mod Feeding

@@ -1,5 +1,3 @@
-pub mod Shares
-pub mod Texts
 pub mod Numbers
 pub mod Keys
 pub mod Links

@@ -14,7 +14,7 @@ use Rattle.tree_core.specs.declared.pointer.Pointer.{Pointer}
 use Rattle.tree_core.specs.Holds.{grab_seen, pointer_seen}
 use Rattle.desk_model.specs.InputEffects as input
 use Rattle.desk_model.specs.InputEffects.{only_pointer, at_widget}
-use Rattle.desk_model.specs.InputTable.{motion_on, motion_by, dragged, pointed_at, on_motion, press_on, pressed, on_press, release_on, release_by, on_release, key_on, on_key}
+use Rattle.desk_model.specs.InputTable.{motion_on, motion_by, drag_on, pointed_at, on_motion, press_on, pressed, on_press, release_on, release_by, on_release, key_on, on_key}
 use Rattle.input_core.specs.declared.hit.Hit.{Hit}
 use Rattle.input_core.specs.Numbered.{numbered}
 use Rattle.input_core.specs.Seen.{key_seen, hit_seen}
@@ -43,12 +43,12 @@ on_motion-widget w pointer id place held width height x y kept live down grab is
     there : model.Pointer
     there = pointed_at width height x y (pointer_seen w.entries pointer)
 
-pub on_motion-drag : (w : Widgets) (pointer : Pointer) (id : Id) (dx dy : ℕ) (held : Option Rect) (width height x y : ℕ) → IsWidgets w → is_some (row_at w.entries id.key) ≡ true → pointer.down ≡ true → pointer.grab ≡ Drag id dx dy → on_motion (rows_of w) (pointer_seen w.entries pointer) held width height x y ≡ dragged (pointed_at width height x y (pointer_seen w.entries pointer)) dx dy (numbered w.entries id.key)
+pub on_motion-drag : (w : Widgets) (pointer : Pointer) (id : Id) (dx dy : ℕ) (held : Option Rect) (width height x y : ℕ) → IsWidgets w → is_some (row_at w.entries id.key) ≡ true → pointer.down ≡ true → pointer.grab ≡ Drag id dx dy → on_motion (rows_of w) (pointer_seen w.entries pointer) held width height x y ≡ drag_on (numbered w.entries id.key).kind (pointed_at width height x y (pointer_seen w.entries pointer)) dx dy (numbered w.entries id.key)
 unfolding on_motion
 on_motion-drag w pointer id dx dy held width height x y kept live down grab =
     ap (λ (b : Bool). cond b (motion_by (grab_seen w.entries pointer.grab) (rows_of w) there held) (only_pointer there)) down
     ∙ ap (λ (g : model.Grab). motion_by g (rows_of w) there held) (ap (grab_seen w.entries) grab ∙ grab-drag w.entries id dx dy live)
-    ∙ ap (λ (row : Option Row). option_map_or (dragged there dx dy) row (only_pointer there)) (row_of-numbered w id.key kept live)
+    ∙ ap (λ (row : Option Row). option_map_or (λ (row : Row). drag_on row.kind there dx dy row) row (only_pointer there)) (row_of-numbered w id.key kept live)
   where
     there : model.Pointer
     there = pointed_at width height x y (pointer_seen w.entries pointer)

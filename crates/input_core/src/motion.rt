@@ -8,7 +8,7 @@ ghost use Rattle.kind_core.specs.Effective.{clamp};
 ghost use Rattle.geom_core.specs.Rect.{IsInRange};
 ghost use Rattle.widget_model.specs.Widgets.{IsLive, rows_of};
 ghost use Rattle.widget_model.specs.Forest.{IsWidgets};
-ghost use Rattle.desk_model.specs.InputTable.{dragged, motion_on, on_motion};
+ghost use Rattle.desk_model.specs.InputTable.{dragged, drag_on, motion_on, on_motion};
 ghost use Rattle.tree_core.specs.Holds.{pointer_seen};
 ghost use Rattle.input_core.specs.Numbered.{numbered};
 ghost use Rattle.input_core.specs.Seen.{effects_seen};
@@ -56,6 +56,20 @@ fn dragged(tree: &Tree, id: Id, dx: u32, dy: u32, pointer: Pointer) -> Effects
     effects.moved = Some((id, x, y));
     effects.posts = Posts::of(posted(tree, id, EventKind::Move, x, y), None);
     effects
+}
+
+/// Only a Window is dragged.
+#[tactic(auto, unfolding(desk_model::specs::InputTable::drag_on))]
+fn drag_on(tree: &Tree, id: Id, dx: u32, dy: u32, pointer: Pointer) -> Effects
+    requires live { IsLive tree.now id.key }
+    requires holds { HoldsLive tree.now pointer }
+    ensures seen { effects_seen tree.now.entries result ≡ drag_on (numbered tree.now.entries id.key).kind (pointer_seen tree.now.entries pointer) dx dy (numbered tree.now.entries id.key) }
+    ensures live { AreLive tree.now result }
+{
+    match kind(tree, id) {
+        Kind::Window => dragged(tree, id, dx, dy, pointer),
+        _ => only_pointer(pointer),
+    }
 }
 
 /// The pointer moves while the widget in that place is grabbed.
@@ -120,6 +134,6 @@ pub(crate) fn on_motion(
             Some(place) => motion_on(tree, id, place, there),
             None => only_pointer(there),
         },
-        Grab::Drag { id, dx, dy } => dragged(tree, id, dx, dy, there),
+        Grab::Drag { id, dx, dy } => drag_on(tree, id, dx, dy, there),
     }
 }

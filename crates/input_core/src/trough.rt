@@ -19,7 +19,7 @@ pub(crate) fn clamp(v: i64, low: i64, high: i64) -> i64
 }
 
 /// How long the knob of a Scrollbar is in a trough of that length.
-#[tactic(auto, using(crate::proofs::Shares::product))]
+#[tactic(auto, using(desk_model::proofs::Shares::product))]
 pub(crate) fn scrollbar_knob_length(trough: u32, real: u32, view: u32) -> u32
     requires trough { trough ≤ 1048576 }
     requires real { 1 ≤ real }
@@ -43,7 +43,7 @@ fn knob_start(trough: u32, knob: u32, t: i32) -> u32
 
 /// The value at which the knob's middle is nearest to the place t of its trough, from 0 to `most`
 /// (docs/MACHINE.md, "Input").
-#[tactic(auto, using(crate::proofs::Shares::product, crate::proofs::Shares::share), unfolding(desk_model::specs::InputValues::value_at))]
+#[tactic(auto, using(desk_model::proofs::Shares::product, desk_model::proofs::Shares::share), unfolding(desk_model::specs::InputValues::value_at))]
 pub(crate) fn value_at(trough: u32, knob: u32, most: u32, t: i32) -> u32
     requires trough { trough ≤ 1048576 }
     requires most { most ≤ 10000 }

@@ -5,7 +5,16 @@ pub mod Pixels
 pub mod Steps
 pub mod Progress
 pub mod Ticks
+pub mod FilmSteps
+pub mod FilmRuns
+pub mod ShownBands
+pub mod RunParts
+pub mod Periods
 pub mod Runs
+pub mod Counting
+pub mod FilmPixels
+pub mod BandCount
+pub mod BeatColours
 pub mod Beat
 pub mod DamageKeys
 pub mod DamageOrder

@@ -5,7 +5,7 @@ use Rattle.std.proofs.lemmas.List.Elements.{All-head, All-tail}
 use Rattle.std.proofs.lemmas.List.FromFn.{length-map-range_with_len}
 use Rattle.cmd_words.specs.declared.inputs.Drew.{Drew}
 use Rattle.cmd_words.specs.declared.replies.Reply.{Reply}
-use Rattle.cmd_words.specs.declared.replies.Reply.TheVariants.{Refused}
+use Rattle.cmd_words.specs.declared.replies.Reply.TheVariants.{Refused, Done}
 use Rattle.cmd_words.specs.declared.replies.Refusal.TheVariants.{Syntax}
 use Rattle.kind_core.specs.declared.shapes.Shape.{Shape}
 use Rattle.scene_model.specs.Shapes.{area}
@@ -14,20 +14,20 @@ use Rattle.desk_model.specs.Seen.{colour}
 use Rattle.machine_model.specs.Reach.{is_reached}
 use Rattle.desk_model.specs.Refusals.{is_memory}
 use Rattle.desk_model.specs.Clients.{step_connect, step_hello, step_bye}
-use Rattle.cmd_words.specs.declared.commands.Command.{Command}
-use Rattle.desk_model.specs.Commands.{is_built, step}
+use Rattle.desk_model.specs.Commands.{step}
+use Rattle.desk_model.specs.Feeding.{step_feed}
 use Rattle.desk_model.specs.Beat.{beat, in_band, band_count}
 use Rattle.machine_model.specs.State.{State, IsState, byte_at, is_dirty, index_of, dirty_count, count_true, seen_at}
 use Rattle.machine_model.specs.Events.{Event, Answer}
-use Rattle.machine_model.specs.Events.Event.{Connect, Hello, Bye, Ask, Misread, Tick, CountDirty, LookAt, Dump}
+use Rattle.machine_model.specs.Events.Event.{Connect, Hello, Bye, Ask, Feed, Misread, Tick, CountDirty, LookAt, Dump}
 use Rattle.machine_model.specs.Events.Answer.{Replied, Drawn, Counted, Seen, Dumped}
-use Rattle.machine_model.specs.Step.{Step, Changed, Answered, Obeyed, Ticked, CanCome}
+use Rattle.machine_model.specs.Step.{Step, Changed, Answered, Ticked, CanCome}
 use Rattle.machine_model.specs.Run.{Moment, Run, events_of}
 use Rattle.desk_model.proofs.Ample.{ample-connect, ample-hello, ample-bye, ample-command}
 use Rattle.machine_model.proofs.Beat.{shape-beat}
 use Rattle.machine_model.proofs.Marks.{cleaned_first, length-cleaned_first, cleaned_first-was, count_true-cleaned_first}
 use Rattle.machine_model.proofs.Pixels.{get_or-rows}
-use Rattle.machine_model.proofs.Steps.{IsState-step, shape-step_connect, shape-step_hello, shape-step_bye, shape-step_command}
+use Rattle.machine_model.proofs.Steps.{IsState-step, shape-step_connect, shape-step_hello, shape-step_bye, shape-step_command, shape-step_feed}
 
 -- a change to a desk of the same shape has a state after it
 pub changed_state : (old : State) (next : Desk) → IsState old → next.shape ≡ old.desk.shape → (new : State) × Changed old next new
@@ -88,20 +88,6 @@ answered_state old stepped same ample is =
     let to = changed_state old (stepped (is_memory reply)).1 is (same (is_memory reply)) in
     (reply, to.0, record { reply_is = ap (λ short. (stepped short).0) (sym ample); change = to.1 })
 
--- the same of a client's command
-obeyed_state : (old : State) (client : ℕ) (command : Command) → is_built command ≡ true → IsState old → (answer : Reply) × (new : State) × Obeyed old client command answer new
-obeyed_state old client command built is =
-    let ample = ample-command old.desk client command built in
-    let to = changed_state old ample.next is (shape-step_command old.desk client command false ample.reply ample.next ample.steps) in (
-      ample.reply,
-      to.0,
-      record {
-        next = ample.next;
-        step_is = ap (λ short. step old.desk client command short) ample.has_memory ∙ ample.steps;
-        change = to.1;
-      },
-    )
-
 pub next_state : (old : State) (event : Event) → CanCome event → IsState old → (answer : Answer) × (new : State) × Step old event answer new
 next_state old (Connect client) can is =
     let to = answered_state old (λ short. step_connect old.desk client short) (shape-step_connect old.desk client) (ample-connect old.desk client) is in
@@ -112,9 +98,12 @@ next_state old Hello can is =
 next_state old (Bye client) can is =
     let to = answered_state old (λ short. step_bye old.desk client) (λ short. shape-step_bye old.desk client) (ample-bye old.desk client) is in
     (Replied to.0, to.1, to.2)
-next_state old (Ask client command) can is =
-    let to = obeyed_state old client command can is in
+next_state old (Ask client command payload) can is =
+    let to = answered_state old (λ short. step old.desk client command payload short) (shape-step_command old.desk client command payload) (ample-command old.desk client command payload) is in
     (Replied to.0, to.1, to.2)
+next_state old (Feed input) can is =
+    let to = changed_state old (step_feed old.desk input) is (shape-step_feed old.desk input) in
+    (Replied Done, to.0, (refl, to.1))
 next_state old (Misread client place) can is = (Replied (Refused (Syntax place)), old, (refl, refl))
 next_state old Tick can is = let to = ticked_state old is in (Drawn to.0, to.1, to.2)
 next_state old CountDirty can is = (Counted (dirty_count old), old, (refl, refl))

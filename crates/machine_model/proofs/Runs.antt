@@ -1,55 +1,21 @@
--- Runs: they join and part, they keep the state valid and the shape, and they keep the machine's laws.
+-- Runs keep the machine's laws.
 use Rattle.std.proofs.Common.{◌≡◌, ℕ, suc, ◌-◌, ◌*◌, ◌≤◌, List, [], ◌∷◌, ◌++◌, length, refl, ap, ◌∙◌, subst, arith}
 use Rattle.std.specs.List.{All}
-use Rattle.std.proofs.lemmas.List.{map-append}
 use Rattle.std.proofs.lemmas.List.Elements.{All-nil, All-cons, All-head, All-tail}
 use Rattle.std.proofs.lemmas.Grind.{div_ceil_times}
 use Rattle.std.proofs.Math.Nat.{mul-le-mul_right}
 use Rattle.kind_core.specs.declared.shapes.Shape.{Shape}
 use Rattle.machine_model.specs.State.{State, IsState, dirty_count}
 use Rattle.machine_model.specs.Events.{Event, Answer}
-use Rattle.machine_model.specs.Events.Event.{Connect, Hello, Bye, Ask, Misread, Tick, CountDirty, LookAt, Dump}
+use Rattle.machine_model.specs.Events.Event.{Connect, Hello, Bye, Ask, Feed, Misread, Tick, CountDirty, LookAt, Dump}
 use Rattle.machine_model.specs.Events.Answer.{Replied, Drawn, Counted, Seen, Dumped}
 use Rattle.machine_model.specs.Step.{Step}
-use Rattle.machine_model.specs.Run.{Moment, Run, state_after, events_of}
+use Rattle.machine_model.specs.Run.{Moment, Run, state_after}
 use Rattle.machine_model.specs.Laws.{enough_ticks, written, KeepsBudget, IsUndisturbed, ComesRight, ComesRightThroughout, KeepsLaws}
+use Rattle.machine_model.proofs.Periods.{draws_each_period}
+pub use Rattle.machine_model.proofs.RunParts.{state_after-append, Run-append, Run-parts, Run-one, Run-push, state_after-push, events_of-append, IsState-run, shape-run}
 use Rattle.machine_model.proofs.Steps.{IsState-step, shape-step}
 use Rattle.machine_model.proofs.Ticks.{ticked-within_budget, ticked-fewer, clean-is_picture}
-
-pub state_after-append : (from : State) (a b : List Moment) → state_after from (a ++ b) ≡ state_after (state_after from a) b
-state_after-append from [] b = refl
-state_after-append from (m ∷ a) b = state_after-append m.after a b
-
-pub Run-append : (from : State) (a b : List Moment) → Run from a → Run (state_after from a) b → Run from (a ++ b)
-Run-append from [] b p q = q
-Run-append from (m ∷ a) b p q = (p.0, Run-append m.after a b p.1 q)
-
-pub Run-parts : (from : State) (a b : List Moment) → Run from (a ++ b) → Run from a × Run (state_after from a) b
-Run-parts from [] b p = (tt, p)
-Run-parts from (m ∷ a) b p = let rest = Run-parts m.after a b p.1 in ((p.0, rest.0), rest.1)
-
-pub Run-one : (from : State) (event : Event) (answer : Answer) (new : State) → Step from event answer new → Run from (record { event = event; answer = answer; after = new } ∷ [])
-Run-one from event answer new s = (s, tt)
-
--- one more step at the end of a run
-pub Run-push : (from : State) (moments : List Moment) (event : Event) (answer : Answer) (new : State) → Run from moments → Step (state_after from moments) event answer new → Run from (moments ++ record { event = event; answer = answer; after = new } ∷ [])
-Run-push from moments event answer new run s =
-    Run-append from moments (record { event = event; answer = answer; after = new } ∷ []) run (s, tt)
-
-pub state_after-push : (from : State) (moments : List Moment) (event : Event) (answer : Answer) (new : State) → state_after from (moments ++ record { event = event; answer = answer; after = new } ∷ []) ≡ new
-state_after-push from moments event answer new =
-    state_after-append from moments (record { event = event; answer = answer; after = new } ∷ [])
-
-pub events_of-append : (a b : List Moment) → events_of (a ++ b) ≡ events_of a ++ events_of b
-events_of-append a b = map-append (λ (moment : Moment). moment.event) a b
-
-pub IsState-run : (from : State) (moments : List Moment) → IsState from → Run from moments → IsState (state_after from moments)
-IsState-run from [] is run = is
-IsState-run from (m ∷ moments) is run = IsState-run m.after moments (IsState-step from m.event m.answer m.after is run.0) run.1
-
-pub shape-run : (from : State) (moments : List Moment) → Run from moments → (state_after from moments).desk.shape ≡ from.desk.shape
-shape-run from [] run = refl
-shape-run from (m ∷ moments) run = shape-run m.after moments run.1 ∙ shape-step from m.event m.answer m.after run.0
 
 -- no step writes more than the budget
 pub written-step : (old : State) (event : Event) (answer : Answer) (new : State) → IsState old → Step old event answer new → written answer ≤ old.desk.shape.budget
@@ -74,7 +40,8 @@ fewer-step old Tick (Drawn drew) new is s e = ticked-fewer old drew new is s
 fewer-step old (Connect client) answer new is s e = cc
 fewer-step old Hello answer new is s e = cc
 fewer-step old (Bye client) answer new is s e = cc
-fewer-step old (Ask client command) answer new is s e = cc
+fewer-step old (Ask client command payload) answer new is s e = cc
+fewer-step old (Feed input) answer new is s e = cc
 fewer-step old (Misread client place) answer new is s e = cc
 fewer-step old CountDirty answer new is s e = cc
 fewer-step old (LookAt x y) answer new is s e = cc
@@ -124,5 +91,6 @@ ComesRightThroughout-run from moments is run before ticks later e only =
 pub KeepsLaws-run : (from : State) (moments : List Moment) → IsState from → Run from moments → KeepsLaws from moments
 KeepsLaws-run from moments is run = record {
   budget = KeepsBudget-run from moments is run;
+  periods = draws_each_period from moments is run;
   comes_right = ComesRightThroughout-run from moments is run;
 }

@@ -1,8 +1,9 @@
 -- A step from a valid state leads to a valid state and keeps the shape, whatever the event and the answer.
-use Rattle.std.proofs.Common.{◌≡◌, ◌≢◌, ℕ, ◌<◌, Bool, true, false, not, ◌&&◌, ◌||◌, cond, [], ◌∷◌, length, Option, Some, None, is_none, refl, sym, ap, ◌∙◌, subst, arith}
+use Rattle.std.proofs.Common.{◌≡◌, ◌≢◌, ℕ, ◌<◌, Bool, true, false, not, ◌&&◌, ◌||◌, cond, List, [], ◌∷◌, length, Option, Some, None, is_none, refl, sym, ap, ◌∙◌, subst, arith}
 use Rattle.std.proofs.lemmas.Bool.{or_parts, true≢false}
-use Rattle.cmd_words.specs.declared.commands.Command.{Command}
 use Rattle.cmd_words.specs.declared.inputs.Drew.{Drew}
+use Rattle.cmd_words.specs.declared.commands.Command.{Command}
+use Rattle.cmd_words.specs.declared.inputs.Input.{Input}
 use Rattle.cmd_words.specs.declared.replies.Reply.{Reply}
 use Rattle.cmd_words.specs.declared.replies.Refusal.{Refusal}
 use Rattle.cmd_words.specs.declared.replies.Refusal.TheVariants.{Full, Memory}
@@ -15,14 +16,16 @@ use Rattle.machine_model.specs.Reach.{is_reached}
 use Rattle.desk_model.specs.Refusals.{is_memory, when, first_refusal, outcome}
 use Rattle.desk_model.specs.Clients.{step_connect, step_hello, step_bye, free_client, hello_effect}
 use Rattle.desk_model.specs.Commands.{step}
+use Rattle.desk_model.specs.Feeding.{carried_out, effects_on, step_feed}
 use Rattle.desk_model.specs.Beat.{in_band}
 use Rattle.machine_model.specs.State.{State, IsState, byte_at, is_dirty}
 use Rattle.machine_model.specs.Events.{Event, Answer}
-use Rattle.machine_model.specs.Events.Event.{Connect, Hello, Bye, Ask, Misread, Tick, CountDirty, LookAt, Dump}
+use Rattle.machine_model.specs.Events.Event.{Connect, Hello, Bye, Ask, Feed, Misread, Tick, CountDirty, LookAt, Dump}
 use Rattle.machine_model.specs.Events.Answer.{Replied, Drawn, Counted, Seen, Dumped}
 use Rattle.machine_model.specs.Step.{Step, Changed, Answered, Ticked}
 use Rattle.machine_model.proofs.Reach.{colour-outside_reach}
 use Rattle.desk_model.proofs.Desks.{IsDesk-connect, IsDesk-hello, IsDesk-bye, IsDesk-command}
+use Rattle.desk_model.proofs.KeptInputs.{inputs_keep}
 use Rattle.desk_model.proofs.OwnPart.{command_ends, connect_ends, bye_ends, shape-let_go, shape-ends}
 use Rattle.machine_model.proofs.Beat.{shape-beat, IsDesk-beat, colour-beat}
 
@@ -67,7 +70,7 @@ IsState-ticked old drew new is t =
           let hx_old : x < old.desk.shape.width = omega arith in
           let hy_old : y < old.desk.shape.height = omega arith in
           drawn_byte (is_dirty old x y) (is_dirty new x y) (in_band new.desk x y) (byte_at new x y) (colour new.desk x y) (byte_at old x y) clean (t.screen x y hx_old hy_old)
-          (λ was_clean no_band. is.current x y hx_old hy_old was_clean ∙ colour-beat old.desk x y (sym (ap (λ (d : Desk). in_band d x y) t.desk) ∙ no_band) ∙ sym (ap (λ (d : Desk). colour d x y) t.desk));
+          (λ was_clean no_band. is.current x y hx_old hy_old was_clean ∙ colour-beat old.desk is.desk x y (sym (ap (λ (d : Desk). in_band d x y) t.desk) ∙ no_band) ∙ sym (ap (λ (d : Desk). colour d x y) t.desk));
     }
 
 -- a reply and a step to a valid desk of the same shape
@@ -77,6 +80,9 @@ IsState-answered old stepped reply new fine same is s =
 
 shape-answered : (old : State) (stepped : Bool → Reply × Desk) (reply : Reply) (new : State) → ((short : Bool) → (stepped short).1.shape ≡ old.desk.shape) → Answered old stepped reply new → new.desk.shape ≡ old.desk.shape
 shape-answered old stepped reply new same s = ap (λ (d : Desk). d.shape) s.change.desk ∙ same (is_memory reply)
+
+pub shape-step_connect : (desk : Desk) (client : ℕ) (short : Bool) → (step_connect desk client short).1.shape ≡ desk.shape
+shape-step_connect desk client short = shape-ends client desk _ (connect_ends desk client short)
 
 shape-outcome : (desk : Desk) (refusal : Option Refusal) (effect : Reply × Desk) → effect.1.shape ≡ desk.shape → (outcome desk refusal effect).1.shape ≡ desk.shape
 shape-outcome desk None effect same = same
@@ -91,14 +97,15 @@ shape-step_hello desk short =
     by None = refl
     by (Some client) = refl
 
-pub shape-step_connect : (desk : Desk) (client : ℕ) (short : Bool) → (step_connect desk client short).1.shape ≡ desk.shape
-shape-step_connect desk client short = shape-ends client desk _ (connect_ends desk client short)
-
 pub shape-step_bye : (desk : Desk) (client : ℕ) → (step_bye desk client).1.shape ≡ desk.shape
 shape-step_bye desk client = shape-ends client desk _ (bye_ends desk client)
 
-pub shape-step_command : (desk : Desk) (client : ℕ) (command : Command) (short : Bool) (reply : Reply) (next : Desk) → step desk client command short ≡ Some (reply, next) → next.shape ≡ desk.shape
-shape-step_command desk client command short reply next e = shape-ends client desk next (command_ends desk client command short reply next e)
+pub shape-step_command : (desk : Desk) (client : ℕ) (command : Command) (payload : List ℕ) (short : Bool) → (step desk client command payload short).1.shape ≡ desk.shape
+shape-step_command desk client command payload short = shape-ends client desk _ (command_ends desk client command payload short)
+
+pub shape-step_feed : (desk : Desk) (input : Input) → (step_feed desk input).shape ≡ desk.shape
+unfolding step_feed carried_out
+shape-step_feed desk input = shape-let_go (carried_out (effects_on desk input) desk)
 
 -- what holds of a state holds after each step
 pub IsState-step : (old : State) (event : Event) (answer : Answer) (new : State) → IsState old → Step old event answer new → IsState new
@@ -108,8 +115,10 @@ IsState-step old Hello (Replied reply) new is s =
     IsState-answered old (λ short. step_hello old.desk short) reply new (λ short. IsDesk-hello old.desk short is.desk) (shape-step_hello old.desk) is s
 IsState-step old (Bye client) (Replied reply) new is s =
     IsState-answered old (λ short. step_bye old.desk client) reply new (λ short. IsDesk-bye old.desk client is.desk) (λ short. shape-step_bye old.desk client) is s
-IsState-step old (Ask client command) (Replied reply) new is s =
-    IsState-changed old s.next new is (IsDesk-command old.desk client command (is_memory reply) reply s.next is.desk s.step_is) (shape-step_command old.desk client command (is_memory reply) reply s.next s.step_is) s.change
+IsState-step old (Ask client command payload) (Replied reply) new is s =
+    IsState-answered old (λ short. step old.desk client command payload short) reply new (λ short. IsDesk-command old.desk client command payload short is.desk) (shape-step_command old.desk client command payload) is s
+IsState-step old (Feed input) (Replied reply) new is s =
+    IsState-changed old (step_feed old.desk input) new is (inputs_keep old.desk input is.desk) (shape-step_feed old.desk input) s.1
 IsState-step old (Misread client place) (Replied reply) new is s = IsState-same old new s.0 is
 IsState-step old Tick (Drawn drew) new is s = IsState-ticked old drew new is s
 IsState-step old CountDirty (Counted n) new is s = IsState-same old new s.0 is
@@ -123,8 +132,9 @@ shape-step old (Connect client) (Replied reply) new s =
 shape-step old Hello (Replied reply) new s = shape-answered old (λ short. step_hello old.desk short) reply new (shape-step_hello old.desk) s
 shape-step old (Bye client) (Replied reply) new s =
     shape-answered old (λ short. step_bye old.desk client) reply new (λ short. shape-step_bye old.desk client) s
-shape-step old (Ask client command) (Replied reply) new s =
-    ap (λ (d : Desk). d.shape) s.change.desk ∙ shape-step_command old.desk client command (is_memory reply) reply s.next s.step_is
+shape-step old (Ask client command payload) (Replied reply) new s =
+    shape-answered old (λ short. step old.desk client command payload short) reply new (shape-step_command old.desk client command payload) s
+shape-step old (Feed input) (Replied reply) new s = ap (λ (d : Desk). d.shape) s.1.desk ∙ shape-step_feed old.desk input
 shape-step old (Misread client place) (Replied reply) new s = ap (λ (q : State). q.desk.shape) s.0
 shape-step old Tick (Drawn drew) new s = ap (λ (d : Desk). d.shape) s.desk ∙ shape-beat old.desk
 shape-step old CountDirty (Counted n) new s = ap (λ (q : State). q.desk.shape) s.0
@@ -137,7 +147,8 @@ pub screen-step : (old : State) (event : Event) (answer : Answer) (new : State) 
 screen-step old (Connect client) (Replied reply) new s other = s.1.change.screen
 screen-step old Hello (Replied reply) new s other = s.change.screen
 screen-step old (Bye client) (Replied reply) new s other = s.change.screen
-screen-step old (Ask client command) (Replied reply) new s other = s.change.screen
+screen-step old (Ask client command payload) (Replied reply) new s other = s.change.screen
+screen-step old (Feed input) (Replied reply) new s other = s.1.screen
 screen-step old (Misread client place) (Replied reply) new s other = ap (λ (q : State). q.screen) s.0
 screen-step old Tick answer new s other = absurd (other refl)
 screen-step old CountDirty (Counted n) new s other = ap (λ (q : State). q.screen) s.0

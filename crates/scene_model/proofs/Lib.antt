@@ -5,6 +5,7 @@ pub mod LevelsDown
 pub mod LevelLaws
 pub mod WindowRows
 pub mod Still
+pub mod StillTops
 pub mod FitRows
 pub mod Leasts
 pub mod Ranges

@@ -73,7 +73,7 @@ least_of-same : (change : Row → Row) (rows : List Row) (axis : Axis) (i : ℕ)
 unfolding least_of
 least_of-same change rows axis i row still there = least_in-same most_levels change rows axis i row still there
 
-leaves_names : (change : Row → Row) (rows : List Row) → MovesNothing change rows → LeavesNames change
+pub leaves_names : (change : Row → Row) (rows : List Row) → MovesNothing change rows → LeavesNames change
 leaves_names change rows still = record { client = still.client; name = still.name }
 
 parent_row-same : (change : Row → Row) (rows : List Row) (row : Row) → MovesNothing change rows → parent_row (map change rows) (change row) ≡ option_map change (parent_row rows row)

@@ -49,7 +49,7 @@ IsPlanted-push rows row loose absent planted =
     low_last = ends_within-alone most_levels (rows ++ row ∷ []) row.client row.name some_levels (parent_of-push_alone rows row row.client row.name loose absent)
 
 -- a change that leaves rows as they are, or cuts them loose, made of each row
-IsPlanted-map : (rows : List Row) (change : Row → Row) → Lessens change → IsPlanted rows → IsPlanted (map change rows)
+pub IsPlanted-map : (rows : List Row) (change : Row → Row) → Lessens change → IsPlanted rows → IsPlanted (map change rows)
 IsPlanted-map rows change less planted =
     record {
       hang = list_all-map (hangs_right (map change rows)) change rows ∙ all_from (λ (row : Row). hangs_right (map change rows) (change row)) rows (λ i row there. hang i row there);

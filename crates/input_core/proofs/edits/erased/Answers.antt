@@ -1,7 +1,7 @@
 use Rattle.std.proofs.Common.{◌≡◌, ◌-◌, true, ap, ◌∙◌, List, ℕ, refl}
 use Rattle.std.specs.List.{remove}
 use Rattle.kind_core.specs.Bytes.{is_text}
-use Rattle.input_core.proofs.Texts.{is_text-remove}
+use Rattle.desk_model.proofs.Texts.{is_text-remove}
 use Rattle.input_core.proofs.edits.erased.Goals as goal
 
 pub unwrap-requires : goal.unwrap-requires

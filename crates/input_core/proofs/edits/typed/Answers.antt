@@ -1,7 +1,7 @@
 use Rattle.std.proofs.Common.{◌≡◌, true, ap, ◌∙◌, List, ℕ, refl}
 use Rattle.std.specs.List.{insert}
 use Rattle.kind_core.specs.Bytes.{is_text}
-use Rattle.input_core.proofs.Texts.{is_text-insert}
+use Rattle.desk_model.proofs.Texts.{is_text-insert}
 use Rattle.input_core.proofs.edits.typed.Goals as goal
 
 pub unwrap-requires : goal.unwrap-requires

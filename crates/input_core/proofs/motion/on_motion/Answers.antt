@@ -2,7 +2,7 @@ use Rattle.std.proofs.Common.{ℕ, ◌≡◌, sym, ◌∙◌, ap₂, subst, true
 use Rattle.widget_model.specs.Widgets.{IsLive, rows_of}
 use Rattle.widget_model.specs.Pointer as model
 use Rattle.tree_core.specs.Holds.{pointer_seen}
-use Rattle.desk_model.specs.InputTable.{motion_on, dragged}
+use Rattle.desk_model.specs.InputTable.{motion_on, drag_on}
 use Rattle.input_core.specs.Live.{IsLiveGrab}
 use Rattle.input_core.specs.Numbered.{numbered}
 use Rattle.input_core.proofs.Steps.{on_motion-widget, on_motion-drag}
@@ -26,6 +26,6 @@ returns-in-Drag-clause-seen c =
     let row = numbered w.entries c.in-Drag.id.key in
     let live : IsLive w c.in-Drag.id.key = subst (IsLiveGrab w) c.in-Drag.is c.requires.holds.grab in
     let down : pointer.down ≡ true = c.if-not-pointer.false in
-    c.dragged.ensures.seen
-    ∙ ap₂ (λ (x y : ℕ). dragged (record (pointer_seen w.entries pointer) { x = x; y = y }) c.in-Drag.dx c.in-Drag.dy row) c.min.ensures c.min-2.ensures
+    c.drag_on.ensures.seen
+    ∙ ap₂ (λ (x y : ℕ). drag_on row.kind (record (pointer_seen w.entries pointer) { x = x; y = y }) c.in-Drag.dx c.in-Drag.dy row) c.min.ensures c.min-2.ensures
     ∙ sym (on_motion-drag w pointer c.in-Drag.id c.in-Drag.dx c.in-Drag.dy c.args.held c.args.width c.args.height c.args.x c.args.y c.requires.widgets live down c.in-Drag.is)

@@ -1,11 +1,10 @@
 -- A text stays a text when a byte that prints is put in, or a byte is taken out.
-use Rattle.std.proofs.Common.{ℕ, ◌≡◌, ◌≤◌, ◌<◌, ◌+◌, suc, Bool, true, ◌&&◌, nat_le, IsSome, Option, Some, None, is_some, if◌then◌else◌, List, ◌∷◌, ◌++◌, length, take, drop, arith, sym, ap, ◌∙◌}
+use Rattle.std.proofs.Common.{ℕ, ◌≡◌, ◌≤◌, ◌<◌, suc, Bool, true, ◌&&◌, nat_le, List, ◌∷◌, ◌++◌, length, take, drop, arith, sym, ap, ◌∙◌}
 use Rattle.std.specs.List.{list_all, insert, remove}
 use Rattle.std.proofs.lemmas.Grind.{common_steps}
 use Rattle.std.proofs.lemmas.List.Folds.{list_all-append}
 use Rattle.std.proofs.lemmas.List.Edits.{length-insert}
 use Rattle.std.proofs.lemmas.List.{take-append-drop}
-use Rattle.std.proofs.Common.{length-append, length-take, length-drop}
 use Rattle.std.proofs.lemmas.Bool.{and_parts}
 use Rattle.kind_core.specs.Bytes.{is_text, is_printable}
 
