@@ -1,5 +1,5 @@
 -- Kept places after a beat: it moves nothing, so the places are due still.
-use Rattle.std.proofs.Common.{◌≡◌, ℕ, List, map, Option, refl, sym, ap, ◌∙◌, subst}
+use Rattle.std.proofs.Common.{◌≡◌, ℕ, List, map, Option, sym, ap, subst}
 use Rattle.admit_core.specs.Roster.{RosterState}
 use Rattle.geom_core.specs.declared.rectangle.Rect.{Rect}
 use Rattle.widget_model.specs.Rows.{Row}

@@ -1,15 +1,15 @@
 -- A beat of a desk's parts, VScreen by VScreen: what each step leaves, and the bands that are handed out.
-use Rattle.std.proofs.Common.{◌≡◌, ◌≢◌, ℕ, ◌+◌, ◌<◌, ◌≤◌, Bool, true, false, cond, ◌&&◌, nat_eq, nat_lt, is_some, List, [], ◌∷◌, ◌++◌, length, map, take, slice_get, get_or, AllPairs, Option, Some, None, refl, sym, ap, ap₂, ◌∙◌, arith}
-use Rattle.std.specs.Prelude.{All, IsSome, IfSome}
+use Rattle.std.proofs.Common.{◌≡◌, ◌≢◌, ℕ, ◌+◌, ◌≤◌, Bool, true, false, cond, nat_eq, nat_lt, is_some, List, [], ◌∷◌, ◌++◌, length, map, take, slice_get, AllPairs, Option, Some, None, refl, sym, ap, ap₂, ◌∙◌, arith}
+use Rattle.std.specs.Prelude.{All, IsSome}
 use Rattle.std.specs.List.{list_all}
-use Rattle.std.specs.Option.{option_map, option_map_or, option_and_then}
+use Rattle.std.specs.Option.{option_map, option_map_or}
 use Rattle.std.proofs.lemmas.Bool.{true≢false, ne_eqb, ltb-true}
 use Rattle.std.proofs.lemmas.List.{take_more, take_all, length_push, map-append}
 use Rattle.std.proofs.lemmas.List.Elements.{All-nil, All-cons}
 use Rattle.std.proofs.lemmas.Option.{slice_get_within, get_or_from_slice_get}
 use Rattle.admit_core.specs.Roster.{RosterState}
 use Rattle.vscreen_core.specs.declared.band.Band.{Band}
-use Rattle.vscreen_core.specs.FilmState.{FilmState, IsFilm}
+use Rattle.vscreen_core.specs.FilmState.{FilmState}
 use Rattle.vscreen_core.specs.Changes.{beaten, band_now}
 use Rattle.vscreen_core.proofs.Periods.{beaten_keeps}
 use Rattle.widget_model.specs.Rows.{Row}

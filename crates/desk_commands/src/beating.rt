@@ -37,8 +37,8 @@ fn beat_film(tree: &mut Tree, id: Id) -> Band
 
 /// Beats the film of each admitted VScreen once, in the order of admission, and answers the band that each drew, in
 /// pixels of its film, with the VScreen's number. Nothing but the films changes: numbers, names, clients and kept
-/// places are as they were. A call costs what the films' beats cost, and one look-up of each. See docs/MACHINE.md,
-/// "Frames".
+/// places are as they were. A call costs what the films' beats cost, and two look-ups of each. See docs/MACHINE.md,
+/// "Films, bands and shares".
 pub fn beat(tree: &mut Tree, roster: &Roster) -> ArrayVec<(Id, Band), 128>
     requires valid { IsWidgets tree.old }
     requires listed { ListsAdmitted tree.old.entries roster.now }
