@@ -155,7 +155,7 @@ keys-distinct (entry ∷ entries) apart = (
 )
 
 -- each is a VScreen's
-film-screen : (row : Row) → IsFitFilm row → is_admitted row ≡ true → row.kind ≡ VScreen
+pub film-screen : (row : Row) → IsFitFilm row → is_admitted row ≡ true → row.kind ≡ VScreen
 film-screen row fit admitted = by row.film fit admitted
   where
     by : (o : Option FilmState) → IfSome o (λ film. (row.kind ≡ VScreen) × IsFilm film) → option_map_or (λ (film : FilmState). nat_lt 0 film.period) o false ≡ true → row.kind ≡ VScreen

@@ -16,6 +16,8 @@ mod KindRoom
 pub mod WindowSteps
 pub mod Admissions
 pub mod AdmitSteps
+pub mod Beats
+pub mod BeatPlaces
 pub mod WindowOrder
 pub mod CommandSteps
 pub mod Changes

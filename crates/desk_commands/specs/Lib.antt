@@ -6,3 +6,4 @@ pub mod Lookup
 pub mod TreeRefusals
 pub mod Tracks
 pub mod Screens
+pub mod Beating

@@ -3,6 +3,7 @@
 
 mod admission;
 mod answer;
+mod beating;
 mod bindings;
 mod commands;
 mod kinds;
@@ -21,6 +22,7 @@ mod windows;
 
 pub use admission::dismiss;
 pub use answer::Answer;
+pub use beating::beat;
 pub use commands::{is_poll, obey};
 pub use moves::may_move;
 pub use pointer::let_go;

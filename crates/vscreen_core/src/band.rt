@@ -4,7 +4,7 @@ ghost use Rattle.vscreen_core.specs.Band.{band_size, band_at, share_of};
 /// The pixels of a film that one beat drew, by their numbers: pixel (u, v) has the number `v * width + u`, from 0.
 /// They are `from` up to `to`, without `to`. An empty band has `from` and `to` equal. The rule is in
 /// docs/MACHINE.md.
-#[derive(Clone, Copy, Debug, PartialEq, Eq)]
+#[derive(Clone, Copy, Debug, Default, PartialEq, Eq)]
 pub struct Band {
     /// The first pixel.
     pub from: u32,
