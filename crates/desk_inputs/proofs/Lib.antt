@@ -1,3 +1,5 @@
 pub mod GivenValues
 pub mod Tags
 pub mod RaisedWindows
+pub mod AskedPlaces
+pub mod CarriedDesks

@@ -2,10 +2,12 @@
 //! the events of clients. Nothing here takes memory, and nothing is refused.
 #![tactic(auto)]
 
+mod asking;
 mod posting;
 mod raising;
 mod values;
 
+pub use asking::asked;
 pub use posting::posted_of;
 pub use raising::raise;
 pub use values::set_values;

@@ -170,7 +170,7 @@ window-alone rows row right is = by row.attached refl
     by None at = refl
     by (Some attached) at = absurd (no_child row.kind is (hangs_right-at rows row attached.0 attached.1 right at).can_be_child)
 
-window-root : (rows : List Row) (window : ℕ × List ℕ) → IsPlanted rows → names_window rows window ≡ true → root_key rows window ≡ window
+pub window-root : (rows : List Row) (window : ℕ × List ℕ) → IsPlanted rows → names_window rows window ≡ true → root_key rows window ≡ window
 window-root rows window planted is = by (row_named rows window.0 window.1) refl is
   where
     by : (o : Option Row) → row_named rows window.0 window.1 ≡ o → is_kind_of is_window_kind o ≡ true → root_key rows window ≡ window
