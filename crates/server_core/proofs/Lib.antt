@@ -1,2 +1,4 @@
 mod Parts
+mod BandPixels
+mod BeatShots
 mod Reaching
