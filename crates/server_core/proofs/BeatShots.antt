@@ -31,19 +31,10 @@ use Rattle.damage_rules.specs.Views.{Sight, IsShotIn, scene_in}
 use Rattle.drawing_core.specs.Following.{sight_of}
 use Rattle.desk_core.specs.View.{DeskView}
 use Rattle.server_core.specs.Serving.{ShowsDesk}
+use Rattle.server_core.proofs.StillShots.{numbered, numbers_in, rows_in, StandsStill, shot-still}
 
 abbrev beaten_entry : ℕ × Row → ℕ × Row
 beaten_entry entry = (entry.0, row_beaten entry.1)
-
-abbrev numbers_in : List (ℕ × Row) → List ℕ
-numbers_in entries = map (λ (entry : ℕ × Row). entry.0) entries
-
-abbrev rows_in : List (ℕ × Row) → List Row
-rows_in entries = map (λ (entry : ℕ × Row). entry.1) entries
-
--- widgets with these entries alone
-abbrev numbered : List (ℕ × Row) → Widgets
-numbered entries = record { clients = []; entries = entries; places = [] }
 
 -- the same numbers with the rows beaten
 entries_beaten : (old new : List (ℕ × Row)) → numbers_in new ≡ numbers_in old → rows_in new ≡ map row_beaten (rows_in old) → new ≡ map beaten_entry old
@@ -131,49 +122,17 @@ shows-beaten entries scene id x y =
     by None = refl
     by (Some key) = shows_at-still row_beaten scene (MovesNothing-beaten scene.rows) key x y
 
--- the same widgets are shown
-shown-beaten : (old new : Widgets) (windows : List ℕ) (id : ℕ) → new.entries ≡ map beaten_entry old.entries → is_shown_id new windows id ≡ is_shown_id old windows id
-unfolding is_shown_id
-shown-beaten old new windows id entries =
-    ap (λ (o : Option ℕ). option_map_or (λ root. list_any (nat_eq root) windows) o false) (ap (λ (es : List (ℕ × Row)). root_id (numbered es) id) entries ∙ root-beaten old.entries id)
-
--- widgets with these entries beaten, and the scene beaten
-record AreBeaten (old new : Widgets) (scene scene' : Scene) : Type 0 where
-  pub entries : new.entries ≡ map beaten_entry old.entries
-  pub scenes : scene' ≡ scene_changed row_beaten scene
-
-spot-beaten : (old new : Widgets) (scene scene' : Scene) (id : ℕ) (spot : Spot) → AreBeaten old new scene scene' → IsSpotBy old scene id spot → IsSpotBy new scene' id spot
-spot-beaten old new scene scene' id spot beaten is = record {
-  parent = is.parent ∙ sym (ap (λ (es : List (ℕ × Row)). parent_id (numbered es) id) beaten.entries ∙ parent-beaten old.entries id);
-  window = ap (λ (es : List (ℕ × Row)). root_id (numbered es) id) beaten.entries ∙ root-beaten old.entries id ∙ is.window;
-  place = is.place ∙ sym (ap (λ (es : List (ℕ × Row)). place_by (numbered es) id) beaten.entries ∙ place-beaten old.entries id);
-  shown = λ x y.
-      is.shown x y
-      ∙ sym (ap (λ (es : List (ℕ × Row)). shows_by (numbered es) scene' id x y) beaten.entries
-      ∙ ap (λ (s : Scene). shows_by (numbered (map beaten_entry old.entries)) s id x y) beaten.scenes
-      ∙ shows-beaten old.entries scene id x y);
+-- What is shown of widgets with these entries stands still where they are beaten.
+stands-beaten : (old new : Widgets) (scene scene' : Scene) → new.entries ≡ map beaten_entry old.entries → scene' ≡ scene_changed row_beaten scene → StandsStill old new scene scene'
+stands-beaten old new scene scene' entries scenes = record {
+  parents = λ id. ap (λ (es : List (ℕ × Row)). parent_id (numbered es) id) entries ∙ parent-beaten old.entries id;
+  roots = λ id. ap (λ (es : List (ℕ × Row)). root_id (numbered es) id) entries ∙ root-beaten old.entries id;
+  places = λ id. ap (λ (es : List (ℕ × Row)). place_by (numbered es) id) entries ∙ place-beaten old.entries id;
+  shows = λ id x y.
+      ap (λ (es : List (ℕ × Row)). shows_by (numbered es) scene' id x y) entries
+      ∙ ap (λ (s : Scene). shows_by (numbered (map beaten_entry old.entries)) s id x y) scenes
+      ∙ shows-beaten old.entries scene id x y;
 }
-
-some_and : {X : Type 0} (P Q : X → Type 0) (o : Option X) → ((x : X) → P x → Q x) → IsSomeAnd o P → IsSomeAnd o Q
-some_and P Q None h p = p
-some_and P Q (Some x) h p = h x p
-
-shot-beaten : (old new : Sight) (width height width' height' : ℕ) (shot : Seen) → new.windows ≡ old.windows → AreBeaten old.widgets new.widgets (scene_in old width height) (scene_in new width' height') → IsShotIn old width height shot → IsShotIn new width' height' shot
-shot-beaten old new width height width' height' shot windows beaten is =
-    let place : (id : ℕ) → place_by old.widgets id ≡ place_by new.widgets id = λ id.
-    sym (ap (λ (es : List (ℕ × Row)). place_by (numbered es) id) beaten.entries ∙ place-beaten old.widgets.entries id) in
-    let shown : (id : ℕ) → is_shown_id new.widgets new.windows id ≡ is_shown_id old.widgets old.windows id = λ id.
-    shown-beaten old.widgets new.widgets new.windows id beaten.entries ∙ ap (λ (ws : List ℕ). is_shown_id old.widgets ws id) windows in
-    record {
-      order =
-          is.order
-          ∙ (λ i. map (λ id. (id, place id i)) old.windows)
-          ∙ ap (λ (ws : List ℕ). map (λ id. (id, place_by new.widgets id)) ws) (sym windows);
-      shown = λ id on.
-          some_and (IsSpotBy old.widgets (scene_in old width height) id) (IsSpotBy new.widgets (scene_in new width' height') id) (spot_at shot id)
-          (λ spot. spot-beaten old.widgets new.widgets (scene_in old width height) (scene_in new width' height') id spot beaten) (is.shown id (sym (shown id) ∙ on));
-      unshown = λ id off. is.unshown id (sym (shown id) ∙ off);
-    }
 
 scene-beat : (desk : Desk) → scene_of (beat desk) ≡ scene_changed row_beaten (scene_of desk)
 unfolding beat
@@ -198,5 +157,6 @@ shows_beaten before after view shot beats numbers same scene tree stack is shows
       widgets = tree;
       windows = stack;
       scene = scene;
-      is_shot = shot-beaten old new shows.width shows.height view.width view.height shot (stack ∙ same ∙ sym shows.windows) (record { entries = entries_beaten old.widgets.entries new.widgets.entries ids rows; scenes = scenes }) shows.is_shot;
+      is_shot = shot-still old new shows.width shows.height view.width view.height shot (stack ∙ same ∙ sym shows.windows)
+          (stands-beaten old.widgets new.widgets (scene_in old shows.width shows.height) (scene_in new view.width view.height) (entries_beaten old.widgets.entries new.widgets.entries ids rows) scenes) shows.is_shot;
     }

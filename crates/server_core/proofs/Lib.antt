@@ -2,3 +2,5 @@ mod Parts
 mod BandPixels
 mod BeatShots
 mod Reaching
+mod StillShots
+mod UnchangedShots

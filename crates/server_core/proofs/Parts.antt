@@ -27,11 +27,8 @@ use Rattle.drawing_core.specs.Banding.{BandsDrawn}
 use Rattle.drawing_core.specs.Drawing.{Drawn}
 use Rattle.drawing_core.specs.Marking.{Marked}
 use Rattle.server_core.specs.Serving.{state_of, IsServing}
+use Rattle.server_core.specs.Calls.{MarkedReach}
 use Rattle.server_core.proofs.BandPixels.{IsHanded, shown_is_banded, bands-counted}
-
--- just what the change from one desk to the other reaches became dirty
-abbrev pub MarkedReach : Desk → Desk → Dirt → Dirt → Type 0
-MarkedReach before after old new = Marked (in_reach (scene_of before) (scene_of after)) old new
 
 width-shape : (a b : Shape) → a ≡ b → a.width ≡ b.width
 width-shape a b same = ap (λ (s : Shape). s.width) same
@@ -84,23 +81,27 @@ change_of_parts {shape} {canvas} {old} {new} before after same fine is marked =
       },
     )
 
--- The same as a step of the machine. The desk's shape stays, and the marking may be of the reach only then.
-pub step_of_parts : {shape : Shape} {canvas : Screen} {old new : Dirt} (before after : Desk) (stepped : Bool → Reply × Desk) (reply : Reply) → ((short : Bool) → (stepped short).1.shape ≡ before.shape) → IsDesk after → IsServing shape before canvas old → (reply, after) ≡ stepped (is_memory reply) → (after.shape ≡ before.shape → MarkedReach before after old new) → Answered (state_of before canvas.bytes old.marks) stepped reply (state_of after canvas.bytes new.marks) × IsServing shape after canvas new
-step_of_parts {shape} {canvas} {old} {new} before after stepped reply keeps fine is step marked =
+-- a step keeps the desk's shape
+pub shape_of_step : (before after : Desk) (stepped : Bool → Reply × Desk) (reply : Reply) → ((short : Bool) → (stepped short).1.shape ≡ before.shape) → (reply, after) ≡ stepped (is_memory reply) → after.shape ≡ before.shape
+shape_of_step before after stepped reply keeps step = ap (λ (s : Reply × Desk). s.1.shape) step ∙ keeps (is_memory reply)
+
+-- The same as a step of the machine.
+pub step_of_parts : {shape : Shape} {canvas : Screen} {old new : Dirt} (before after : Desk) (stepped : Bool → Reply × Desk) (reply : Reply) → after.shape ≡ before.shape → IsDesk after → IsServing shape before canvas old → (reply, after) ≡ stepped (is_memory reply) → MarkedReach before after old new
+    → Answered (state_of before canvas.bytes old.marks) stepped reply (state_of after canvas.bytes new.marks) × IsServing shape after canvas new
+step_of_parts {shape} {canvas} {old} {new} before after stepped reply same fine is step marked =
     let was = state_of before canvas.bytes old.marks in
     let now = state_of after canvas.bytes new.marks in
     let desk : after ≡ (stepped (is_memory reply)).1 = ap (λ (s : Reply × Desk). s.1) step in
-    let same : after.shape ≡ before.shape = ap (λ (d : Desk). d.shape) desk ∙ keeps (is_memory reply) in
-    let made = change_of_parts before after same fine is (marked same) in (
+    let made = change_of_parts before after same fine is marked in (
       record { reply_is = ap (λ (s : Reply × Desk). s.0) step; change = subst (λ (d : Desk). Changed was d now) desk made.0 },
       made.1,
     )
 
 -- The same of an input, which is answered by nothing else.
-pub fed_of_parts : {shape : Shape} {canvas : Screen} {old new : Dirt} (before after next : Desk) → next.shape ≡ before.shape → IsDesk after → IsServing shape before canvas old → after ≡ next → (after.shape ≡ before.shape → MarkedReach before after old new) → Changed (state_of before canvas.bytes old.marks) next (state_of after canvas.bytes new.marks) × IsServing shape after canvas new
-fed_of_parts {shape} {canvas} {old} {new} before after next keeps fine is fed marked =
-    let same : after.shape ≡ before.shape = ap (λ (d : Desk). d.shape) fed ∙ keeps in
-    let made = change_of_parts before after same fine is (marked same) in
+pub fed_of_parts : {shape : Shape} {canvas : Screen} {old new : Dirt} (before after next : Desk) → after.shape ≡ before.shape → IsDesk after → IsServing shape before canvas old → after ≡ next → MarkedReach before after old new
+    → Changed (state_of before canvas.bytes old.marks) next (state_of after canvas.bytes new.marks) × IsServing shape after canvas new
+fed_of_parts {shape} {canvas} {old} {new} before after next same fine is fed marked =
+    let made = change_of_parts before after same fine is marked in
     (subst (λ (d : Desk). Changed (state_of before canvas.bytes old.marks) d (state_of after canvas.bytes new.marks)) fed made.0, made.1)
 
 -- what was drawn twice, the second time over the first

@@ -2,6 +2,7 @@
 //! films and a slice of the dirt, at most a budget of pixels. Each call is one step of the machine of machine_model.
 #![tactic(auto)]
 
+mod following;
 pub mod laws;
 mod no_memory;
 mod server;

@@ -9,11 +9,12 @@ ghost use Rattle.machine_model.specs.Events.Answer.{Replied, Drawn};
 ghost use Rattle.machine_model.specs.Step.{Step};
 ghost use Rattle.machine_model.specs.Chosen.{lost_marks, TickedWith};
 
+use crate::following::follow_call;
 use crate::no_memory::NoMemory;
 use canvas_core::Canvas;
 use cmd_words::{Command, Drew, Input, Reply};
 use desk_core::{Desk, only_asks};
-use drawing_core::{draw, draw_bands, follow};
+use drawing_core::{draw, draw_bands};
 use kind_core::Shape;
 use redraw_core::Queue;
 use scene_core::shot;
@@ -105,9 +106,8 @@ impl Server {
         ensures valid { IsState self.new.state }
     {
         let reply = self.desk.connect(client);
-        follow(
-            &self.desk.view(),
-            self.desk.touched(),
+        follow_call(
+            &self.desk,
             &mut self.shown,
             &mut self.other,
             &mut self.queue,
@@ -123,9 +123,8 @@ impl Server {
         ensures valid { IsState self.new.state }
     {
         let reply = self.desk.hello();
-        follow(
-            &self.desk.view(),
-            self.desk.touched(),
+        follow_call(
+            &self.desk,
             &mut self.shown,
             &mut self.other,
             &mut self.queue,
@@ -148,9 +147,8 @@ impl Server {
             return self.desk.step(client, command, payload);
         }
         let reply = self.desk.step(client, command, payload);
-        follow(
-            &self.desk.view(),
-            self.desk.touched(),
+        follow_call(
+            &self.desk,
             &mut self.shown,
             &mut self.other,
             &mut self.queue,
@@ -168,9 +166,8 @@ impl Server {
         ensures valid { IsState self.new.state }
     {
         let reply = self.desk.bye(client);
-        follow(
-            &self.desk.view(),
-            self.desk.touched(),
+        follow_call(
+            &self.desk,
             &mut self.shown,
             &mut self.other,
             &mut self.queue,
@@ -187,9 +184,8 @@ impl Server {
         ensures valid { IsState self.new.state }
     {
         self.desk.feed(input);
-        follow(
-            &self.desk.view(),
-            self.desk.touched(),
+        follow_call(
+            &self.desk,
             &mut self.shown,
             &mut self.other,
             &mut self.queue,
