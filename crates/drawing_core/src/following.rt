@@ -1,10 +1,10 @@
-//! What a change of what is shown does to the dirt and to the shot.
+//! What a change of what is shown does to the dirt and to the shot: a change that moves something, or one of looks alone.
 ghost use Rattle.shot_core.specs.Shot.{IsShot};
 ghost use Rattle.machine_model.specs.Damage.{in_reach};
 ghost use Rattle.scene_core.specs.View.{IsView, KeepsPlaces, scene_of};
 ghost use Rattle.redraw_core.specs.Dirt.{IsDirt};
 ghost use Rattle.damage_rules.specs.Views.{Sight, IsShotIn, scene_in};
-ghost use Rattle.drawing_core.specs.Following.{Precedes, sight_of};
+ghost use Rattle.drawing_core.specs.Following.{MarksLooks, Precedes, sight_of};
 ghost use Rattle.drawing_core.specs.Marking.{Marked};
 
 use crate::marking::mark;
@@ -34,4 +34,15 @@ pub fn follow(
     shot(view, other);
     mark(shown, other, touched, queue);
     swap(shown, other);
+}
+
+/// Follows a change to what is shown that moved, opened and closed nothing, so that `shown` is the shot of what was shown
+/// before and of what is shown after it: makes dirty what the change reaches, and no other pixel. `touched` has the widgets
+/// that are shown and whose looks differ. No shot is taken. It takes no memory. See docs/MACHINE.md, "The reach of a
+/// change".
+pub fn follow_looks(shown: &Shot, touched: &Touched, queue: &mut Queue)
+    requires { IsDirt queue.old }
+    ensures { MarksLooks shown.now touched.now.looks.items queue.old queue.new }
+{
+    mark(shown, shown, touched, queue);
 }

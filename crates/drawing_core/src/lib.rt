@@ -9,5 +9,5 @@ mod marking;
 
 pub use banding::draw_bands;
 pub use drawing::draw;
-pub use following::follow;
+pub use following::{follow, follow_looks};
 pub use marking::mark;

@@ -1,2 +1,6 @@
 mod Parts
+mod BandPixels
+mod BeatShots
 mod Reaching
+mod StillShots
+mod UnchangedShots

@@ -37,7 +37,7 @@ use Rattle.redraw_core.specs.Dirt.{IsDirt, is_dirty}
 use Rattle.machine_model.proofs.Still.{still_unreached}
 use Rattle.desk_core.specs.Asking.{StaysAsItWas}
 use Rattle.server_core.specs.Serving.{ShowsDesk}
-use Rattle.server_core.proofs.Parts.{MarkedReach}
+use Rattle.server_core.specs.Calls.{MarkedReach}
 
 -- a view of the desk, whose shot was taken, shows the desk
 pub shows_of_desk : (desk : DeskView) (view : View) (shot : Seen) → views.scene_of view ≡ scene_of desk.desk → view.tree.now ≡ desk.widgets → view.stack.now ≡ desk.windows → views.IsView view → IsShotIn (sight_of view) view.width view.height shot → ShowsDesk desk shot

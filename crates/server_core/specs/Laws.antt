@@ -8,7 +8,8 @@ use Rattle.desk_model.specs.Desk.{Desk}
 use Rattle.desk_model.specs.Seen.{colour, picture}
 use Rattle.desk_model.specs.DeskFacts.{IsDesk}
 use Rattle.machine_model.specs.Reach.{is_reached}
-use Rattle.desk_model.specs.Beat.{beat, in_band}
+use Rattle.desk_model.specs.Beat.{beat, in_band, band_count}
+use Rattle.desk_model.specs.Screens.{shares_of}
 use Rattle.machine_model.specs.State.{State, IsState, opening, dirty_count}
 use Rattle.machine_model.specs.Events.{Event, Answer}
 use Rattle.machine_model.specs.Events.Event.{Tick}
@@ -16,6 +17,7 @@ use Rattle.machine_model.specs.Events.Answer.{Drawn}
 use Rattle.machine_model.specs.Step.{Step, CanCome}
 use Rattle.machine_model.specs.Chosen.{lost_marks, TickedWith}
 use Rattle.machine_model.specs.Run.{Moment, Run, state_after, events_of}
+use Rattle.machine_model.specs.Periods.{DrawsEachPeriod}
 use Rattle.machine_model.specs.Laws.{KeepsBudget, IsUndisturbed, enough_ticks, IsDrawnAfresh, KeepsLaws}
 
 -- Between any two desks of one shape, for which all holds that always holds of a desk, no pixel outside the reach has
@@ -28,10 +30,16 @@ ColoursAgreeOutsideTheReach =
 abbrev pub NothingIsReachedWithoutAChange : Type 0
 NothingIsReachedWithoutAChange = (desk : Desk) → IsDesk desk → (x y : ℕ) → is_reached desk desk x y ≡ false
 
--- A beat changes colours only in the bands that it copies.
+-- A beat of a desk, for which all holds that always holds of one, changes colours only in the bands that it draws.
 abbrev pub BeatsChangeOnlyTheirBands : Type 0
 BeatsChangeOnlyTheirBands =
-    (desk : Desk) (x y : ℕ) → in_band (beat desk) x y ≡ false → colour desk x y ≡ colour (beat desk) x y
+    (desk : Desk) → IsDesk desk → (x y : ℕ) → in_band (beat desk) x y ≡ false → colour desk x y ≡ colour (beat desk) x y
+
+-- After a beat no more pixels of the screen lie in a band than the shares of the admitted VScreens are, which leave the
+-- spare of the budget.
+abbrev pub BandsFitTheirShares : Type 0
+BandsFitTheirShares =
+    (desk : Desk) → IsDesk desk → (band_count (beat desk) ≤ shares_of desk.roster) × (shares_of desk.roster ≤ desk.shape.budget - desk.shape.spare)
 
 -- The state at opening is valid.
 abbrev pub OpeningIsValid : Type 0
@@ -81,6 +89,11 @@ RunsKeepStatesValid =
 abbrev pub TicksKeepTheBudget : Type 0
 TicksKeepTheBudget = (from : State) (moments : List Moment) → IsState from → Run from moments → KeepsBudget from moments
 
+-- In a run from a valid state each period of an admitted VScreen draws each of its film's pixels once, from the frame that
+-- was the newest when the period began.
+abbrev pub PeriodsAreDrawn : Type 0
+PeriodsAreDrawn = (from : State) (moments : List Moment) → IsState from → Run from moments → DrawsEachPeriod from moments
+
 -- From a valid state n undisturbed ticks leave at most the dirty pixels less n times the spare.
 abbrev pub TicksLeaveFewer : Type 0
 TicksLeaveFewer =
@@ -92,7 +105,7 @@ abbrev pub EnoughTicksDrawAfresh : Type 0
 EnoughTicksDrawAfresh =
     (from : State) (ticks : List Moment) → IsState from → Run from ticks → IsUndisturbed ticks → enough_ticks from ≤ length ticks → IsDrawnAfresh (state_after from ticks)
 
--- Every run from a valid state keeps the laws: no tick writes more than the budget, and the screen comes right
--- while nothing but ticks happens.
+-- Every run from a valid state keeps the laws: no tick writes more than the budget, each period draws each pixel once, and
+-- the screen comes right while nothing but ticks happens.
 abbrev pub RunsKeepTheLaws : Type 0
 RunsKeepTheLaws = (from : State) (moments : List Moment) → IsState from → Run from moments → KeepsLaws from moments

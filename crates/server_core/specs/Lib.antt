@@ -1,2 +1,3 @@
 pub mod Serving
+pub mod Calls
 pub mod Laws

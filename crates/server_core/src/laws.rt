@@ -1,7 +1,7 @@
 //! Laws of the machine, over the definitions alone. Each is a function without parameters whose contract is
 //! the law. docs/MACHINE.md reads them in prose.
 
-ghost use Rattle.server_core.specs.Laws.{ColoursAgreeOutsideTheReach, NothingIsReachedWithoutAChange, BeatsChangeOnlyTheirBands, OpeningIsValid, StepsKeepStatesValid, OnlyTicksDraw, TicksCleanAChosenSet, CleanStatesShowThePicture, EventsHaveAnswers, EventsHaveARun, RunsJoin, RunsKeepStatesValid, TicksKeepTheBudget, TicksLeaveFewer, EnoughTicksDrawAfresh, RunsKeepTheLaws};
+ghost use Rattle.server_core.specs.Laws.{ColoursAgreeOutsideTheReach, NothingIsReachedWithoutAChange, BeatsChangeOnlyTheirBands, BandsFitTheirShares, OpeningIsValid, StepsKeepStatesValid, OnlyTicksDraw, TicksCleanAChosenSet, CleanStatesShowThePicture, EventsHaveAnswers, EventsHaveARun, RunsJoin, RunsKeepStatesValid, TicksKeepTheBudget, PeriodsAreDrawn, TicksLeaveFewer, EnoughTicksDrawAfresh, RunsKeepTheLaws};
 
 /// Between any two desks of one shape, for which all holds that always holds of a desk, no pixel outside the reach of the
 /// change has another colour.
@@ -14,9 +14,15 @@ pub fn nothing_is_reached_without_a_change()
     ensures { NothingIsReachedWithoutAChange }
 {}
 
-/// A beat changes colours only in the bands that it copies.
+/// A beat changes colours only in the bands that it draws.
 pub fn a_beat_changes_only_its_bands()
     ensures { BeatsChangeOnlyTheirBands }
+{}
+
+/// The bands of a beat have at most as many pixels of the screen as the shares of the admitted VScreens are together, and
+/// those leave the spare of the budget.
+pub fn bands_fit_their_shares()
+    ensures { BandsFitTheirShares }
 {}
 
 /// The state at opening is valid.
@@ -71,6 +77,12 @@ pub fn no_tick_writes_more_than_the_budget()
     ensures { TicksKeepTheBudget }
 {}
 
+/// In every run from a valid state each period of an admitted VScreen draws each pixel of its film once, from the frame that
+/// was the newest when the period began.
+pub fn each_period_draws_one_frame()
+    ensures { PeriodsAreDrawn }
+{}
+
 /// From a valid state n undisturbed ticks leave at most the dirty pixels less n times the spare.
 pub fn undisturbed_ticks_leave_fewer()
     ensures { TicksLeaveFewer }
@@ -81,8 +93,8 @@ pub fn enough_ticks_draw_the_desk_afresh()
     ensures { EnoughTicksDrawAfresh }
 {}
 
-/// In every run from a valid state all three hold, wherever only ticks happen for a while; and with none dirty the
-/// screen is the desk drawn afresh.
+/// In every run from a valid state all of them hold: the budget, the periods, and wherever only ticks happen for a while
+/// the screen comes right.
 pub fn every_run_keeps_the_laws()
     ensures { RunsKeepTheLaws }
 {}

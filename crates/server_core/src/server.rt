@@ -1,18 +1,20 @@
-ghost use Rattle.std.specs.Prelude.{◌≡◌, ◌+◌, ◌-◌, ◌≤◌, true, [], length, IfOk};
+ghost use Rattle.std.specs.Prelude.{◌≡◌, ◌+◌, ◌-◌, ◌≤◌, length, IfOk};
 ghost use Rattle.scene_model.specs.Shapes.{IsShape};
 ghost use Rattle.desk_model.specs.Seen.{picture};
-ghost use Rattle.desk_model.specs.Commands.{is_built};
+ghost use Rattle.cmd_words.specs.declared.replies.Reply.TheVariants.{Done};
+ghost use Rattle.desk_model.specs.Commands.{IsPayload};
 ghost use Rattle.machine_model.specs.State.{IsState, dirty_count, opening};
-ghost use Rattle.machine_model.specs.Events.Event.{Connect, Hello, Bye, Ask, Tick};
+ghost use Rattle.machine_model.specs.Events.Event.{Connect, Hello, Bye, Ask, Feed, Tick};
 ghost use Rattle.machine_model.specs.Events.Answer.{Replied, Drawn};
 ghost use Rattle.machine_model.specs.Step.{Step};
 ghost use Rattle.machine_model.specs.Chosen.{lost_marks, TickedWith};
 
+use crate::following::follow_call;
 use crate::no_memory::NoMemory;
 use canvas_core::Canvas;
-use cmd_words::{Command, Drew, Reply};
+use cmd_words::{Command, Drew, Input, Reply};
 use desk_core::{Desk, only_asks};
-use drawing_core::{draw, follow};
+use drawing_core::{draw, draw_bands};
 use kind_core::Shape;
 use redraw_core::Queue;
 use scene_core::shot;
@@ -104,9 +106,8 @@ impl Server {
         ensures valid { IsState self.new.state }
     {
         let reply = self.desk.connect(client);
-        follow(
-            &self.desk.view(),
-            self.desk.touched(),
+        follow_call(
+            &self.desk,
             &mut self.shown,
             &mut self.other,
             &mut self.queue,
@@ -122,9 +123,8 @@ impl Server {
         ensures valid { IsState self.new.state }
     {
         let reply = self.desk.hello();
-        follow(
-            &self.desk.view(),
-            self.desk.touched(),
+        follow_call(
+            &self.desk,
             &mut self.shown,
             &mut self.other,
             &mut self.queue,
@@ -132,14 +132,13 @@ impl Server {
         reply
     }
 
-    /// A client's command, one of those that are built so far; none of them has a payload. What the change reaches
-    /// becomes dirty, and nothing is written. docs/GUIDE.md, "Commands".
+    /// A client's command, with the bytes that come with it: with `frame` as many as it says, at most 65,536, with any
+    /// other command none. What the change reaches becomes dirty, and nothing is written. docs/GUIDE.md, "Commands".
     pub fn command(&mut self, client: u32, command: &Command, payload: &[u8]) -> Reply
         requires low { 1 ≤ client }
         requires high { client ≤ 16 }
-        requires built { is_built command.now ≡ true }
-        requires payload { payload.now ≡ [] }
-        ensures step { Step self.old.state (Ask client command.now) (Replied result) self.new.state }
+        requires payload { IsPayload command.now payload.now }
+        ensures step { Step self.old.state (Ask client command.now payload.now) (Replied result) self.new.state }
         ensures unwritten { self.new.writes ≡ self.old.writes }
         ensures spans { self.new.spans ≡ self.old.spans }
         ensures valid { IsState self.new.state }
@@ -148,9 +147,8 @@ impl Server {
             return self.desk.step(client, command, payload);
         }
         let reply = self.desk.step(client, command, payload);
-        follow(
-            &self.desk.view(),
-            self.desk.touched(),
+        follow_call(
+            &self.desk,
             &mut self.shown,
             &mut self.other,
             &mut self.queue,
@@ -168,9 +166,8 @@ impl Server {
         ensures valid { IsState self.new.state }
     {
         let reply = self.desk.bye(client);
-        follow(
-            &self.desk.view(),
-            self.desk.touched(),
+        follow_call(
+            &self.desk,
             &mut self.shown,
             &mut self.other,
             &mut self.queue,
@@ -178,8 +175,26 @@ impl Server {
         reply
     }
 
-    /// One tick: draws dirty pixels, as many as the budget allows, and says how many it drew and how many stay
-    /// dirty. docs/MACHINE.md, "A tick".
+    /// An input: a motion of the pointer, a press, a release or a key. It can't be refused. What the change reaches
+    /// becomes dirty, and nothing is written. docs/MACHINE.md, "Input".
+    pub fn feed(&mut self, input: Input)
+        ensures step { Step self.old.state (Feed input) (Replied Done) self.new.state }
+        ensures unwritten { self.new.writes ≡ self.old.writes }
+        ensures spans { self.new.spans ≡ self.old.spans }
+        ensures valid { IsState self.new.state }
+    {
+        self.desk.feed(input);
+        follow_call(
+            &self.desk,
+            &mut self.shown,
+            &mut self.other,
+            &mut self.queue,
+        );
+    }
+
+    /// One tick: draws the bands of the admitted VScreens' films, and then dirty pixels, as many as the budget has left
+    /// beside the bands, and says how many it drew of each and how many stay dirty. A pixel that a band drew stays dirty
+    /// where it was. docs/MACHINE.md, "A tick".
     pub fn tick(&mut self) -> Drew
         ensures step { Step self.old.state Tick (Drawn result) self.new.state }
         ensures chosen { TickedWith (lost_marks self.old.state.dirt self.new.state.dirt)
@@ -193,10 +208,12 @@ impl Server {
             → self.new.state.screen ≡ picture self.new.state.desk }
         ensures valid { IsState self.new.state }
     {
+        let beaten = self.desk.beat();
         self.canvas.start_count();
-        let bands = draw_bands();
+        let view = self.desk.view();
+        let bands = draw_bands(&view, beaten.as_slice(), &mut self.canvas);
         let room = self.shape.budget - bands;
-        let queue = draw(&self.desk.view(), &mut self.queue, &mut self.canvas, room);
+        let queue = draw(&view, &mut self.queue, &mut self.canvas, room);
         Drew {
             bands,
             queue,
@@ -252,11 +269,4 @@ fn new_shot(alloc: Global) -> Result<Shot, NoMemory> {
         Ok(shot) => Ok(shot),
         Err(_) => Err(NoMemory),
     }
-}
-
-// Draws the bands of frames, of which there are none yet, and says how many pixels that took.
-fn draw_bands() -> u32
-    ensures { result ≡ 0 }
-{
-    0
 }

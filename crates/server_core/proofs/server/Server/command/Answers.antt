@@ -1,24 +1,33 @@
-use Rattle.std.proofs.Common.{Bool, sym, subst}
+use Rattle.std.proofs.Common.{Bool, sym, ap, subst}
 use Rattle.std.specs.Bool.{OnTrue}
+use Rattle.desk_model.specs.Desk.{Desk}
+use Rattle.desk_model.specs.Commands.{step}
 use Rattle.desk_core.specs.Asking.{StaysAsItWas}
-use Rattle.server_core.proofs.Parts.{obeyed_of_parts}
-use Rattle.server_core.proofs.Reaching.{marked_of_desks, shows_of_desk, shows_still, marked_still}
+use Rattle.machine_model.proofs.StepShapes.{shape-command}
+use Rattle.server_core.proofs.Reaching.{shows_still, marked_still}
+use Rattle.server_core.specs.Calls.{Follows}
+use Rattle.server_core.proofs.Parts.{shape_of_step, step_of_parts}
 use Rattle.server_core.proofs.server.Server.command.Goals as goal
+
+-- what follows for the dirt and for the shot
+follows : (c : goal.After-follow_call) → Follows c.self.inside.desk c.step-reply.new.self c.self.inside.queue c.follow_call.new.queue c.follow_call.new.shown
+follows c =
+    c.follow_call.ensures c.self.inside.desk (record {
+      shape = shape_of_step c.self.inside.desk.desk c.step-reply.new.self.desk (λ short. step c.self.inside.desk.desk c.args.client c.args.command.now c.args.payload.now short) c.step-reply.result (shape-command c.self.inside.desk.desk c.args.client c.args.command.now c.args.payload.now) c.step-reply.ensures.step;
+      shows = c.self.invariant.1;
+      numbered = c.step-reply.ensures.numbered;
+      changed = c.step-reply.ensures.changed;
+      touched = c.step-reply.ensures.touched;
+    })
 
 pub invariant_of-self-2 : goal.invariant_of-self-2
 invariant_of-self-2 c = (
-  (obeyed_of_parts c.self.inside.desk.desk c.step-reply.new.self.desk c.args.client c.args.command.now c.step-reply.result
-      c.step-reply.ensures.valid c.self.invariant.0 c.step-reply.ensures.step
-      (λ same. marked_of_desks c.self.inside.desk c.step-reply.new.self c.view.result c.self.inside.shown _ _ _ same c.self.invariant.1 c.view.ensures.scene c.view.ensures.tree c.view.ensures.stack c.view.ensures.view c.step-reply.ensures.numbered c.step-reply.ensures.touched c.touched.ensures c.follow.ensures.reach)).1,
-  shows_of_desk c.step-reply.new.self c.view.result _ c.view.ensures.scene c.view.ensures.tree c.view.ensures.stack c.view.ensures.view c.follow.ensures.shown,
+  (step_of_parts c.self.inside.desk.desk c.step-reply.new.self.desk (λ short. step c.self.inside.desk.desk c.args.client c.args.command.now c.args.payload.now short) c.step-reply.result (shape_of_step c.self.inside.desk.desk c.step-reply.new.self.desk (λ short. step c.self.inside.desk.desk c.args.client c.args.command.now c.args.payload.now short) c.step-reply.result (shape-command c.self.inside.desk.desk c.args.client c.args.command.now c.args.payload.now) c.step-reply.ensures.step) c.step-reply.ensures.valid c.self.invariant.0 c.step-reply.ensures.step (follows c).marked).1,
+  (follows c).shows,
 )
 
 pub returns-clause-step : goal.returns-clause-step
-returns-clause-step c =
-    rw (← c.self.view_is)
-    (obeyed_of_parts c.self.inside.desk.desk c.step-reply.new.self.desk c.args.client c.args.command.now c.step-reply.result
-    c.step-reply.ensures.valid c.self.invariant.0 c.step-reply.ensures.step
-    (λ same. marked_of_desks c.self.inside.desk c.step-reply.new.self c.view.result c.self.inside.shown _ _ _ same c.self.invariant.1 c.view.ensures.scene c.view.ensures.tree c.view.ensures.stack c.view.ensures.view c.step-reply.ensures.numbered c.step-reply.ensures.touched c.touched.ensures c.follow.ensures.reach)).0
+returns-clause-step c = rw (← c.self.view_is) (step_of_parts c.self.inside.desk.desk c.step-reply.new.self.desk (λ short. step c.self.inside.desk.desk c.args.client c.args.command.now c.args.payload.now short) c.step-reply.result (shape_of_step c.self.inside.desk.desk c.step-reply.new.self.desk (λ short. step c.self.inside.desk.desk c.args.client c.args.command.now c.args.payload.now short) c.step-reply.result (shape-command c.self.inside.desk.desk c.args.client c.args.command.now c.args.payload.now) c.step-reply.ensures.step) c.step-reply.ensures.valid c.self.invariant.0 c.step-reply.ensures.step (follows c).marked).0
 
 pub returns-clause-valid : goal.returns-clause-valid
 returns-clause-valid c = (invariant_of-self-2 c).0.state
@@ -29,15 +38,13 @@ stays c = subst (λ (b : Bool). OnTrue b (StaysAsItWas c.self.inside.desk c.step
 
 pub invariant_of-self : goal.invariant_of-self
 invariant_of-self c = (
-  (obeyed_of_parts c.self.inside.desk.desk c.step.new.self.desk c.args.client c.args.command.now c.step.result
-      c.step.ensures.valid c.self.invariant.0 c.step.ensures.step
-      (λ same. marked_still c.self.inside.desk.desk c.step.new.self.desk c.self.inside.queue c.self.invariant.0.state.desk c.self.invariant.0.dirt (stays c).desk)).1,
+  (step_of_parts c.self.inside.desk.desk c.step.new.self.desk (λ short. step c.self.inside.desk.desk c.args.client c.args.command.now c.args.payload.now short) c.step.result (ap (λ (d : Desk). d.shape) (stays c).desk) c.step.ensures.valid c.self.invariant.0 c.step.ensures.step
+      (marked_still c.self.inside.desk.desk c.step.new.self.desk c.self.inside.queue c.self.invariant.0.state.desk c.self.invariant.0.dirt (stays c).desk)).1,
   shows_still c.self.inside.desk c.step.new.self c.self.inside.shown (stays c) c.self.invariant.1,
 )
 
 pub returns-then-only_asks-clause-step : goal.returns-then-only_asks-clause-step
 returns-then-only_asks-clause-step c =
     rw (← c.self.view_is)
-    (obeyed_of_parts c.self.inside.desk.desk c.step.new.self.desk c.args.client c.args.command.now c.step.result
-    c.step.ensures.valid c.self.invariant.0 c.step.ensures.step
-    (λ same. marked_still c.self.inside.desk.desk c.step.new.self.desk c.self.inside.queue c.self.invariant.0.state.desk c.self.invariant.0.dirt (stays c).desk)).0
+    (step_of_parts c.self.inside.desk.desk c.step.new.self.desk (λ short. step c.self.inside.desk.desk c.args.client c.args.command.now c.args.payload.now short) c.step.result (ap (λ (d : Desk). d.shape) (stays c).desk) c.step.ensures.valid c.self.invariant.0 c.step.ensures.step
+    (marked_still c.self.inside.desk.desk c.step.new.self.desk c.self.inside.queue c.self.invariant.0.state.desk c.self.invariant.0.dirt (stays c).desk)).0

@@ -1,0 +1,20 @@
+use Rattle.std.proofs.Common.{sym}
+use Rattle.server_core.proofs.Reaching.{marked_of_desks, shows_of_desk}
+use Rattle.server_core.proofs.UnchangedShots.{shot_unchanged}
+use Rattle.server_core.proofs.following.follow_call.Goals as goal
+
+pub returns-then-changed : goal.returns-then-changed
+returns-then-changed c before calls = record {
+  marked = marked_of_desks before c.args.desk.now c.view-view.result c.args.shown.now _ _ _ calls.shape calls.shows c.view-view.ensures.scene c.view-view.ensures.tree c.view-view.ensures.stack c.view-view.ensures.view calls.numbered calls.touched c.touched.ensures c.follow.ensures.reach;
+  shows = shows_of_desk c.args.desk.now c.view-view.result _ c.view-view.ensures.scene c.view-view.ensures.tree c.view-view.ensures.stack c.view-view.ensures.view c.follow.ensures.shown;
+}
+
+pub returns-else-changed : goal.returns-else-changed
+returns-else-changed c before calls =
+    let stays = calls.changed.stays (sym c.if-changed.ensures) in
+    let shot = shot_unchanged before c.args.desk.now c.view-view.result c.args.shown.now calls.shape stays.0 stays.1 calls.numbered c.view-view.ensures.scene c.view-view.ensures.tree c.view-view.ensures.stack c.view-view.ensures.view calls.shows in
+    record {
+      marked = marked_of_desks before c.args.desk.now c.view-view.result c.args.shown.now _ _ _ calls.shape calls.shows c.view-view.ensures.scene c.view-view.ensures.tree c.view-view.ensures.stack c.view-view.ensures.view calls.numbered calls.touched c.touched-else-changed.ensures
+          (λ sight was. c.follow_looks.ensures sight c.view-view.result c.view-view.ensures.view shot was);
+      shows = shows_of_desk c.args.desk.now c.view-view.result _ c.view-view.ensures.scene c.view-view.ensures.tree c.view-view.ensures.stack c.view-view.ensures.view shot;
+    }
