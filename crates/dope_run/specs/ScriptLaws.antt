@@ -7,6 +7,7 @@ use Rattle.machine_model.specs.State.{State}
 use Rattle.machine_model.specs.Events.{Event}
 use Rattle.machine_model.specs.Run.{Moment}
 use Rattle.dope_run.specs.declared.status.Status.TheVariants.{BadScript, TooMuch}
+use Rattle.script_lines.specs.Sayings.{frame_limit}
 use Rattle.dope_run.specs.Framing.{Item, IsItem, IsPartial, AreWhole, bytes_of, line_limit, script_limit, read_limit}
 use Rattle.dope_run.specs.Script.{AskFor, BeginsOff}
 use Rattle.dope_run.specs.Transcript.{LastRead, Ended}
@@ -47,9 +48,9 @@ ScriptsAreNotRefused =
     (shape : Shape) (bytes : List ℕ) (line : ℕ) (left sink_old sink_new : Option (List ℕ)) (state : State)
     → IsScript bytes → (Ended shape (BadScript line) (Some bytes) left sink_old sink_new state → ⊥) × (Ended shape TooMuch (Some bytes) left sink_old sink_new state → ⊥)
 
--- What was taken behind the lines that are carried out and written before the last read is part of a line and the
--- bytes of one read, at most 520 and 4,096.
+-- What was taken behind the lines that are carried out and written before the last read is part of a line and of the
+-- raw bytes that follow it, and the bytes of one read, at most 520, 65,536 and 4,096.
 abbrev pub LittleIsReadAhead : Type 0
 LittleIsReadAhead =
     (from : State) (taken : List ℕ) (moments : List Moment) → (read : LastRead from taken moments)
-    → (rest : List ℕ) × (taken ≡ bytes_of read.lines ++ rest) × (length rest ≤ line_limit + read_limit)
+    → (rest : List ℕ) × (taken ≡ bytes_of read.lines ++ rest) × (length rest ≤ line_limit + frame_limit + read_limit)
