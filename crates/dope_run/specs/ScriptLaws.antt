@@ -12,7 +12,7 @@ use Rattle.dope_run.specs.Framing.{Item, IsItem, IsPartial, AreWhole, bytes_of, 
 use Rattle.dope_run.specs.Script.{AskFor, BeginsOff}
 use Rattle.dope_run.specs.Transcript.{LastRead, Ended}
 
--- The bytes are these lines, each read, and then a part that is no whole line or is off the grammar.
+-- The bytes are these lines with their raw bytes, each read, and then a part that is no whole item or is off the grammar.
 pub record IsReading (bytes : List ℕ) (items : List Item) (rest : List ℕ) : Type 0 where
   pub events : List Event
   pub whole : All IsItem items
@@ -29,7 +29,7 @@ ReadingsAreOne =
     (bytes : List ℕ) (first second : List Item) (rest other : List ℕ)
     → IsReading bytes first rest → IsReading bytes second other → (first ≡ second) × (rest ≡ other)
 
--- What is no whole line is not off the grammar.
+-- What is no whole item is not off the grammar.
 abbrev pub PartsAreNotOff : Type 0
 PartsAreNotOff = (bytes : List ℕ) → IsPartial bytes → BeginsOff bytes → ⊥
 
