@@ -8,7 +8,7 @@ use arrayvec::ArrayString;
 use cmd_text::{Reply, parse, print_reply};
 use desk_core::Desk;
 use kind_core::{Shape, name_from};
-use script_lines::is_built;
+use script_lines::payload_size;
 use std::alloc::Global;
 use std::process::Abort;
 use std::str::SplitWhitespace;
@@ -37,10 +37,10 @@ fn command(desk: &mut Desk, client: u32, line: &str) -> Result<Reply, Fail>
     }
     match parse(line.as_bytes()) {
         Ok(command) => {
-            if is_built(&command) {
+            if payload_size(&command) == 0 {
                 return Ok(desk.step(client, &command, &[]));
             }
-            Err("the command isn't built".into())
+            Err("the command comes with raw bytes".into())
         }
         Err(_) => Err("the line is no command".into()),
     }

@@ -2,6 +2,7 @@
 use Rattle.std.proofs.Common.{◌≡◌, ◌≢◌, ℕ, ◌+◌, ◌≤◌, List, [], ◌∷◌, ◌++◌, length, take, drop, Option, refl, sym, ap, subst, ◌∙◌, inl, inr, arith, lit≤, append-nil, append_assoc, length-append}
 use Rattle.std.specs.Io.KnownBytes.{Consumes, Keeps, IsAtEnd}
 use Rattle.std.proofs.lemmas.List.{take-append-drop}
+use Rattle.std.proofs.lemmas.List.Elements.{All-head}
 use Rattle.outside_io.specs.Outbox.{Output, Puts, PutsFront, flushed}
 use Rattle.outside_io.proofs.Told.{Consumes-none, Consumes-append, Consumes-keeps}
 use Rattle.outside_io.proofs.Gathered.{Puts-none, PutsFront-longer}
@@ -18,15 +19,15 @@ use Rattle.dope_run.specs.Cutting.{status_of}
 use Rattle.dope_run.specs.declared.status.Status.{Status}
 use Rattle.dope_run.specs.declared.status.Status.TheVariants.{Done, ReadFault, WriteFault, Usage, BadScript, NoMemory, TooMuch}
 use Rattle.dope_run.specs.declared.player.Player.{Player}
-use Rattle.dope_run.specs.Framing.{Item, IsLine, AreWhole, IsUnended, bytes_of, wants_of, script_limit, read_limit}
-use Rattle.dope_run.specs.Script.{AskFor, EndsUnread}
+use Rattle.dope_run.specs.Framing.{Item, IsItem, IsPartial, AreWhole, IsUnended, bytes_of, script_limit, read_limit}
+use Rattle.dope_run.specs.Script.{AskFor}
 use Rattle.dope_run.specs.Text.{text_of}
 use Rattle.dope_run.specs.Transcript.{Plays, Covers, LastRead, Gains, IsLeft, Ended, AreCutShort, IsRefused}
-use Rattle.dope_run.specs.Playing.{IsPlayer, Fed, LineDone, LineUnread, IsFresh, Going, Finished, bare_item}
+use Rattle.dope_run.specs.Playing.{IsPlayer, Fed, ItemDone, LastUnread, IsFresh, Going, Finished, bare_item, kept}
 use Rattle.dope_run.specs.Obeying.{Says, Leaves}
 use Rattle.dope_run.proofs.Gaining.{text_of-append, Gains-after, IsReached-longer, IsLeft-after}
 use Rattle.dope_run.proofs.Reading.{Plays-append}
-use Rattle.dope_run.proofs.Feedings.{IsLine-nil, fed_none, fed_after, moments-fed_after, bytes_of-append}
+use Rattle.dope_run.proofs.Feedings.{IsLine-nil, kept-partial, kept-nothing, fed_none, fed_after, moments-fed_after, bytes_of-append}
 use Rattle.std.proofs.Math.Seq.{take-append_seam}
 use Rattle.dope_run.proofs.Framings.{lines_of}
 
@@ -62,7 +63,7 @@ ended shape status source_old source_new sink_old sink_new state taken items mom
 -- ---- from a fresh player on
 
 spelled_from : (shape : Shape) (status : Status) (start player : Player) (bytes : List ℕ) (before after : Output) → IsFresh shape start → (fed : Fed status start bytes player before after) → bytes ≡ bytes_of fed.items ++ fed.rest
-spelled_from shape status start player bytes before after fresh fed = ap (λ line. line ++ bytes) (sym fresh.line) ∙ fed.spelled
+spelled_from shape status start player bytes before after fresh fed = ap (λ xs. xs ++ bytes) (sym fresh.line) ∙ fed.spelled
 
 plays_from : (shape : Shape) (status : Status) (start player : Player) (bytes : List ℕ) (before after : Output) → IsFresh shape start → (fed : Fed status start bytes player before after) → Plays (opening shape) fed.items fed.moments
 plays_from shape status start player bytes before after fresh fed =
@@ -89,12 +90,12 @@ going_on start between player count more bytes s0 s1 s2 k0 k1 k2 going consumes 
 
 -- ---- the ends of a run
 
--- the bytes taken are whole lines, and the player's own line
+-- the bytes taken are whole items, and what the player keeps
 cut_short : (shape : Shape) (start player : Player) (bytes : List ℕ) (before after : Output) → IsFresh shape start → IsPlayer player → (fed : Fed Done start bytes player before after) → AreCutShort bytes fed.items
 cut_short shape start player bytes before after fresh valid fed = record {
   rest = fed.rest;
   spelled = spelled_from shape Done start player bytes before after fresh fed;
-  partial = inl (subst IsLine (sym fed.ends) valid.line);
+  partial = subst IsPartial (sym fed.ends) (kept-partial player valid);
 }
 
 -- what the last read gave, behind what the player had taken
@@ -202,8 +203,8 @@ at_end : (s0 s1 s2 : Option (List ℕ)) (taken bytes : List ℕ) → Consumes s0
 at_end s0 s1 s2 taken bytes first second none =
     subst (Consumes s0 s2) (ap (λ xs. taken ++ xs) none ∙ append-nil taken) (Consumes-append s0 s1 s2 taken bytes first second)
 
--- and no line is open
-pub ended_done : (shape : Shape) (start player : Player) (count : ℕ) (bytes : List ℕ) (s0 s1 s2 k0 k1 : Option (List ℕ)) → IsFresh shape start → IsPlayer player → Going start player count s0 s1 k0 k1 → Consumes s1 s2 bytes → bytes ≡ [] → IsAtEnd s2 → player.line.items ≡ [] → count ≤ script_limit → Ended shape Done s0 s2 k0 k1 player.server.state
+-- and nothing is kept
+pub ended_done : (shape : Shape) (start player : Player) (count : ℕ) (bytes : List ℕ) (s0 s1 s2 k0 k1 : Option (List ℕ)) → IsFresh shape start → IsPlayer player → Going start player count s0 s1 k0 k1 → Consumes s1 s2 bytes → bytes ≡ [] → IsAtEnd s2 → kept player ≡ [] → count ≤ script_limit → Ended shape Done s0 s2 k0 k1 player.server.state
 ended_done shape start player count bytes s0 s1 s2 k0 k1 fresh valid going consumes none end no_line few =
     let fed = going.fed in
     ended shape Done s0 s2 k0 k1 player.server.state going.taken fed.items fed.moments fresh.valid
@@ -214,24 +215,20 @@ ended_done shape start player count bytes s0 s1 s2 k0 k1 fresh valid going consu
     (gained Done fed.moments k0 k1 k1 fed.says (Puts-none (flushed k1)))
     (leaves_from shape Done start player going.taken (flushed k0) (flushed k1) fresh fed)
 
-no_payload : (line : List ℕ) → wants_of line ≡ 0
-unfolding wants_of
-no_payload line = refl
-
 -- the last line was played, or its writing broke off
-ended_last : (shape : Shape) (status : Status) (start player last : Player) (count : ℕ) (bytes : List ℕ) (s0 s1 s2 k0 k1 k2 : Option (List ℕ)) → ((taken : List ℕ) (items : List Item) → AreWhole taken items → length taken ≤ script_limit → Covers status taken s2 items) → IsFresh shape start → IsPlayer player → Going start player count s0 s1 k0 k1 → Consumes s1 s2 bytes → bytes ≡ [] → count ≤ script_limit → player.line.items ≢ [] → LineDone status player.line.items player last (flushed k1) (flushed k2) → Ended shape status s0 s2 k0 k2 last.server.state
+ended_last : (shape : Shape) (status : Status) (start player last : Player) (count : ℕ) (bytes : List ℕ) (s0 s1 s2 k0 k1 k2 : Option (List ℕ)) → ((taken : List ℕ) (items : List Item) → AreWhole taken items → length taken ≤ script_limit → Covers status taken s2 items) → IsFresh shape start → IsPlayer player → Going start player count s0 s1 k0 k1 → Consumes s1 s2 bytes → bytes ≡ [] → count ≤ script_limit → kept player ≢ [] → ItemDone status (bare_item (kept player)) player last (flushed k1) (flushed k2) → Ended shape status s0 s2 k0 k2 last.server.state
 ended_last shape status start player last count bytes s0 s1 s2 k0 k1 k2 covers fresh valid going consumes none few some done =
     let fed = going.fed in
     let front = plays_from shape Done start player going.taken (flushed k0) (flushed k1) fresh fed in
     let state : player.server.state ≡ state_after (opening shape) fed.moments = leaves_from shape Done start player going.taken (flushed k0) (flushed k1) fresh fed in
-    let item = bare_item player.line.items in
+    let item = bare_item (kept player) in
     let behind : Plays (state_after (opening shape) fed.moments) (item ∷ []) done.moments = subst (λ s. Plays s (item ∷ []) done.moments) state done.plays in
     let whole : IsUnended going.taken (fed.items ++ item ∷ []) = record {
       front = fed.items;
-      last = player.line.items;
+      last = kept player;
       listed = refl;
       some = some;
-      no_payload = no_payload player.line.items;
+      no_payload = (All-head IsItem item [] done.plays.whole).payload;
       spelled = spelled_from shape Done start player going.taken (flushed k0) (flushed k1) fresh fed ∙ ap (λ xs. bytes_of fed.items ++ xs) fed.ends;
     } in
     ended shape status s0 s2 k0 k2 last.server.state going.taken (fed.items ++ item ∷ []) (fed.moments ++ done.moments) fresh.valid
@@ -242,17 +239,16 @@ ended_last shape status start player last count bytes s0 s1 s2 k0 k1 k2 covers f
     (Gains-after status k0 k1 k2 fed.moments done.moments fed.says done.says)
     (IsLeft-after status last.server.state player.server.state (opening shape) fed.moments done.moments state done.leaves)
 
--- the last line is off the grammar
-ended_off_last : (shape : Shape) (line : ℕ) (start player last : Player) (count : ℕ) (bytes : List ℕ) (s0 s1 s2 k0 k1 k2 : Option (List ℕ)) → IsFresh shape start → IsPlayer player → Going start player count s0 s1 k0 k1 → Consumes s1 s2 bytes → bytes ≡ [] → IsAtEnd s2 → count ≤ script_limit → player.line.items ≢ [] → LineUnread line player.line.items player last (flushed k1) (flushed k2) → Ended shape (BadScript line) s0 s2 k0 k2 last.server.state
-ended_off_last shape line start player last count bytes s0 s1 s2 k0 k1 k2 fresh valid going consumes none end few some unread =
+-- the last line is off the grammar, or its raw bytes are cut short
+ended_off_last : (shape : Shape) (line : ℕ) (start player last : Player) (count : ℕ) (bytes : List ℕ) (s0 s1 s2 k0 k1 k2 : Option (List ℕ)) → IsFresh shape start → IsPlayer player → Going start player count s0 s1 k0 k1 → Consumes s1 s2 bytes → bytes ≡ [] → IsAtEnd s2 → count ≤ script_limit → LastUnread line (kept player) player last (flushed k1) (flushed k2) → Ended shape (BadScript line) s0 s2 k0 k2 last.server.state
+ended_off_last shape line start player last count bytes s0 s1 s2 k0 k1 k2 fresh valid going consumes none end few unread =
     let fed = going.fed in
-    let off : EndsUnread player.line.items = record { is_line = valid.line; some = some; unread = unread.unread } in
     ended shape (BadScript line) s0 s2 k0 k2 last.server.state going.taken fed.items fed.moments fresh.valid
     (at_end s0 s1 s2 going.taken bytes going.consumes consumes none) (
       record {
-        rest = player.line.items;
+        rest = kept player;
         spelled = spelled_from shape Done start player going.taken (flushed k0) (flushed k1) fresh fed ∙ ap (λ xs. bytes_of fed.items ++ xs) fed.ends;
-        off = inr (inl off, end);
+        off = inr (unread.off, end);
       },
       omega (arith, unread.number, unread.counts, lines_from shape Done start player going.taken (flushed k0) (flushed k1) fresh fed),
       omega (arith, going.counted),
@@ -270,7 +266,7 @@ ended_finish shape Done start player last count bytes s0 s1 s2 k0 k1 k2 fresh va
 ended_finish shape Done start player last count bytes s0 s1 s2 k0 k1 k2 fresh valid going consumes none end few (inr done) =
     ended_last shape Done start player last count bytes s0 s1 s2 k0 k1 k2 (λ taken items whole short. (whole, end, short)) fresh valid going consumes none few done.0 done.1
 ended_finish shape (BadScript line) start player last count bytes s0 s1 s2 k0 k1 k2 fresh valid going consumes none end few off =
-    ended_off_last shape line start player last count bytes s0 s1 s2 k0 k1 k2 fresh valid going consumes none end few off.0 off.1
+    ended_off_last shape line start player last count bytes s0 s1 s2 k0 k1 k2 fresh valid going consumes none end few off
 ended_finish shape WriteFault start player last count bytes s0 s1 s2 k0 k1 k2 fresh valid going consumes none end few cut =
     ended_last shape WriteFault start player last count bytes s0 s1 s2 k0 k1 k2 (λ taken items whole short. (inl (whole, end), short)) fresh valid going consumes none few cut.0 cut.1
 ended_finish shape ReadFault start player last count bytes s0 s1 s2 k0 k1 k2 fresh valid going consumes none end few no_end = absurd no_end
@@ -286,11 +282,16 @@ ended_cut shape Unwritten = ended_unwritten shape
 -- ---- the opening
 
 -- a player on a server that was just opened
-pub player_opened : (shape : Shape) (player : Player) → player.server.state ≡ opening shape → IsState player.server.state → player.line.items ≡ [] → IsPlayer player
-player_opened shape player opens valid line = record { state = valid; line = IsLine-nil player.line.items line }
+pub player_opened : (shape : Shape) (player : Player) → player.server.state ≡ opening shape → IsState player.server.state → player.line.items ≡ [] → player.wants ≡ 0 → player.payload ≡ [] → IsPlayer player
+player_opened shape player opens valid line none empty = record {
+  state = valid;
+  line = IsLine-nil player.line.items line;
+  awaits = λ some. absurd (omega arith);
+  none = λ is. empty;
+}
 
-pub player_fresh : (shape : Shape) (player : Player) → player.server.state ≡ opening shape → IsState player.server.state → player.line.items ≡ [] → player.lines ≡ 0 → IsFresh shape player
-player_fresh shape player opens valid line lines = record { state = opens; line = line; lines = lines; valid = subst IsState opens valid }
+pub player_fresh : (shape : Shape) (player : Player) → player.server.state ≡ opening shape → IsState player.server.state → player.line.items ≡ [] → player.wants ≡ 0 → player.lines ≡ 0 → IsFresh shape player
+player_fresh shape player opens valid line none lines = record { state = opens; line = kept-nothing player none line; lines = lines; valid = subst IsState opens valid }
 
 pub shape_opened : (shape : Shape) (state : State) → state ≡ opening shape → state.desk.shape ≡ shape
 shape_opened shape state opens = ap (λ s. s.desk.shape) opens ∙ shape-opening shape

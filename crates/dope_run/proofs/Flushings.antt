@@ -9,10 +9,11 @@ use Rattle.dope_run.specs.declared.cut.Cut.TheVariants.{Unread, Unwritten}
 use Rattle.dope_run.specs.declared.status.Status.{Status}
 use Rattle.dope_run.specs.declared.status.Status.TheVariants.{Done, WriteFault, BadScript}
 use Rattle.dope_run.specs.declared.player.Player.{Player}
+use Rattle.dope_run.specs.Framing.{Item}
 use Rattle.dope_run.specs.Text.{text_of}
 use Rattle.dope_run.specs.Cutting.{status_of}
 use Rattle.dope_run.specs.Obeying.{Says, IsReached}
-use Rattle.dope_run.specs.Playing.{LineDone, LineCut, Fed, Finished}
+use Rattle.dope_run.specs.Playing.{ItemDone, LastCut, Fed, Finished, bare_item, kept}
 use Rattle.dope_run.proofs.Gaining.{IsReached-last}
 
 -- ---- the bytes of one read
@@ -80,12 +81,12 @@ fed_dropped a b bytes k0 k1 waited waiting none first =
 
 -- ---- a last line
 
-line_from : (status : Status) (a b : Player) (k0 : Option (List ℕ)) (waited : List ℕ) (after : Output) → waited ≡ [] → LineDone status a.line.items a b (output k0 waited) after → LineDone status a.line.items a b (flushed k0) after
-line_from status a b k0 waited after none done = subst (λ w. LineDone status a.line.items a b (output k0 w) after) none done
+item_from : (status : Status) (item : Item) (a b : Player) (k0 : Option (List ℕ)) (waited : List ℕ) (after : Output) → waited ≡ [] → ItemDone status item a b (output k0 waited) after → ItemDone status item a b (flushed k0) after
+item_from status item a b k0 waited after none done = subst (λ w. ItemDone status item a b (output k0 w) after) none done
 
--- the line was carried out, with the output as it is later
-line_later : (status : Status) (a b : Player) (before between after : Output) → (done : LineDone status a.line.items a b before between) → Says status before after (text_of done.moments) → LineDone status a.line.items a b before after
-line_later status a b before between after done said = record {
+-- the item was carried out, with the output as it is later
+item_later : (status : Status) (item : Item) (a b : Player) (before between after : Output) → (done : ItemDone status item a b before between) → Says status before after (text_of done.moments) → ItemDone status item a b before after
+item_later status item a b before between after done said = record {
   moments = done.moments;
   plays = done.plays;
   says = said;
@@ -94,14 +95,14 @@ line_later status a b before between after done said = record {
   cleared = done.cleared;
 }
 
-pub line_flushed : (a b : Player) (k0 k1 k2 : Option (List ℕ)) (waited waiting : List ℕ) → waited ≡ [] → LineDone Done a.line.items a b (output k0 waited) (output k1 waiting) → Appends k1 k2 waiting → LineDone Done a.line.items a b (flushed k0) (flushed k2)
-line_flushed a b k0 k1 k2 waited waiting none first wrote =
-    let done = line_from Done a b k0 waited (output k1 waiting) none first in
-    line_later Done a b (flushed k0) (output k1 waiting) (flushed k2) done (Puts-flushed (flushed k0) (output k1 waiting) k2 (text_of done.moments) done.says wrote)
+pub item_flushed : (item : Item) (a b : Player) (k0 k1 k2 : Option (List ℕ)) (waited waiting : List ℕ) → waited ≡ [] → ItemDone Done item a b (output k0 waited) (output k1 waiting) → Appends k1 k2 waiting → ItemDone Done item a b (flushed k0) (flushed k2)
+item_flushed item a b k0 k1 k2 waited waiting none first wrote =
+    let done = item_from Done item a b k0 waited (output k1 waiting) none first in
+    item_later Done item a b (flushed k0) (output k1 waiting) (flushed k2) done (Puts-flushed (flushed k0) (output k1 waiting) k2 (text_of done.moments) done.says wrote)
 
-pub line_unflushed : (a b : Player) (k0 k1 k2 : Option (List ℕ)) (waited waiting : List ℕ) → waited ≡ [] → LineDone Done a.line.items a b (output k0 waited) (output k1 waiting) → AppendsFront k1 k2 waiting → LineDone WriteFault a.line.items a b (flushed k0) (flushed k2)
-line_unflushed a b k0 k1 k2 waited waiting none first broken =
-    let done = line_from Done a b k0 waited (output k1 waiting) none first in
+pub item_unflushed : (item : Item) (a b : Player) (k0 k1 k2 : Option (List ℕ)) (waited waiting : List ℕ) → waited ≡ [] → ItemDone Done item a b (output k0 waited) (output k1 waiting) → AppendsFront k1 k2 waiting → ItemDone WriteFault item a b (flushed k0) (flushed k2)
+item_unflushed item a b k0 k1 k2 waited waiting none first broken =
+    let done = item_from Done item a b k0 waited (output k1 waiting) none first in
     record {
       moments = done.moments;
       plays = done.plays;
@@ -112,17 +113,14 @@ line_unflushed a b k0 k1 k2 waited waiting none first broken =
     }
 
 -- the last line was cut off
-pub finished_cut : (cut : Cut) (a b : Player) (k0 k1 : Option (List ℕ)) (waited waiting : List ℕ) → waited ≡ [] → a.line.items ≢ [] → LineCut cut a.line.items a b (output k0 waited) (output k1 waiting) → Finished (status_of cut) a b (flushed k0) (flushed k1)
-finished_cut (Unread line) a b k0 k1 waited waiting none some off = (
-  some,
-  record {
-    unread = off.unread;
-    same_state = off.same_state;
-    same_output = ap (λ (out : Output). flushed out.held) off.same_output;
-    counts = off.counts;
-    number = off.number;
-  },
-)
+pub finished_cut : (cut : Cut) (a b : Player) (k0 k1 : Option (List ℕ)) (waited waiting : List ℕ) → waited ≡ [] → kept a ≢ [] → LastCut cut (kept a) a b (output k0 waited) (output k1 waiting) → Finished (status_of cut) a b (flushed k0) (flushed k1)
+finished_cut (Unread line) a b k0 k1 waited waiting none some off = record {
+  off = off.off;
+  same_state = off.same_state;
+  same_output = ap (λ (out : Output). flushed out.held) off.same_output;
+  counts = off.counts;
+  number = off.number;
+}
 finished_cut Unwritten a b k0 k1 waited waiting none some first =
-    let done = line_from WriteFault a b k0 waited (output k1 waiting) none first in
-    (some, line_later WriteFault a b (flushed k0) (output k1 waiting) (flushed k1) done done.says)
+    let done = item_from WriteFault (bare_item (kept a)) a b k0 waited (output k1 waiting) none first in
+    (some, item_later WriteFault (bare_item (kept a)) a b (flushed k0) (output k1 waiting) (flushed k1) done done.says)

@@ -1,19 +1,19 @@
--- Any bytes are whole lines up to the first that is off the grammar, and what is behind them.
-use Rattle.std.proofs.Common.{◌≡◌, ◌⊎◌, ◌==◌, ℕ, zero, suc, ◌+◌, ◌≤◌, Bool, true, false, ◌||◌, List, [], ◌∷◌, ◌++◌, length, take, refl, sym, ap, ◌∙◌, inl, inr, arith, leb, append_assoc, length-append}
+-- Any bytes are whole lines, each with its raw bytes, up to the first that is off the grammar, and what is behind them.
+use Rattle.std.proofs.Common.{◌≡◌, ◌⊎◌, ◌==◌, ℕ, zero, suc, ◌+◌, ◌≤◌, ◌<◌, Bool, true, false, ◌||◌, List, [], ◌∷◌, ◌++◌, length, length-drop, take, drop, refl, sym, ap, ◌∙◌, inl, inr, arith, leb, append_assoc, length-append}
 use Rattle.std.specs.List.{All}
 use Rattle.std.proofs.lemmas.Bool.Decides.{nat_tests}
-use Rattle.std.proofs.lemmas.List.{take-append-le, take-append-drop}
+use Rattle.std.proofs.lemmas.List.{take-append-le, take-append-drop, length-take-le}
 use Rattle.std.proofs.lemmas.List.Elements.{All-nil, All-cons}
 use Rattle.std.proofs.lemmas.List.Folds.{list_any-append}
 use Rattle.machine_model.specs.Events.{Event}
 use Rattle.script_lines.specs.declared.order.Order.{Order}
 use Rattle.script_lines.specs.Lines.{asks, IsOff}
+use Rattle.script_lines.specs.Payloads.{payload_of}
 use Rattle.script_lines.proofs.Telling.{each_line_is_told}
 use Rattle.dope_run.specs.Framing.{Item, IsItem, IsLine, IsPartial, bytes_of, has_feed, line_limit}
 use Rattle.dope_run.specs.Script.{AskFor, events_of_order, BeginsOff}
-use Rattle.dope_run.specs.Playing.{bare_item}
 use Rattle.dope_run.proofs.Reading.{AskFor-nil, AskFor-cons}
-use Rattle.dope_run.proofs.Feedings.{IsItem-bare, bytes_of-nil, bytes_of-cons}
+use Rattle.dope_run.proofs.Feedings.{bytes_of-nil, bytes_of-cons}
 
 pub record LinesOf (bytes : List ℕ) : Type 0 where
   pub items : List Item
@@ -68,15 +68,19 @@ unended : (bytes : List ℕ) (short : Bool) → leb (length bytes) line_limit �
 unended bytes true is clear = none_of bytes (inl (inl (record { no_feed = clear; short = (let short : length bytes ≤ line_limit = grind (arith, nat_tests) in short) })))
 unended bytes false is clear = too_long bytes (let long : line_limit + 1 ≤ length bytes = grind (arith, nat_tests) in long) (has_feed-take (line_limit + 1) bytes clear)
 
--- a line that is read, and what was found behind it
-line_and : (bytes line more : List ℕ) (order : Order) → IsLine line → bytes ≡ line ++ 10 ∷ more → asks line order → LinesOf more → LinesOf bytes
-line_and bytes line more order is spelled read behind = record {
-  items = bare_item line ∷ behind.items;
-  events = events_of_order order ++ behind.events;
+-- a line that is read, with its raw bytes, and what was found behind it
+line_and : (bytes : List ℕ) (item : Item) (more : List ℕ) (order : Order) → IsItem item → bytes ≡ item.line ++ 10 ∷ (item.payload ++ more) → asks item.line order → LinesOf more → LinesOf bytes
+line_and bytes item more order is spelled read behind = record {
+  items = item ∷ behind.items;
+  events = events_of_order order item.payload ++ behind.events;
   rest = behind.rest;
-  whole = All-cons IsItem (bare_item line) behind.items (IsItem-bare line is) behind.whole;
-  script = AskFor-cons (bare_item line) behind.items order behind.events read behind.script;
-  spelled = spelled ∙ ap (λ xs. line ++ 10 ∷ xs) behind.spelled ∙ sym (append_assoc line (10 ∷ bytes_of behind.items) behind.rest) ∙ ap (λ xs. xs ++ behind.rest) (sym (bytes_of-cons line behind.items));
+  whole = All-cons IsItem item behind.items is behind.whole;
+  script = AskFor-cons item behind.items order behind.events read behind.script;
+  spelled = spelled
+      ∙ ap (λ xs. item.line ++ 10 ∷ (item.payload ++ xs)) behind.spelled
+      ∙ ap (λ xs. item.line ++ 10 ∷ xs) (sym (append_assoc item.payload (bytes_of behind.items) behind.rest))
+      ∙ sym (append_assoc item.line (10 ∷ (item.payload ++ bytes_of behind.items)) behind.rest)
+      ∙ ap (λ xs. xs ++ behind.rest) (sym (bytes_of-cons item behind.items));
   ends = behind.ends;
 }
 
@@ -84,11 +88,34 @@ line_and bytes line more order is spelled read behind = record {
 abbrev Fewer : ℕ → Type 0
 Fewer steps = (bytes : List ℕ) → length bytes ≤ steps → LinesOf bytes
 
+-- a line that is read, by whether its raw bytes are all there
+lines_by_payload : (steps : ℕ) → Fewer steps → (bytes line more : List ℕ) (order : Order) → asks line order → IsLine line → bytes ≡ line ++ 10 ∷ more → length more ≤ steps → (enough : Bool) → leb (payload_of order) (length more) ≡ enough → LinesOf bytes
+lines_by_payload steps behind bytes line more order read is_line spelled fewer false is =
+    none_of bytes (inl (inr (record {
+      line = line;
+      payload = more;
+      size = payload_of order;
+      is_line = is_line;
+      spelled = spelled;
+      wanted = record { order = order; asked = read; sized = refl };
+      missing = (let missing : length more < payload_of order = grind (arith, nat_tests) in missing);
+    })))
+lines_by_payload steps behind bytes line more order read is_line spelled fewer true is =
+    let size : ℕ = payload_of order in
+    let fits : size ≤ length more = grind (arith, nat_tests) in
+    let item : Item = record { line = line; payload = take size more } in
+    let sized : length (take size more) ≡ size = length-take-le size more fits in
+    let is_item : IsItem item = record { line = is_line; payload = record { order = order; asked = read; sized = sized } } in
+    line_and bytes item (drop size more) order is_item
+    (spelled ∙ ap (λ xs. line ++ 10 ∷ xs) (sym (take-append-drop size more)))
+    read
+    (behind (drop size more) (omega (arith, length-drop size more)))
+
 lines_by_order : (steps : ℕ) → Fewer steps → (bytes line more : List ℕ) → ((order : Order) × asks line order) ⊎ IsOff line → IsLine line → bytes ≡ line ++ 10 ∷ more → length more ≤ steps → LinesOf bytes
 lines_by_order steps behind bytes line more (inr off) is_line spelled fewer =
     none_of bytes (inr (inl (record { line = line; later = more; is_line = is_line; spelled = spelled; unread = off })))
 lines_by_order steps behind bytes line more (inl on) is_line spelled fewer =
-    line_and bytes line more on.0 is_line spelled on.1 (behind more fewer)
+    lines_by_payload steps behind bytes line more on.0 on.1 is_line spelled fewer (leb (payload_of on.0) (length more)) refl
 
 lines_by_size : (steps : ℕ) → Fewer steps → (bytes line more : List ℕ) (short : Bool) → leb (length line) line_limit ≡ short → bytes ≡ line ++ 10 ∷ more → has_feed line ≡ false → length more ≤ steps → LinesOf bytes
 lines_by_size steps behind bytes line more true is spelled clear fewer =

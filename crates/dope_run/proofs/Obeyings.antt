@@ -12,6 +12,8 @@ use Rattle.machine_model.proofs.Runs.{Run-append, Run-one, IsState-run}
 use Rattle.machine_model.proofs.Progress.{some_run}
 use Rattle.dope_run.specs.declared.status.Status.{Status}
 use Rattle.dope_run.specs.declared.status.Status.TheVariants.{Done, WriteFault}
+use Rattle.script_lines.specs.declared.order.Order.{Order}
+use Rattle.dope_run.specs.Script.{events_of_order}
 use Rattle.dope_run.specs.Text.{answer_text}
 use Rattle.dope_run.specs.Obeying.{Obeyed, Says}
 use Rattle.dope_run.proofs.Gaining.{text_of-append, Says-none, Says-after, IsReached-longer, Leaves-after}
@@ -70,3 +72,7 @@ obeyed_by_writing (Err e) event answer old new before after line step is wrote c
 -- the same events
 pub obeyed_same : (status : Status) (events others : List Event) (old new : State) (before after : Output) → events ≡ others → Obeyed status events old new before after → Obeyed status others old new before after
 obeyed_same status events others old new before after same obeyed = subst (λ es. Obeyed status es old new before after) same obeyed
+
+-- the same raw bytes
+pub obeyed_payload : (status : Status) (order : Order) (payload others : List ℕ) (old new : State) (before after : Output) → payload ≡ others → Obeyed status (events_of_order order payload) old new before after → Obeyed status (events_of_order order others) old new before after
+obeyed_payload status order payload others old new before after same obeyed = subst (λ xs. Obeyed status (events_of_order order xs) old new before after) same obeyed

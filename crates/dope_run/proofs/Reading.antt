@@ -16,12 +16,12 @@ pub AskFor-nil : AskFor [] []
 unfolding AskFor
 AskFor-nil = refl
 
-pub AskFor-cons : (item : Item) (items : List Item) (order : Order) (events : List Event) → asks item.line order → AskFor items events → AskFor (item ∷ items) (events_of_order order ++ events)
+pub AskFor-cons : (item : Item) (items : List Item) (order : Order) (events : List Event) → asks item.line order → AskFor items events → AskFor (item ∷ items) (events_of_order order item.payload ++ events)
 unfolding AskFor
 AskFor-cons item items order events first rest = (order, events, first, rest, refl)
 
 -- what the first line asks for, and those behind it
-pub AskFor-parts : (item : Item) (items : List Item) (events : List Event) → AskFor (item ∷ items) events → (order : Order) × (later : List Event) × asks item.line order × AskFor items later × (events ≡ events_of_order order ++ later)
+pub AskFor-parts : (item : Item) (items : List Item) (events : List Event) → AskFor (item ∷ items) events → (order : Order) × (later : List Event) × asks item.line order × AskFor items later × (events ≡ events_of_order order item.payload ++ later)
 unfolding AskFor
 AskFor-parts item items events ask = ask
 
@@ -29,7 +29,7 @@ pub AskFor-append : (a b : List Item) (first second : List Event) → AskFor a f
 unfolding AskFor
 AskFor-append [] b first second p q = subst (λ es. AskFor b (es ++ second)) (sym p) q
 AskFor-append (item ∷ items) b first second p q =
-    (p.0, p.1 ++ second, p.2, AskFor-append items b p.1 second p.3 q, ap (λ es. es ++ second) p.4 ∙ append_assoc (events_of_order p.0) p.1 second)
+    (p.0, p.1 ++ second, p.2, AskFor-append items b p.1 second p.3 q, ap (λ es. es ++ second) p.4 ∙ append_assoc (events_of_order p.0 item.payload) p.1 second)
 
 -- some lines played, and then others
 pub Plays-append : (from : State) (a b : List Item) (first second : List Moment) → Plays from a first → Plays (state_after from first) b second → Plays from (a ++ b) (first ++ second)

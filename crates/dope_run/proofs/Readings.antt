@@ -8,9 +8,10 @@ use Rattle.std.proofs.lemmas.List.Folds.{list_any-append}
 use Rattle.machine_model.specs.Events.{Event}
 use Rattle.script_lines.specs.declared.order.Order.{Order}
 use Rattle.script_lines.specs.Lines.{asks, IsOff}
-use Rattle.dope_run.specs.Framing.{Item, IsItem, IsPartial, bytes_of, has_feed, line_limit, wants_of}
+use Rattle.dope_run.specs.Framing.{Item, IsItem, IsPartial, Wants, bytes_of, has_feed, line_limit}
 use Rattle.dope_run.specs.Script.{AskFor, BeginsOff}
 use Rattle.dope_run.proofs.Reading.{AskFor-parts}
+use Rattle.dope_run.proofs.Feedings.{one_size}
 
 -- a byte that is a line feed, and one that isn't
 feed_first : (x : ℕ) (xs : List ℕ) → x ≡ 10 → has_feed (x ∷ xs) ≡ false → ⊥
@@ -43,7 +44,7 @@ or_true false = refl
 pub has_feed-line : (line later : List ℕ) → has_feed (line ++ 10 ∷ later) ≡ true
 has_feed-line line later = list_any-append (λ byte. byte == 10) line (10 ∷ later) ∙ or_true (has_feed line)
 
-feed_within : (n : ℕ) (line later : List ℕ) → length line ≤ n → has_feed (take (n + 1) (line ++ 10 ∷ later)) ≡ true
+pub feed_within : (n : ℕ) (line later : List ℕ) → length line ≤ n → has_feed (take (n + 1) (line ++ 10 ∷ later)) ≡ true
 feed_within n line later short =
     let k : ℕ = n - length line in
     let is : n + 1 ≡ length line + suc k = omega arith in
@@ -68,8 +69,9 @@ no_item item more rest read is reads (inl (inl line)) spelled =
     both (has_feed rest) (ap has_feed spelled ∙ has_feed-line item.line (item.payload ++ more)) line.no_feed
 no_item item more rest read is reads (inl (inr short)) spelled =
     let same = one_first_feed short.line item.line short.payload (item.payload ++ more) short.is_line.no_feed is.line.no_feed (sym short.spelled ∙ spelled) in
-    let wants : wants_of short.line ≡ wants_of item.line = ap wants_of same.0 in
-    omega (arith, short.missing, wants, is.payload, ap length same.1, length-append item.payload more)
+    let wanted : Wants item.line short.size = subst (λ xs. Wants xs short.size) same.0 short.wanted in
+    let sizes : short.size ≡ length item.payload = one_size item.line short.size (length item.payload) wanted is.payload in
+    omega (arith, short.missing, sizes, ap length same.1, length-append item.payload more)
 no_item item more rest read is reads (inr (inl unread)) spelled =
     let same = one_first_feed unread.line item.line unread.later (item.payload ++ more) unread.is_line.no_feed is.line.no_feed (sym unread.spelled ∙ spelled) in
     subst IsOff same.0 unread.unread read reads
@@ -99,7 +101,7 @@ one_reading (i ∷ a) (j ∷ b) r q ea eb wa wb sa sb na nb e =
     let is = All-head IsItem i a wa in
     let isn = All-head IsItem j b wb in
     let lines = one_first_feed i.line j.line (i.payload ++ (bytes_of a ++ r)) (j.payload ++ (bytes_of b ++ q)) is.line.no_feed isn.line.no_feed (sym (bytes_of-item i a r) ∙ e ∙ bytes_of-item j b q) in
-    let payloads = same_front i.payload j.payload (bytes_of a ++ r) (bytes_of b ++ q) (is.payload ∙ ap wants_of lines.0 ∙ sym isn.payload) lines.1 in
+    let payloads = same_front i.payload j.payload (bytes_of a ++ r) (bytes_of b ++ q) (one_size j.line (length i.payload) (length j.payload) (subst (λ xs. Wants xs (length i.payload)) lines.0 is.payload) isn.payload) lines.1 in
     let behind = one_reading a b r q left.1 right.1 (All-tail IsItem i a wa) (All-tail IsItem j b wb) left.3 right.3 na nb payloads.1 in
     let items : i ≡ j = ap (λ l. record { line = l; payload = i.payload }) lines.0 ∙ ap (λ p. record { line = j.line; payload = p }) payloads.0 in
     (ap (λ h. h ∷ a) items ∙ ap (λ t. j ∷ t) behind.0, behind.1)

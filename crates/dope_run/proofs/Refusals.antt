@@ -1,23 +1,24 @@
 -- A script inside the grammar isn't refused: what a refusal says of its bytes contradicts how they are read.
-use Rattle.std.proofs.Common.{◌≡◌, ◌≢◌, ◌⊎◌, ℕ, ◌+◌, ◌≤◌, ◌<◌, List, [], ◌∷◌, ◌++◌, length, Option, Some, None, refl, sym, ap, subst, ◌∙◌, inl, inr, arith, append_assoc, append-nil, length-append}
+use Rattle.std.proofs.Common.{◌≡◌, ◌⊎◌, ℕ, ◌+◌, ◌≤◌, List, [], ◌∷◌, ◌++◌, length, take, Option, Some, None, refl, sym, ap, subst, ◌∙◌, inl, inr, arith, append_assoc, append-nil, length-append}
 use Rattle.std.specs.List.{All}
 use Rattle.kind_core.specs.declared.shapes.Shape.{Shape}
 use Rattle.machine_model.specs.State.{State}
 use Rattle.machine_model.specs.Events.{Event}
 use Rattle.machine_model.specs.Run.{events_of}
 use Rattle.dope_run.specs.declared.status.Status.TheVariants.{BadScript, TooMuch}
-use Rattle.script_lines.specs.Lines.{asks, IsOff}
-use Rattle.dope_run.specs.Framing.{Item, IsItem, IsLine, IsPartial, IsUnended, IsShortOfPayload, bytes_of, has_feed, line_limit, script_limit, read_limit, wants_of}
+use Rattle.script_lines.specs.Lines.{asks}
+use Rattle.script_lines.specs.Sayings.{frame_limit}
+use Rattle.dope_run.specs.Framing.{Item, IsItem, IsLine, IsPartial, IsUnended, IsShortOfPayload, Wants, bytes_of, has_feed, line_limit, script_limit, read_limit}
 use Rattle.dope_run.specs.Script.{AskFor, BeginsOff, EndsOff}
 use Rattle.dope_run.specs.Transcript.{Ended}
 use Rattle.dope_run.specs.ScriptLaws.{IsReading, IsScript, BytesHaveAReading, ReadingsAreOne, PartsAreNotOff, ScriptsAreNotRefused, LittleIsReadAhead}
 use Rattle.script_lines.specs.declared.order.Order.{Order}
 use Rattle.dope_run.specs.Playing.{bare_item}
 use Rattle.dope_run.proofs.Reading.{AskFor-cons, AskFor-parts, AskFor-nil}
-use Rattle.dope_run.proofs.Feedings.{IsLine-nil, off_more}
+use Rattle.dope_run.proofs.Feedings.{IsLine-nil, Wants-small, one_size, off_more}
 use Rattle.std.proofs.lemmas.List.Elements.{All-nil, All-cons, All-head, All-tail}
 use Rattle.dope_run.proofs.Framings.{lines_of}
-use Rattle.dope_run.proofs.Readings.{one_reading, both, has_feed-line}
+use Rattle.dope_run.proofs.Readings.{one_reading, both, one_first_feed, has_feed-line, feed_within}
 
 pub bytes_have_a_reading : BytesHaveAReading
 bytes_have_a_reading bytes =
@@ -28,24 +29,30 @@ pub readings_are_one : ReadingsAreOne
 readings_are_one bytes first second rest other p q =
     one_reading first second rest other p.events q.events p.whole q.whole p.script q.script p.ends q.ends (sym p.spelled ∙ q.spelled)
 
--- no line is followed by raw bytes so far
-no_short : (bytes : List ℕ) → IsShortOfPayload bytes → ⊥
-unfolding wants_of
-no_short bytes short = (let missing : length short.payload < 0 = short.missing in omega arith)
+-- bytes that a line feed stands in aren't off the grammar where the line before it is read
+short_not_off : (bytes : List ℕ) → IsShortOfPayload bytes → BeginsOff bytes → ⊥
+short_not_off bytes short (inl unread) =
+    let same = one_first_feed short.line unread.line short.payload unread.later short.is_line.no_feed unread.is_line.no_feed (sym short.spelled ∙ unread.spelled) in
+    unread.unread short.wanted.order (subst (λ xs. asks xs short.wanted.order) same.0 short.wanted.asked)
+short_not_off bytes short (inr long) =
+    both (has_feed (take (line_limit + 1) bytes)) (ap (λ xs. has_feed (take (line_limit + 1) xs)) short.spelled ∙ feed_within line_limit short.line short.payload short.is_line.short) long.no_feed
 
 pub parts_are_not_off : PartsAreNotOff
 parts_are_not_off bytes (inl line) (inl unread) = both (has_feed bytes) (ap has_feed unread.spelled ∙ has_feed-line unread.line unread.later) line.no_feed
 parts_are_not_off bytes (inl line) (inr long) = (let short : length bytes ≤ line_limit = line.short in let more : line_limit + 1 ≤ length bytes = long.long in omega arith)
-parts_are_not_off bytes (inr short) off = no_short bytes short
+parts_are_not_off bytes (inr short) off = short_not_off bytes short off
 
--- a line not yet whole is short
-short_part : (bytes : List ℕ) → IsPartial bytes → length bytes ≤ line_limit
-short_part bytes (inl line) = line.short
-short_part bytes (inr short) = absurd (no_short bytes short)
+-- an item not yet whole is short
+short_part : (bytes : List ℕ) → IsPartial bytes → length bytes ≤ line_limit + frame_limit
+short_part bytes (inl line) = (let short : length bytes ≤ line_limit = line.short in omega arith)
+short_part bytes (inr short) =
+    let line : length short.line ≤ line_limit = short.is_line.short in
+    let size : short.size ≤ frame_limit = Wants-small short.line short.size short.wanted in
+    omega (arith, short.missing, ap length short.spelled, length-append short.line (10 ∷ short.payload))
 
 pub little_is_read_ahead : LittleIsReadAhead
 little_is_read_ahead from taken moments read =
-    let part : length read.cut.rest ≤ line_limit = short_part read.cut.rest read.cut.partial in
+    let part : length read.cut.rest ≤ line_limit + frame_limit = short_part read.cut.rest read.cut.partial in
     let last : length read.last ≤ read_limit = read.one_read in (
       read.cut.rest ++ read.last,
       read.parts ∙ ap (λ xs. xs ++ read.last) read.cut.spelled ∙ append_assoc (bytes_of read.lines) read.cut.rest read.last,
@@ -81,7 +88,19 @@ record WholeReading (bytes : List ℕ) : Type 0 where
   rest : List ℕ
   reading : IsReading bytes items rest
   partial : IsPartial rest
-  last : rest ≢ [] → ¬ IsOff rest
+  last : ¬ EndsOff rest
+
+-- nothing is no last line, and no item is short of its raw bytes in it
+nothing_ends : EndsOff [] → ⊥
+nothing_ends (inl unread) = unread.some refl
+nothing_ends (inr (inl without)) = without.some refl
+nothing_ends (inr (inr short)) = both (has_feed []) (ap has_feed short.spelled ∙ has_feed-line short.line short.payload) refl
+
+-- a last line that is read, and wants no raw bytes
+last_ends : (line : List ℕ) (order : Order) → IsLine line → asks line order → Wants line 0 → EndsOff line → ⊥
+last_ends line order is read wants (inl unread) = unread.unread order read
+last_ends line order is read wants (inr (inl without)) = (let none : without.size ≡ 0 = one_size line without.size 0 without.wanted wants in omega (arith, without.missing, none))
+last_ends line order is read wants (inr (inr short)) = both (has_feed line) (ap has_feed short.spelled ∙ has_feed-line short.line short.payload) is.no_feed
 
 whole_reading : (bytes : List ℕ) → (script : IsScript bytes) → WholeReading bytes
 whole_reading bytes script = whole_reading_by bytes script script.whole
@@ -92,7 +111,7 @@ whole_reading bytes script = whole_reading_by bytes script script.whole
       rest = [];
       reading = record { events = script.events; whole = script.lines; script = script.script; spelled = all ∙ sym (append-nil (bytes_of script.items)); ends = inl (inl (IsLine-nil [] refl)) };
       partial = inl (IsLine-nil [] refl);
-      last = λ some. absurd (some refl);
+      last = nothing_ends;
     }
     whole_reading_by bytes script (inr unended) =
         let item = bare_item unended.last in
@@ -104,7 +123,7 @@ whole_reading bytes script = whole_reading_by bytes script script.whole
           rest = unended.last;
           reading = record { events = before.events; whole = (all_parts unended.front (item ∷ []) lines).0; script = before.script; spelled = unended.spelled; ends = inl (inl is_line) };
           partial = inl is_line;
-          last = λ some off. off before.order before.last;
+          last = last_ends unended.last before.order is_line before.last unended.no_payload;
         }
 
 -- ---- what a refusal would say
@@ -124,20 +143,25 @@ no_off bytes taken left items events rest script all whole read spelled off =
     let same = readings_are_one bytes items found.items (rest ++ left) found.rest other found.reading in
     parts_are_not_off (rest ++ left) (subst IsPartial (sym same.1) found.partial) more
 
+-- what stands there is no whole item
+ends_partial : (rest : List ℕ) → EndsOff rest → IsPartial rest
+ends_partial rest (inl unread) = inl unread.is_line
+ends_partial rest (inr (inl without)) = inl without.is_line
+ends_partial rest (inr (inr short)) = inr short
+
 -- a last line off the grammar
 no_off_at_end : (bytes : List ℕ) (items : List Item) (events : List Event) (rest : List ℕ) → IsScript bytes → All IsItem items → AskFor items events → bytes ≡ bytes_of items ++ rest → EndsOff rest → ⊥
-no_off_at_end bytes items events rest script whole read spelled (inr short) = no_short rest short
-no_off_at_end bytes items events rest script whole read spelled (inl unread) =
+no_off_at_end bytes items events rest script whole read spelled off =
     let found = whole_reading bytes script in
     let other : IsReading bytes items rest = record {
       events = events;
       whole = whole;
       script = read;
       spelled = spelled;
-      ends = inl (inl unread.is_line);
+      ends = inl (ends_partial rest off);
     } in
     let same = readings_are_one bytes items found.items rest found.rest other found.reading in
-    found.last (subst (λ xs. xs ≢ []) same.1 unread.some) (subst IsOff same.1 unread.unread)
+    found.last (subst EndsOff same.1 off)
 
 not_bad : (shape : Shape) (bytes : List ℕ) (line : ℕ) (left sink_old sink_new : Option (List ℕ)) (state : State) → IsScript bytes → Ended shape (BadScript line) (Some bytes) left sink_old sink_new state → ⊥
 not_bad shape bytes line None sink_old sink_new state script run = run.consumes

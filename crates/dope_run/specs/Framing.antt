@@ -1,14 +1,20 @@
 -- A script's bytes as items: whole lines, each with its line feed and the raw bytes that belong to it.
 use Rattle.std.specs.Prelude.{◌≡◌, ◌≢◌, ◌⊎◌, ◌==◌, ℕ, ◌<◌, ◌≤◌, Bool, false, List, [], ◌∷◌, ◌++◌, length}
 use Rattle.std.specs.List.{flat_map, list_any}
+use Rattle.script_lines.specs.declared.order.Order.{Order}
+use Rattle.script_lines.specs.Lines.{asks}
+use Rattle.script_lines.specs.Payloads.{payload_of}
 
 pub record Item : Type 0 where
   pub line : List ℕ
   pub payload : List ℕ
 
--- how many raw bytes follow a line; so far none do
-unfoldable pub wants_of : List ℕ → ℕ
-wants_of line = 0
+-- So many raw bytes follow the line: as many as come with the command that it asks for, and behind any other line none.
+-- No line off the grammar has any.
+pub record Wants (line : List ℕ) (size : ℕ) : Type 0 where
+  pub order : Order
+  pub asked : asks line order
+  pub sized : size ≡ payload_of order
 
 -- a line has at most 520 bytes, a script at most 67,108,864
 abbrev pub line_limit : ℕ
@@ -31,7 +37,7 @@ pub record IsLine (line : List ℕ) : Type 0 where
 
 pub record IsItem (item : Item) : Type 0 where
   pub line : IsLine item.line
-  pub payload : length item.payload ≡ wants_of item.line
+  pub payload : Wants item.line (length item.payload)
 
 abbrev pub bytes_of_item : Item → List ℕ
 bytes_of_item item = item.line ++ 10 ∷ item.payload
@@ -43,9 +49,11 @@ bytes_of items = flat_map bytes_of_item items
 pub record IsShortOfPayload (bytes : List ℕ) : Type 0 where
   pub line : List ℕ
   pub payload : List ℕ
+  pub size : ℕ
   pub is_line : IsLine line
   pub spelled : bytes ≡ line ++ 10 ∷ payload
-  pub missing : length payload < wants_of line
+  pub wanted : Wants line size
+  pub missing : length payload < size
 
 abbrev pub IsPartial : List ℕ → Type 0
 IsPartial bytes = IsLine bytes ⊎ IsShortOfPayload bytes
@@ -56,7 +64,7 @@ pub record IsUnended (bytes : List ℕ) (items : List Item) : Type 0 where
   pub last : List ℕ
   pub listed : items ≡ front ++ record { line = last; payload = [] } ∷ []
   pub some : last ≢ []
-  pub no_payload : wants_of last ≡ 0
+  pub no_payload : Wants last 0
   pub spelled : bytes ≡ bytes_of front ++ last
 
 -- all the bytes are these items

@@ -33,11 +33,12 @@ dump_line shape = codes "dump " ++ decimal shape.width ++ codes " " ++ decimal s
 abbrev pub dump_text : Shape → List ℕ → List ℕ
 dump_text shape bytes = dump_line shape ++ bytes ++ codes "\n"
 
--- the text of an event's answer, where the desk has this shape; no line of a script asks for a Hello
+-- the text of an event's answer, where the desk has this shape; an input's has none, and no line of a script asks for a
+-- Hello
 unfoldable pub answer_text : Event → Answer → Shape → List ℕ
 answer_text (Connect client) (Replied reply) shape = reply_line client reply
 answer_text (Bye client) (Replied reply) shape = reply_line client reply
-answer_text (Ask client command) (Replied reply) shape = reply_line client reply
+answer_text (Ask client command payload) (Replied reply) shape = reply_line client reply
 answer_text (Misread client place) (Replied reply) shape = reply_line client reply
 answer_text Tick (Drawn drew) shape = drew_line drew
 answer_text CountDirty (Counted count) shape = dirty_line count

@@ -18,13 +18,13 @@ pub record Plays (from : State) (items : List Item) (moments : List Moment) : Ty
   pub script : AskFor items (events_of moments)
   pub run : Run from moments
 
--- The items are all whole lines of the bytes, up to one that is off the grammar.
+-- The items are all whole lines of the bytes, each with its raw bytes, up to one that is off the grammar.
 pub record AreLinesOf (bytes : List ℕ) (items : List Item) : Type 0 where
   pub rest : List ℕ
   pub spelled : bytes ≡ bytes_of items ++ rest
   pub ends : IsPartial rest ⊎ BeginsOff rest
 
--- The bytes taken are the items, and then a line not yet whole.
+-- The bytes taken are the items, and then one that is not yet whole.
 pub record AreCutShort (bytes : List ℕ) (items : List Item) : Type 0 where
   pub rest : List ℕ
   pub spelled : bytes ≡ bytes_of items ++ rest
@@ -46,8 +46,8 @@ Covers (BadScript line) taken source items = AreFollowedByOff taken items source
 Covers TooMuch taken source items = AreCutShort (take script_limit taken) items × (length taken ≡ script_limit + 1)
 Covers _ taken source items = ⊥
 
--- The order of work: when the last read began, what had been taken before it was whole lines, each read, and a part
--- of a line. The moments of these lines are the first of the run, so many.
+-- The order of work: when the last read began, what had been taken before it was whole lines with their raw bytes, each
+-- read, and a part of one more. The moments of these lines are the first of the run, so many.
 pub record LastRead (from : State) (taken : List ℕ) (moments : List Moment) : Type 0 where
   pub before : List ℕ
   pub last : List ℕ

@@ -3,7 +3,7 @@
 ghost use Rattle.dope_run.specs.ScriptLaws.{BytesHaveAReading, ReadingsAreOne, PartsAreNotOff, ScriptsAreNotRefused, LittleIsReadAhead};
 ghost use Rattle.dope_run.specs.WordLaws.{OneShape};
 
-/// Any bytes are whole lines that are read, and then no whole line or one off the grammar.
+/// Any bytes are whole lines with their raw bytes, each read, and then no whole one or one off the grammar.
 pub fn bytes_have_a_reading()
     ensures { BytesHaveAReading }
 {}
@@ -13,7 +13,7 @@ pub fn readings_are_one()
     ensures { ReadingsAreOne }
 {}
 
-/// What is no whole line is not off the grammar, so a reading ends in one way.
+/// What is no whole line with its raw bytes is not off the grammar, so a reading ends in one way.
 pub fn parts_are_not_off()
     ensures { PartsAreNotOff }
 {}
@@ -24,7 +24,7 @@ pub fn scripts_are_not_refused()
 {}
 
 /// What a run has taken behind the lines that were carried out and written before its last read is part of a line
-/// and the bytes of that read: at most 520 bytes and 4,096.
+/// with its raw bytes, and the bytes of that read: at most 520 bytes, 65,536 and 4,096.
 pub fn little_is_read_ahead()
     ensures { LittleIsReadAhead }
 {}

@@ -9,6 +9,7 @@ mod obeying;
 mod outcome;
 mod player;
 mod playing;
+mod raw_bytes;
 mod running;
 mod stage;
 mod status;

@@ -1,10 +1,11 @@
 //! Carrying out what a line asks for.
-ghost use Rattle.std.specs.Prelude.{◌≡◌, ℕ, ◌≤◌, ◌∷◌, [], true, replicate, MatchResult, OnOk, OnErr};
+ghost use Rattle.std.specs.Prelude.{◌≡◌, ℕ, ◌≤◌, ◌∷◌, [], length, replicate, MatchResult, OnOk, OnErr};
 ghost use Rattle.outside_io.specs.Count.{Rose};
-ghost use Rattle.outside_io.specs.Outbox.{Puts, PutsFront, output};
+ghost use Rattle.outside_io.specs.Outbox.{Output, Puts, PutsFront, output};
 ghost use Rattle.machine_model.specs.State.{IsState, seen_at};
-ghost use Rattle.desk_model.specs.Commands.{is_built};
-ghost use Rattle.machine_model.specs.Events.Event.{Connect, Bye, Ask, Misread, Tick, CountDirty, LookAt, Dump};
+ghost use Rattle.desk_model.specs.Commands.{IsPayload};
+ghost use Rattle.machine_model.specs.Events.Event.{Connect, Bye, Ask, Misread, Feed, Tick, CountDirty, LookAt, Dump};
+ghost use Rattle.script_lines.specs.Payloads.{payload_of};
 ghost use Rattle.script_lines.specs.Suits.{Suits};
 ghost use Rattle.dope_run.specs.declared.status.Status.TheVariants.{Done, WriteFault};
 ghost use Rattle.dope_run.specs.Obeying.{Obeyed};
@@ -12,7 +13,7 @@ ghost use Rattle.dope_run.specs.Script.{events_of_order};
 
 use crate::text::{dirty_line, drew_line, dump_line, pixel_line, reply_line};
 use arrayvec::ArrayString;
-use cmd_text::{Command, Refusal, Reply};
+use cmd_text::{Command, Input, Refusal, Reply};
 use outside_io::{Failed, Outbox, Sink};
 use script_lines::Order;
 use server_core::Server;
@@ -74,26 +75,27 @@ fn bye<K: Sink>(
     say(&reply_line(client, &reply), out, sink)
 }
 
-/// A client gives a command, and is told its reply.
+/// A client gives a command with the bytes that come with it, and is told its reply.
 fn ask<K: Sink>(
     client: u32,
     command: &Command,
+    payload: &[u8],
     server: &mut Server,
     out: &mut Outbox,
     sink: &mut K,
 ) -> Result<(), Failed>
     requires low { 1 ≤ client }
     requires high { client ≤ 16 }
-    requires built { is_built command.now ≡ true }
+    requires payload { IsPayload command.now payload.now }
     ensures told { MatchResult result
-        (λ _. Obeyed Done (Ask client command.now ∷ []) server.old.state server.new.state (output (K.held sink.old) out.old) (output (K.held sink.new) out.new))
-        (λ _. Obeyed WriteFault (Ask client command.now ∷ []) server.old.state server.new.state (output (K.held sink.old) out.old) (output (K.held sink.new) out.new)) }
+        (λ _. Obeyed Done (Ask client command.now payload.now ∷ []) server.old.state server.new.state (output (K.held sink.old) out.old) (output (K.held sink.new) out.new))
+        (λ _. Obeyed WriteFault (Ask client command.now payload.now ∷ []) server.old.state server.new.state (output (K.held sink.old) out.old) (output (K.held sink.new) out.new)) }
     ensures valid { IsState server.new.state }
     ensures later { K.faults sink.old ≤ K.faults sink.new }
     ensures cause { OnErr result (Rose (K.faults sink.old) (K.faults sink.new)) }
     ensures steady { OnOk result (K.faults sink.new ≡ K.faults sink.old) }
 {
-    let reply = server.command(client, command, &[]);
+    let reply = server.command(client, command, payload);
     say(&reply_line(client, &reply), out, sink)
 }
 
@@ -114,6 +116,14 @@ fn misread<K: Sink>(
 {
     let reply = Reply::Refused(Refusal::Syntax { place });
     say(&reply_line(client, &reply), out, sink)
+}
+
+/// The pointer or the keyboard does something; nothing is told.
+fn feed(input: Input, server: &mut Server)
+    ensures told { (out : Output) → Obeyed Done (Feed input ∷ []) server.old.state server.new.state out out }
+    ensures valid { IsState server.new.state }
+{
+    server.feed(input);
 }
 
 /// One tick and its line.
@@ -220,15 +230,17 @@ fn dump<K: Sink>(server: &Server, out: &mut Outbox, sink: &mut K) -> Result<(), 
 /// Carries out an order, with its lines of output.
 pub fn obey<K: Sink>(
     order: &Order,
+    payload: &[u8],
     server: &mut Server,
     out: &mut Outbox,
     sink: &mut K,
 ) -> Result<(), Failed>
     requires valid { IsState server.old.state }
     requires suits { Suits order.now }
+    requires payload { length payload.now ≡ payload_of order.now }
     ensures told { MatchResult result
-        (λ _. Obeyed Done (events_of_order order.now) server.old.state server.new.state (output (K.held sink.old) out.old) (output (K.held sink.new) out.new))
-        (λ _. Obeyed WriteFault (events_of_order order.now) server.old.state server.new.state (output (K.held sink.old) out.old) (output (K.held sink.new) out.new)) }
+        (λ _. Obeyed Done (events_of_order order.now payload.now) server.old.state server.new.state (output (K.held sink.old) out.old) (output (K.held sink.new) out.new))
+        (λ _. Obeyed WriteFault (events_of_order order.now payload.now) server.old.state server.new.state (output (K.held sink.old) out.old) (output (K.held sink.new) out.new)) }
     ensures still_valid { IsState server.new.state }
     ensures later { K.faults sink.old ≤ K.faults sink.new }
     ensures cause { OnErr result (Rose (K.faults sink.old) (K.faults sink.new)) }
@@ -238,8 +250,12 @@ pub fn obey<K: Sink>(
         Order::Nothing => Ok(()),
         Order::Connect { client } => connect(*client, server, out, sink),
         Order::Bye { client } => bye(*client, server, out, sink),
-        Order::Ask { client, command } => ask(*client, command, server, out, sink),
+        Order::Ask { client, command } => ask(*client, command, payload, server, out, sink),
         Order::Misread { client, place } => misread(*client, *place, server, out, sink),
+        Order::Feed { input } => {
+            feed(*input, server);
+            Ok(())
+        }
         Order::Ticks { count } => ticks(*count, server, out, sink),
         Order::Dirty => dirty(server, out, sink),
         Order::Pixel { x, y } => pixel(*x, *y, server, out, sink),

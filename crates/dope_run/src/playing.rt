@@ -31,7 +31,7 @@ fn read_front<S: Source>(source: &mut S, buffer: &mut [u8], room: usize) -> Resu
     source.read(&mut buffer[..room])
 }
 
-/// Carries out a last line that has no line feed, where there is one, and writes its output.
+/// The script is at its end: carries out a last line that has no line feed, where there is one, and writes its output.
 fn finish<K: Sink>(player: &mut Player, out: &mut Outbox, sink: &mut K) -> Status
     requires player { IsPlayer player.old }
     requires room { player.old.lines + 1 < 2 ^ 64 }
@@ -41,10 +41,10 @@ fn finish<K: Sink>(player: &mut Player, out: &mut Outbox, sink: &mut K) -> Statu
     ensures cause { result ≡ Status.WriteFault → Rose (K.faults sink.old) (K.faults sink.new) }
     ensures steady { result ≢ Status.WriteFault → K.faults sink.new ≡ K.faults sink.old }
 {
-    if player.line.is_empty() {
+    if player.is_between() {
         return Status::Done;
     }
-    match player.end_line(out, sink) {
+    match player.end_script(out, sink) {
         Ok(()) => match out.flush(sink) {
             Ok(()) => Status::Done,
             Err(_) => Status::WriteFault,

@@ -5,6 +5,7 @@ ghost use Rattle.dope_run.specs.Playing.{IsPlayer, IsFresh};
 
 use crate::player::Player;
 use crate::playing::PIECE;
+use crate::raw_bytes::RawBytes;
 use arrayvec::ArrayVec;
 use outside_io::Outbox;
 use server_core::{NoMemory, Server, Shape};
@@ -34,10 +35,16 @@ fn open_player(alloc: Global, shape: Shape) -> Result<Player, NoMemory>
     ensures fresh { IfOk result (IsFresh shape) }
     ensures shape { IfOk result (λ player. player.server.state.desk.shape ≡ shape) }
 {
+    let payload = match RawBytes::new(alloc) {
+        Ok(payload) => payload,
+        Err(NoMemory) => return Err(NoMemory),
+    };
     match Server::new(alloc, shape) {
         Ok(server) => Ok(Player {
             server,
             line: ArrayVec::new(),
+            wants: 0,
+            payload,
             lines: 0,
         }),
         Err(NoMemory) => Err(NoMemory),

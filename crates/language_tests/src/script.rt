@@ -1,18 +1,30 @@
 //! What a line of a script asks for.
 use crate::commands::command;
 use crate::tables::{part, rows};
-use script_lines::{Order, line_order};
+use script_lines::{Input, Order, line_order, payload_of};
 use std::process::Abort;
 use std::test::Fail;
 
-/// An order as a word and two numbers, which are 0 where it has none.
+/// An input as a word and two numbers, which are 0 where it has none.
+fn fed(input: &Input) -> (&'static str, u32, u32) {
+    match input {
+        Input::Motion { x, y } => ("motion", *x, *y),
+        Input::Press => ("press", 0, 0),
+        Input::Release => ("release", 0, 0),
+        Input::Key { byte } => ("key", u32::from(*byte), 0),
+    }
+}
+
+/// An order as a word and two numbers, which are 0 where it has none. A command's second number is that of the raw
+/// bytes that follow its line.
 fn told(order: &Order) -> (&'static str, u32, u32) {
     match order {
         Order::Nothing => ("nothing", 0, 0),
         Order::Connect { client } => ("connect", *client, 0),
         Order::Bye { client } => ("bye", *client, 0),
-        Order::Ask { client, command: _ } => ("ask", *client, 0),
+        Order::Ask { client, command: _ } => ("ask", *client, payload_of(order)),
         Order::Misread { client, place } => ("misread", *client, *place),
+        Order::Feed { input } => fed(input),
         Order::Ticks { count } => ("ticks", *count, 0),
         Order::Dirty => ("dirty", 0, 0),
         Order::Pixel { x, y } => ("pixel", *x, *y),
@@ -71,12 +83,36 @@ pixel 1 |none|0|0|
 pixel 10000 1|none|0|0|
 pixel 1 10000|none|0|0|
 pixel 1  1|none|0|0|
-1 v.admit(4)|none|0|0|
-1 v.frame(10)|none|0|0|
+1 v.mode(10, 10)|ask|1|0|
+1 v.admit(4)|ask|1|0|
+1 v.leave()|ask|1|0|
+1 poll()|ask|1|0|
+1 v.frame(0)|ask|1|0|
+2 v . frame ( 0000010 )|ask|2|10|
+1 v.frame(65536)|ask|1|65536|
+1 v.frame(65537)|none|0|0|
+1 v.frame(70000)|none|0|0|
 1 v.frame(|none|0|0|
-1 poll()|none|0|0|
+1 v.frame(-1)|none|0|0|
+1 v.frame(10) x|none|0|0|
+1 v.frames(|misread|1|7|
+motion 0 9999|motion|0|9999|
+motion 0000001 2|motion|1|2|
+motion 1 10000|none|0|0|
+motion 1|none|0|0|
+motion  1 1|none|0|0|
+motion -1 1|none|0|0|
+press|press|0|0|
+press |none|0|0|
+release|release|0|0|
+releas|none|0|0|
+key 0|key|0|0|
+key 255|key|255|0|
+key 0000065|key|65|0|
+key 256|none|0|0|
+key|none|0|0|
+key a|none|0|0|
 hello|none|0|0|
-motion 1 1|none|0|0|
 "#;
 
 fn ask_for(rt: &impl Abort, table: &str) -> Result<(), Fail> {

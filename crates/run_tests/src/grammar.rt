@@ -113,18 +113,22 @@ w.open()/ | bad script at line 1 | -
 1 w.open(/1 v.frame(/ | bad script at line 2 | 1 error 2 7/
 bye 17/ | bad script at line 1 | -
 connect 1/bye 1 / | bad script at line 2 | 1 ok/
-motion 1 1/ | bad script at line 1 | -
-press/ | bad script at line 1 | -
-release/ | bad script at line 1 | -
-key 65/ | bad script at line 1 | -
+motion 1/ | bad script at line 1 | -
+motion 1 10000/ | bad script at line 1 | -
+press / | bad script at line 1 | -
+release 1/ | bad script at line 1 | -
+key 256/ | bad script at line 1 | -
+key/ | bad script at line 1 | -
 connect 1/1/ | bad script at line 2 | 1 ok/
 connect 1/01 w = new Window()/ | bad script at line 2 | 1 ok/
 connect 1/17 w = new Window()/ | bad script at line 2 | 1 ok/
-connect 1/1 poll()/ | bad script at line 2 | 1 ok/
-connect 1/1 v = new VScreen()/1 v.admit(4)/ | bad script at line 3 | 1 ok/1 ok/
-connect 1/1 v = new VScreen()/1 v.leave()/ | bad script at line 3 | 1 ok/1 ok/
-connect 1/1 v = new VScreen()/1 v.mode(8, 8)/ | bad script at line 3 | 1 ok/1 ok/
-connect 1/1 v = new VScreen()/1 v.frame(4)/AAAA | bad script at line 3 | 1 ok/1 ok/
+connect 1/1 v.frame(4/AAAA | bad script at line 2 | 1 ok/
+connect 1/1 v.frame(-1)/AAAA | bad script at line 2 | 1 ok/
+connect 1/1 v.frame(65537)/ | bad script at line 2 | 1 ok/
+connect 1/1 v.frame(4)/AAA | bad script at line 2 | 1 ok/
+connect 1/1 v.frame(4) | bad script at line 2 | 1 ok/
+connect 1/1 v.frame(4)/AAAAtick 0/ | bad script at line 3 | 1 ok/1 error 4/
+connect 1/1 v.frame(4)//dirtick 0/ | bad script at line 3 | 1 ok/1 error 4/
 connect 1/1 v.frame(70000)/ | bad script at line 2 | 1 ok/
 dirty/# a comment//tick 0/ | bad script at line 4 | dirty 0/";
 
@@ -141,6 +145,7 @@ fn a_last_line_needs_no_line_feed(rt: HostRuntime) -> Result<(), Fail> {
         "dirty | done | dirty 0/
 dirty/tick 2 | done | dirty 0/drew 0+0 left 0/drew 0+0 left 0/
 dirty/tick 0 | bad script at line 2 | dirty 0/
+connect 1/1 v.frame(0) | done | 1 ok/1 error 4/
 dirt | bad script at line 1 | -",
     )
 }

@@ -7,7 +7,6 @@ use Rattle.script_lines.specs.declared.order.Order.TheVariants.{Nothing, Connect
 use Rattle.desk_model.specs.Commands.{payload_size}
 use Rattle.script_lines.specs.Suits.{Suits}
 use Rattle.script_lines.specs.Sayings.{said_by, frame_limit}
-use Rattle.script_lines.specs.Numbers.{IsClient}
 use Rattle.script_lines.specs.Payloads.{payload_of}
 use Rattle.script_lines.specs.Lines.{asks, ticks, IsOff}
 use Rattle.script_lines.specs.Reading.{plain_order, said_at}

@@ -8,7 +8,7 @@ ghost use Rattle.scene_model.specs.Shapes.{IsShape};
 
 use arrayvec::ArrayString;
 use cmd_text::{Reply, parse, print_reply};
-use script_lines::is_built;
+use script_lines::payload_size;
 use server_core::{Drew, Server, Shape};
 use std::alloc::Global;
 use std::process::Abort;
@@ -38,10 +38,10 @@ fn command(server: &mut Server, client: u32, line: &str) -> Result<Reply, Fail>
     }
     match parse(line.as_bytes()) {
         Ok(command) => {
-            if is_built(&command) {
+            if payload_size(&command) == 0 {
                 return Ok(server.command(client, &command, &[]));
             }
-            Err("the command isn't built".into())
+            Err("the command comes with raw bytes".into())
         }
         Err(_) => Err("the line is no command".into()),
     }

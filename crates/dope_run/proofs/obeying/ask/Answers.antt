@@ -7,4 +7,4 @@ use Rattle.dope_run.proofs.obeying.ask.Goals as goal
 pub returns-clause-told : goal.returns-clause-told
 unfolding answer_text
 returns-clause-told g c =
-    obeyed_by_writing c.say.result (Ask c.args.client c.args.command.now) (Replied c.command-reply.result) _ _ _ _ _ c.command-reply.ensures.step c.reply_line.ensures c.say.ensures.ok c.say.ensures.err
+    obeyed_by_writing c.say.result (Ask c.args.client c.args.command.now c.args.payload.now) (Replied c.command-reply.result) _ _ _ _ _ c.command-reply.ensures.step c.reply_line.ensures c.say.ensures.ok c.say.ensures.err

@@ -1,5 +1,5 @@
 use Rattle.dope_run.proofs.Feedings.{fed_cut_at_feed}
-use Rattle.dope_run.proofs.player.Player.front.Goals as goal
+use Rattle.dope_run.proofs.player.Player.line_front.Goals as goal
 
 pub returns-in-Err-clause-told : goal.returns-in-Err-clause-told
 returns-in-Err-clause-told g c =
