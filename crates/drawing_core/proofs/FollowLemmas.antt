@@ -10,7 +10,7 @@ use Rattle.damage_rules.proofs.Views.{reach_of_views}
 use Rattle.drawing_core.specs.Following.{Precedes, sight_of}
 use Rattle.drawing_core.specs.Marking.{Marked, is_given}
 
-Marked-same : (test test' : ℤ → ℤ → Bool) (old new : Dirt) → ((x y : ℤ) → test x y ≡ test' x y) → Marked test old new → Marked test' old new
+pub Marked-same : (test test' : ℤ → ℤ → Bool) (old new : Dirt) → ((x y : ℤ) → test x y ≡ test' x y) → Marked test old new → Marked test' old new
 Marked-same test test' old new same marked = record {
   pixels = λ x y hx hy. marked.pixels x y hx hy ∙ ap (λ b. is_dirty old x y || b) (same (pos x) (pos y));
   width = marked.width;

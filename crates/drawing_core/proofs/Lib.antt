@@ -2,3 +2,4 @@ mod MarkLemmas
 mod DrawLemmas
 mod FollowLemmas
 mod BandingLemmas
+mod TouchedLemmas

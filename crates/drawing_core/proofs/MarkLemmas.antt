@@ -58,7 +58,7 @@ pub below_most : (n : ℕ) → n < 2048 → n < most_numbers
 unfolding most_numbers
 below_most n h = h
 
-most_numbers-is : most_numbers ≡ 2048
+pub most_numbers-is : most_numbers ≡ 2048
 unfolding most_numbers
 most_numbers-is = refl
 

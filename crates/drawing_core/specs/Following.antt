@@ -2,6 +2,7 @@
 -- it is, and then it reaches only widgets whose looks differ.
 use Rattle.std.specs.Prelude.{◌≡◌, ℕ, nat_eq, List}
 use Rattle.std.specs.List.{list_any}
+use Rattle.desk_model.specs.DeskFacts.{AreOpenOnce}
 use Rattle.machine_model.specs.Damage.{in_reach}
 use Rattle.scene_core.specs.declared.view.View.{View}
 use Rattle.scene_core.specs.View.{IsView, scene_of}
@@ -27,5 +28,5 @@ pub record Precedes (before : Sight) (view : View) (shot : Seen) (looks : List �
 -- numbers of the widgets whose looks differ.
 abbrev pub MarksLooks : Seen → List ℕ → Dirt → Dirt → Type 0
 MarksLooks shot looks old new =
-    (before : Sight) (view : View) → IsView view → IsShotIn (sight_of view) view.width view.height shot → Precedes before view shot looks
+    (before : Sight) (view : View) → IsView view → AreOpenOnce (scene_of view).windows → IsShotIn (sight_of view) view.width view.height shot → Precedes before view shot looks
     → Marked (in_reach (scene_in before view.width view.height) (scene_of view)) old new

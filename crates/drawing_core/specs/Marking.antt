@@ -1,5 +1,5 @@
 -- What a change does to the dirt: it makes dirty what its reach has, and nothing clean.
-use Rattle.std.specs.Prelude.{◌≡◌, ℕ, ℤ, pos, Bool, ◌||◌, List}
+use Rattle.std.specs.Prelude.{◌≡◌, ℕ, ℤ, pos, Bool, ◌&&◌, ◌||◌, nat_lt, List}
 use Rattle.std.specs.List.{list_any, range_with_len}
 use Rattle.shot_core.specs.Shot.{Seen, most_numbers}
 use Rattle.damage_rules.specs.Numbering.{in_areas}
@@ -23,3 +23,7 @@ is_given_by count before after looks x y = list_any (in_areas before after looks
 -- The reach between two shots: what all numbers give, where `looks` has the numbers of the looks that differ.
 abbrev pub is_given : Seen → Seen → List ℕ → ℤ → ℤ → Bool
 is_given before after looks x y = is_given_by most_numbers before after looks x y
+
+-- What the touched numbers give, in a change that leaves the shot as it is: the shown areas of the touched widgets.
+abbrev pub is_given_touched : Seen → List ℕ → List ℕ → ℤ → ℤ → Bool
+is_given_touched shot looks numbers x y = list_any (λ key. nat_lt key most_numbers && in_areas shot shot looks x y key) numbers

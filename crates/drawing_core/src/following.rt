@@ -7,7 +7,7 @@ ghost use Rattle.damage_rules.specs.Views.{Sight, IsShotIn, scene_in};
 ghost use Rattle.drawing_core.specs.Following.{MarksLooks, Precedes, sight_of};
 ghost use Rattle.drawing_core.specs.Marking.{Marked};
 
-use crate::marking::mark;
+use crate::marking::{mark, mark_touched};
 use redraw_core::Queue;
 use scene_core::{View, shot};
 use shot_core::{Shot, Touched};
@@ -44,5 +44,5 @@ pub fn follow_looks(shown: &Shot, touched: &Touched, queue: &mut Queue)
     requires { IsDirt queue.old }
     ensures { MarksLooks shown.now touched.now.looks.items queue.old queue.new }
 {
-    mark(shown, shown, touched, queue);
+    mark_touched(shown, touched, queue);
 }

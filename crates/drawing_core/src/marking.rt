@@ -1,11 +1,11 @@
 //! What a change does to the dirt.
 ghost use Rattle.std.specs.List.{list_any};
-ghost use Rattle.std.specs.Prelude.{◌<◌};
+ghost use Rattle.std.specs.Prelude.{◌<◌, ◌∷◌, []};
 ghost use Rattle.geom_core.specs.Rect.{in_rect};
 ghost use Rattle.shot_core.specs.Shot.{most_numbers};
 ghost use Rattle.damage_rules.specs.Raised.{AreRaised};
 ghost use Rattle.redraw_core.specs.Dirt.{IsDirt};
-ghost use Rattle.drawing_core.specs.Marking.{Marked, in_number, is_given};
+ghost use Rattle.drawing_core.specs.Marking.{Marked, in_number, is_given, is_given_touched};
 
 use damage_rules::{Raised, reach_with};
 use geom_core::Rect;
@@ -25,6 +25,29 @@ pub fn mark(before: &Shot, after: &Shot, touched: &Touched, queue: &mut Queue)
     let raised = Raised::between(before, after);
     for key in 0..NUMBERS {
         mark_number(before, after, touched, &raised, key, queue);
+    }
+}
+
+/// Makes dirty each pixel of the queue's screen that the touched numbers give in a change that leaves the shot as it is, and
+/// no other: the shown areas of the touched widgets. It takes no memory. See docs/MACHINE.md, "The reach of a change".
+pub fn mark_touched(shown: &Shot, touched: &Touched, queue: &mut Queue)
+    requires { IsDirt queue.old }
+    ensures { Marked (is_given_touched shown.now touched.now.looks.items touched.now.looks.items) queue.old queue.new }
+{
+    let raised = Raised::between(shown, shown);
+    for key in touched.looks.as_slice() {
+        mark_known(shown, touched, &raised, *key, queue);
+    }
+}
+
+/// Makes dirty what this number, where it is one of the 2,048, gives in a change that leaves the shot as it is.
+fn mark_known(shown: &Shot, touched: &Touched, raised: &Raised, key: u32, queue: &mut Queue)
+    requires raised { AreRaised shown.now shown.now raised.now.windows.items }
+    requires valid { IsDirt queue.old }
+    ensures { Marked (is_given_touched shown.now touched.now.looks.items (key ∷ [])) queue.old queue.new }
+{
+    if key < NUMBERS {
+        mark_number(shown, shown, touched, raised, key, queue);
     }
 }
 

@@ -2,6 +2,7 @@
 -- that of what the desk shows.
 use Rattle.std.specs.Prelude.{◌≡◌}
 use Rattle.desk_model.specs.Desk.{Desk}
+use Rattle.desk_model.specs.DeskFacts.{IsDesk}
 use Rattle.desk_model.specs.Seen.{scene_of}
 use Rattle.machine_model.specs.Damage.{in_reach}
 use Rattle.redraw_core.specs.Dirt.{Dirt}
@@ -16,9 +17,11 @@ use Rattle.server_core.specs.Serving.{ShowsDesk}
 abbrev pub MarkedReach : Desk → Desk → Dirt → Dirt → Type 0
 MarkedReach before after old new = Marked (in_reach (scene_of before) (scene_of after)) old new
 
--- The shot is of what the desk showed before the call, which kept the desk's shape and said of itself what calls say.
+-- The shot is of what the desk showed before the call, which kept the desk's shape and what holds of it, and said of itself
+-- what calls say.
 pub record Calls (before after : DeskView) (shot : Seen) : Type 0 where
   pub shape : after.desk.shape ≡ before.desk.shape
+  pub valid : IsDesk after.desk
   pub shows : ShowsDesk before shot
   pub numbered : KeepsNumbers before.widgets.entries after.widgets.entries
   pub changed : TellsChange before after

@@ -9,6 +9,7 @@ follows : (c : goal.After-follow_call) → Follows c.self.inside.desk c.bye-repl
 follows c =
     c.follow_call.ensures c.self.inside.desk (record {
       shape = shape_of_step c.self.inside.desk.desk c.bye-reply.new.self.desk (λ short. step_bye c.self.inside.desk.desk c.args.client) c.bye-reply.result (λ short. shape-bye c.self.inside.desk.desk c.args.client) c.bye-reply.ensures.step;
+      valid = c.bye-reply.ensures.valid;
       shows = c.self.invariant.1;
       numbered = c.bye-reply.ensures.numbered;
       changed = c.bye-reply.ensures.changed;

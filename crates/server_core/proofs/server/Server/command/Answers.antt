@@ -14,6 +14,7 @@ follows : (c : goal.After-follow_call) → Follows c.self.inside.desk c.step-rep
 follows c =
     c.follow_call.ensures c.self.inside.desk (record {
       shape = shape_of_step c.self.inside.desk.desk c.step-reply.new.self.desk (λ short. step c.self.inside.desk.desk c.args.client c.args.command.now c.args.payload.now short) c.step-reply.result (shape-command c.self.inside.desk.desk c.args.client c.args.command.now c.args.payload.now) c.step-reply.ensures.step;
+      valid = c.step-reply.ensures.valid;
       shows = c.self.invariant.1;
       numbered = c.step-reply.ensures.numbered;
       changed = c.step-reply.ensures.changed;

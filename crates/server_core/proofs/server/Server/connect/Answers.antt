@@ -10,6 +10,7 @@ follows : (c : goal.After-follow_call) → Follows c.self.inside.desk c.connect-
 follows c =
     c.follow_call.ensures c.self.inside.desk (record {
       shape = shape_of_step c.self.inside.desk.desk c.connect-reply.new.self.desk (λ short. step_connect c.self.inside.desk.desk c.args.client short) c.connect-reply.result (shape-connect c.self.inside.desk.desk c.args.client) c.connect-reply.ensures.step;
+      valid = c.connect-reply.ensures.valid;
       shows = c.self.invariant.1;
       numbered = c.connect-reply.ensures.numbered;
       changed = c.connect-reply.ensures.changed;

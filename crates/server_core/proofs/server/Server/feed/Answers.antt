@@ -11,6 +11,7 @@ follows : (c : goal.After-follow_call) → Follows c.self.inside.desk c.feed.new
 follows c =
     c.follow_call.ensures c.self.inside.desk (record {
       shape = ap (λ (d : Desk). d.shape) c.feed.ensures.step ∙ shape-feed c.self.inside.desk.desk c.args.input;
+      valid = c.feed.ensures.valid;
       shows = c.self.invariant.1;
       numbered = c.feed.ensures.numbered;
       changed = c.feed.ensures.changed;

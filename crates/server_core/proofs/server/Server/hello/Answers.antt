@@ -9,6 +9,7 @@ follows : (c : goal.After-follow_call) → Follows c.self.inside.desk c.hello-re
 follows c =
     c.follow_call.ensures c.self.inside.desk (record {
       shape = shape_of_step c.self.inside.desk.desk c.hello-reply.new.self.desk (λ short. step_hello c.self.inside.desk.desk short) c.hello-reply.result (shape-hello c.self.inside.desk.desk) c.hello-reply.ensures.step;
+      valid = c.hello-reply.ensures.valid;
       shows = c.self.invariant.1;
       numbered = c.hello-reply.ensures.numbered;
       changed = c.hello-reply.ensures.changed;
