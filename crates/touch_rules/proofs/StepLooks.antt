@@ -1,6 +1,6 @@
 -- What is kept before a command and told after it is what it touched.
-use Rattle.std.proofs.Common.{◌≡◌, ℕ, Bool, true, false, cond, ◌&&◌, ◌||◌, not, nat_eq, List, Option, Some, None, refl, sym, ap, ◌∙◌}
-use Rattle.std.proofs.lemmas.Bool.{true≢false, eqb-true, eq-eqb, and_parts, and_from}
+use Rattle.std.proofs.Common.{◌≡◌, ◌-◌, ℕ, get_or, Bool, true, false, cond, ◌&&◌, ◌||◌, not, nat_eq, List, Option, Some, None, refl, sym, ap, ◌∙◌}
+use Rattle.std.proofs.lemmas.Bool.{eqb-true, eq-eqb, and_parts, and_from}
 use Rattle.std.proofs.lemmas.Slice.Eq.{bytes_eq-Decides}
 use Rattle.std.specs.List.{list_any}
 use Rattle.std.specs.Option.{option_map_or, option_and_then}
@@ -12,18 +12,19 @@ use Rattle.cmd_words.specs.declared.replies.Reply.TheVariants.{Refused}
 use Rattle.widget_model.specs.Rows.{Row}
 use Rattle.widget_model.specs.Keys.{key_of}
 use Rattle.widget_model.specs.Named.{row_named}
-use Rattle.widget_model.specs.Nodes.{id_named, is_number_of}
+use Rattle.widget_model.specs.Nodes.{id_named, first_number, is_number_of}
 use Rattle.widget_model.specs.Widgets.{Widgets, nodes, rows_of, row_at}
 use Rattle.widget_model.specs.Forest.{IsWidgets}
 use Rattle.widget_model.proofs.Naming.{row_named-found, row_named-parts, id_named-row}
 use Rattle.tree_core.proofs.Listed.{row_named-row}
+use Rattle.scene_model.specs.Scene.{Scene}
 use Rattle.desk_model.specs.Desk.{Desk}
 use Rattle.desk_model.specs.Commands.{step}
 use Rattle.look_data.specs.Kept.{is_shown_at, kept_look, differ}
 use Rattle.touch_rules.specs.Touched.{Numbered, is_shown, TellsLooks}
 use Rattle.touch_rules.specs.Films.{looks_alike, shown_film, shown_anew, unless_refused}
-use Rattle.touch_rules.specs.Laws.{IsNumbered, IsOwnEvent, kept_of, is_number, ShowsNumberAnew, is_seen_anew}
-use Rattle.touch_rules.specs.Telling.{number_anew, where_shown, is_told, AreKept, StepsTellLooks}
+use Rattle.touch_rules.specs.Laws.{IsNumbered, IsOwnEvent, kept_of, is_number, is_seen_anew}
+use Rattle.touch_rules.specs.Telling.{number_anew, where_shown, is_told, StepsTellLooks}
 use Rattle.touch_rules.proofs.ShownAnew.{commands_show_anew}
 use Rattle.touch_rules.proofs.OwnLooks.{own_looks_are_enough}
 
@@ -111,3 +112,22 @@ steps_tell_looks desk client command payload short before after looks touched va
         told id
         ∙ ap (λ (b : Bool). b || (is_number (unless_refused reply (where_shown before.widgets before.windows (number_anew before.widgets client command payload))) id && is_shown after id)) (kept-same (is_number_of client id) _ (kept_of before id) (kept_of after id) (kept.each id))
         ∙ ap (λ (b : Bool). (is_number_of client id && differ (kept_of before id) (kept_of after id)) || b) (shown-then (is_shown_at before.widgets before.windows) reply (number_anew before.widgets client command payload) id (is_shown after id))
+
+-- What a step's calls say of it, each in the words of its clause: the looks kept before it and the VScreen that was asked
+-- for then, by the scene `s`, and what was told after it, by the scene `s'`.
+pub told-step : (desk : Desk) (client : ℕ) (command : Command) (payload : List ℕ) (short : Bool) (before after : Numbered) (reply : Reply) (next : Desk) (looks : List (Option Seen)) (anew : Option ℕ) (s s' : Scene) (touched : List ℕ)
+    → IsNumbered before → IsNumbered after → IsOwnEvent client before after
+    → (reply, next) ≡ step desk client command payload short → before.scene.rows ≡ desk.rows → after.scene.rows ≡ next.rows → s ≡ before.scene → s' ≡ after.scene
+    → ((id : ℕ) → is_number_of client id ≡ true → get_or looks (id - first_number client) None ≡ kept_look before.widgets before.windows s id)
+    → anew ≡ where_shown before.widgets before.windows (number_anew before.widgets client command payload)
+    → ((id : ℕ) → list_any (nat_eq id) touched ≡ is_told client looks (unless_refused reply anew) after.widgets after.windows s' id)
+    → TellsLooks before after touched
+told-step desk client command payload short before after reply next looks anew s s' touched valid valid' event stepped rows rows' scene scene' kept asked told =
+    steps_tell_looks desk client command payload short before after looks touched valid valid' event
+    (record { each = λ id own. kept id own ∙ ap (λ (t : Scene). kept_look before.widgets before.windows t id) scene })
+    rows
+    (rows' ∙ ap (λ (done : Reply × Desk). done.1.rows) stepped)
+    (λ id. told id
+    ∙ ap (λ (t : Scene). is_told client looks (unless_refused reply anew) after.widgets after.windows t id) scene'
+    ∙ ap (λ (o : Option ℕ). is_told client looks (unless_refused reply o) after.widgets after.windows after.scene id) asked
+    ∙ ap (λ (done : Reply × Desk). is_told client looks (unless_refused done.0 (where_shown before.widgets before.windows (number_anew before.widgets client command payload))) after.widgets after.windows after.scene id) stepped)

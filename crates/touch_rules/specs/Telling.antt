@@ -5,7 +5,6 @@ use Rattle.std.specs.List.{list_any}
 use Rattle.std.specs.Option.{option_and_then}
 use Rattle.look_core.specs.Seen.{Seen}
 use Rattle.cmd_words.specs.declared.commands.Command.{Command}
-use Rattle.cmd_words.specs.declared.replies.Reply.{Reply}
 use Rattle.widget_model.specs.Nodes.{id_named, first_number, is_number_of}
 use Rattle.widget_model.specs.Widgets.{Widgets, nodes, rows_of}
 use Rattle.scene_model.specs.Scene.{Scene}
