@@ -3,3 +3,5 @@ pub mod OthersLooks
 pub mod ShownFilms
 pub mod ShownAnew
 pub mod OwnLooks
+pub mod StepLooks
+pub mod AnewLemmas

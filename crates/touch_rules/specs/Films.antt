@@ -1,7 +1,7 @@
 -- Which VScreen a command shows anew. What is seen of a film is its size and its shown bytes; its other pictures and
 -- where it stands in its period are not.
 use Rattle.std.specs.Prelude.{ℕ, ◌≡◌, ◌*◌, Bool, true, false, not, ◌&&◌, nat_eq, nat_lt, length, replicate, List, Option, Some, None, unsigned_abs, if◌then◌else◌}
-use Rattle.std.specs.Option.{option_map_or}
+use Rattle.std.specs.Option.{option_map_or, option_and_then}
 use Rattle.std.specs.Str.{bytes_eq}
 use Rattle.vscreen_core.specs.FilmState.{FilmState, pixels_in}
 use Rattle.cmd_words.specs.declared.commands.Command.{Command}
@@ -39,15 +39,24 @@ abbrev pub frame_differs : List ℕ → FilmState → Bool
 frame_differs frame film =
     not (nat_lt 0 film.period) && (nat_eq (length frame) (pixels_in film) && not (bytes_eq film.shown frame))
 
--- The name of the VScreen that the client's command shows anew where it is done; none where it shows none anew, as
--- every other command does.
+-- the VScreen that a command names, of those commands that may show one anew
+abbrev pub screen_named : Command → Option (List ℕ)
+screen_named (Mode name w h) = Some name
+screen_named (Leave name) = Some name
+screen_named (SendFrame name size) = Some name
+screen_named _ = None
+
+-- whether the film looks different after the command, where it is done
+abbrev pub film_differs : Command → List ℕ → Option FilmState → Bool
+film_differs (Mode name w h) payload film = blank_differs (unsigned_abs w) (unsigned_abs h) film
+film_differs (Leave name) payload film = option_map_or newest_differs film false
+film_differs (SendFrame name size) payload film = option_map_or (frame_differs payload) film false
+film_differs _ payload film = false
+
+-- The name of the VScreen that the client's command shows anew where it is done; none where it shows none anew.
 abbrev pub shown_anew : List Row → ℕ → Command → List ℕ → Option (List ℕ)
-shown_anew rows client (Mode name w h) payload =
-    if blank_differs (unsigned_abs w) (unsigned_abs h) (film_named rows client name) then Some name else None
-shown_anew rows client (Leave name) payload = if option_map_or newest_differs (film_named rows client name) false then Some name else None
-shown_anew rows client (SendFrame name size) payload =
-    if option_map_or (frame_differs payload) (film_named rows client name) false then Some name else None
-shown_anew rows client _ payload = None
+shown_anew rows client command payload =
+    option_and_then (λ name. if film_differs command payload (film_named rows client name) then Some name else None) (screen_named command)
 
 -- Of the widgets that are there before and after, exactly the client's one of that name shows a film that looks different.
 pub record ShowsAnew (client : ℕ) (anew : Option (List ℕ)) (old new : List Row) : Type 0 where

@@ -2,6 +2,7 @@
 
 ghost use Rattle.touch_rules.specs.Films.{CommandsShowAnew};
 ghost use Rattle.touch_rules.specs.Laws.{OwnLooksAreEnough, SomeLooksAreEnough, LeavingTouchesNothing, StayingTouchesNothing};
+ghost use Rattle.touch_rules.specs.Telling.{StepsTellLooks};
 
 /// A command that is done changes what one VScreen shows at most, the one that the definitions name; a refused one
 /// changes what none shows.
@@ -29,4 +30,9 @@ pub fn leaving_touches_nothing()
 /// Where the rows, the open windows and the pointer stay, no look is touched.
 pub fn staying_touches_nothing()
     ensures { StayingTouchesNothing }
+{}
+
+/// What is kept before a client's command, and told after it, is exactly what it touched.
+pub fn steps_tell_looks()
+    ensures { StepsTellLooks }
 {}
