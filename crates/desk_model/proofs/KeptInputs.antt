@@ -108,7 +108,7 @@ still-after desk effects sound taken =
     still-moved desk (with_number Caret effects.caret (with_text effects.text (with_number Value effects.value desk.rows))) effects.moved careted taken.values.moved
 
 -- WINDOWS. One that is open goes to the top.
-window-there : (rows : List Row) (client : ℕ) (name : List ℕ) (windows : List (ℕ × List ℕ)) → list_all (names_window rows) windows ≡ true → list_any (is_window client name) windows ≡ true → names_window rows (client, name) ≡ true
+pub window-there : (rows : List Row) (client : ℕ) (name : List ℕ) (windows : List (ℕ × List ℕ)) → list_all (names_window rows) windows ≡ true → list_any (is_window client name) windows ≡ true → names_window rows (client, name) ≡ true
 window-there rows client name [] all any = absurd (true≢false (sym any))
 window-there rows client name (window ∷ windows) all any = by (window-there rows client name windows) (is_window client name window) refl any (and_parts (names_window rows window) (list_all (names_window rows) windows) all)
   where

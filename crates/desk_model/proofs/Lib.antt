@@ -38,3 +38,4 @@ pub mod Texts
 pub mod Limits
 pub mod TakenInputs
 pub mod KeptInputs
+pub mod PointedInputs
