@@ -1,18 +1,14 @@
 -- Where a shot stays as it is, what all numbers give is what the touched ones give.
-use Rattle.std.proofs.Common.{◌≡◌, ℕ, ◌+◌, ◌<◌, ℤ, Bool, true, false, cond, ◌&&◌, ◌||◌, not, nat_eq, nat_lt, List, [], ◌∷◌, ◌++◌, length, take, get_or, slice_get, Option, Some, None, refl, sym, ap, ◌∙◌, subst, inl, inr, arith}
+use Rattle.std.proofs.Common.{◌≡◌, ℕ, ◌+◌, ◌<◌, ℤ, Bool, true, false, cond, ◌&&◌, ◌||◌, not, nat_eq, nat_lt, List, [], ◌∷◌, ◌++◌, slice_get, Option, Some, None, refl, sym, ap, ◌∙◌, subst, inl, inr, arith}
 use Rattle.std.specs.List.{list_any, range_with_len}
-use Rattle.std.proofs.lemmas.Bool.{true≢false, false≢true, and_parts, and_from, eq-eqb, eqb-true, lt-ltb, ltb-true}
+use Rattle.std.proofs.lemmas.Bool.{true≢false, and_parts, and_from, eqb-true, lt-ltb, ltb-true}
 use Rattle.std.proofs.lemmas.List.FromFn.{get_or-range_with_len, length-range_with_len}
-use Rattle.std.proofs.lemmas.List.Folds.{list_any-append}
 use Rattle.std.proofs.lemmas.Option.{slice_get_cases}
 use Rattle.geom_core.specs.Rect.{in_rect}
 use Rattle.geom_core.specs.declared.rectangle.Rect.{Rect}
 use Rattle.look_core.specs.Same.{same_look}
 use Rattle.look_core.proofs.SameLemmas.{same_are_equal}
 use Rattle.tree_core.proofs.Listed.{any_at, any_place}
-use Rattle.widget_model.specs.Rows.{Row}
-use Rattle.widget_model.specs.Nodes.{id_named}
-use Rattle.widget_model.specs.Widgets.{key_at, nodes}
 use Rattle.desk_model.specs.DeskFacts.{AreOpenOnce}
 use Rattle.machine_model.proofs.Still.{still_unreached}
 use Rattle.shot_core.specs.Shot.{Seen, most_numbers, spot_at}

@@ -1,4 +1,4 @@
-use Rattle.std.proofs.Common.{◌≡◌, ◌+◌, ◌*◌, ◌<◌, length, take, ap, sym, ◌∙◌, arith}
+use Rattle.std.proofs.Common.{◌≡◌, ◌*◌, ◌<◌, length, take, ap, sym, ◌∙◌, arith}
 use Rattle.drawing_core.proofs.BandingLemmas.{BandsDrawn-none, BandsDrawn-then, bands-few}
 use Rattle.drawing_core.proofs.banding.draw_bands.Goals as goal
 

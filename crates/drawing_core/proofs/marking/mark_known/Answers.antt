@@ -1,5 +1,4 @@
 use Rattle.std.proofs.Common.{◌∷◌, [], ◌<◌, subst, arith}
-use Rattle.shot_core.specs.Shot.{most_numbers}
 use Rattle.drawing_core.specs.Marking.{in_number, is_given_touched}
 use Rattle.drawing_core.proofs.MarkLemmas.{Marked-nothing, below_most, most_numbers-is}
 use Rattle.drawing_core.proofs.FollowLemmas.{Marked-same}

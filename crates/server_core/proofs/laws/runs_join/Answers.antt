@@ -1,4 +1,4 @@
-use Rattle.machine_model.proofs.Runs.{Run-append, state_after-append}
+use Rattle.machine_model.proofs.RunParts.{Run-append, state_after-append}
 use Rattle.server_core.proofs.laws.runs_join.Goals as goal
 
 pub returns : goal.returns

@@ -3,7 +3,7 @@ use Rattle.std.specs.Bool.{OnTrue}
 use Rattle.desk_model.specs.Desk.{Desk}
 use Rattle.desk_model.specs.Commands.{step}
 use Rattle.desk_core.specs.Asking.{StaysAsItWas}
-use Rattle.machine_model.proofs.StepShapes.{shape-command}
+use Rattle.machine_model.proofs.Steps.{shape-step_command}
 use Rattle.server_core.proofs.Reaching.{shows_still, marked_still}
 use Rattle.server_core.specs.Calls.{Follows}
 use Rattle.server_core.proofs.Parts.{shape_of_step, step_of_parts}
@@ -13,7 +13,7 @@ use Rattle.server_core.proofs.server.Server.command.Goals as goal
 follows : (c : goal.After-follow_call) → Follows c.self.inside.desk c.step-reply.new.self c.self.inside.queue c.follow_call.new.queue c.follow_call.new.shown
 follows c =
     c.follow_call.ensures c.self.inside.desk (record {
-      shape = shape_of_step c.self.inside.desk.desk c.step-reply.new.self.desk (λ short. step c.self.inside.desk.desk c.args.client c.args.command.now c.args.payload.now short) c.step-reply.result (shape-command c.self.inside.desk.desk c.args.client c.args.command.now c.args.payload.now) c.step-reply.ensures.step;
+      shape = shape_of_step c.self.inside.desk.desk c.step-reply.new.self.desk (λ short. step c.self.inside.desk.desk c.args.client c.args.command.now c.args.payload.now short) c.step-reply.result (shape-step_command c.self.inside.desk.desk c.args.client c.args.command.now c.args.payload.now) c.step-reply.ensures.step;
       valid = c.step-reply.ensures.valid;
       shows = c.self.invariant.1;
       numbered = c.step-reply.ensures.numbered;
@@ -23,12 +23,12 @@ follows c =
 
 pub invariant_of-self-2 : goal.invariant_of-self-2
 invariant_of-self-2 c = (
-  (step_of_parts c.self.inside.desk.desk c.step-reply.new.self.desk (λ short. step c.self.inside.desk.desk c.args.client c.args.command.now c.args.payload.now short) c.step-reply.result (shape_of_step c.self.inside.desk.desk c.step-reply.new.self.desk (λ short. step c.self.inside.desk.desk c.args.client c.args.command.now c.args.payload.now short) c.step-reply.result (shape-command c.self.inside.desk.desk c.args.client c.args.command.now c.args.payload.now) c.step-reply.ensures.step) c.step-reply.ensures.valid c.self.invariant.0 c.step-reply.ensures.step (follows c).marked).1,
+  (step_of_parts c.self.inside.desk.desk c.step-reply.new.self.desk (λ short. step c.self.inside.desk.desk c.args.client c.args.command.now c.args.payload.now short) c.step-reply.result (shape_of_step c.self.inside.desk.desk c.step-reply.new.self.desk (λ short. step c.self.inside.desk.desk c.args.client c.args.command.now c.args.payload.now short) c.step-reply.result (shape-step_command c.self.inside.desk.desk c.args.client c.args.command.now c.args.payload.now) c.step-reply.ensures.step) c.step-reply.ensures.valid c.self.invariant.0 c.step-reply.ensures.step (follows c).marked).1,
   (follows c).shows,
 )
 
 pub returns-clause-step : goal.returns-clause-step
-returns-clause-step c = rw (← c.self.view_is) (step_of_parts c.self.inside.desk.desk c.step-reply.new.self.desk (λ short. step c.self.inside.desk.desk c.args.client c.args.command.now c.args.payload.now short) c.step-reply.result (shape_of_step c.self.inside.desk.desk c.step-reply.new.self.desk (λ short. step c.self.inside.desk.desk c.args.client c.args.command.now c.args.payload.now short) c.step-reply.result (shape-command c.self.inside.desk.desk c.args.client c.args.command.now c.args.payload.now) c.step-reply.ensures.step) c.step-reply.ensures.valid c.self.invariant.0 c.step-reply.ensures.step (follows c).marked).0
+returns-clause-step c = rw (← c.self.view_is) (step_of_parts c.self.inside.desk.desk c.step-reply.new.self.desk (λ short. step c.self.inside.desk.desk c.args.client c.args.command.now c.args.payload.now short) c.step-reply.result (shape_of_step c.self.inside.desk.desk c.step-reply.new.self.desk (λ short. step c.self.inside.desk.desk c.args.client c.args.command.now c.args.payload.now short) c.step-reply.result (shape-step_command c.self.inside.desk.desk c.args.client c.args.command.now c.args.payload.now) c.step-reply.ensures.step) c.step-reply.ensures.valid c.self.invariant.0 c.step-reply.ensures.step (follows c).marked).0
 
 pub returns-clause-valid : goal.returns-clause-valid
 returns-clause-valid c = (invariant_of-self-2 c).0.state

@@ -1,5 +1,5 @@
 use Rattle.desk_model.specs.Clients.{step_hello}
-use Rattle.machine_model.proofs.StepShapes.{shape-hello}
+use Rattle.machine_model.proofs.Steps.{shape-step_hello}
 use Rattle.server_core.specs.Calls.{Follows}
 use Rattle.server_core.proofs.Parts.{shape_of_step, step_of_parts}
 use Rattle.server_core.proofs.server.Server.hello.Goals as goal
@@ -8,7 +8,7 @@ use Rattle.server_core.proofs.server.Server.hello.Goals as goal
 follows : (c : goal.After-follow_call) → Follows c.self.inside.desk c.hello-reply.new.self c.self.inside.queue c.follow_call.new.queue c.follow_call.new.shown
 follows c =
     c.follow_call.ensures c.self.inside.desk (record {
-      shape = shape_of_step c.self.inside.desk.desk c.hello-reply.new.self.desk (λ short. step_hello c.self.inside.desk.desk short) c.hello-reply.result (shape-hello c.self.inside.desk.desk) c.hello-reply.ensures.step;
+      shape = shape_of_step c.self.inside.desk.desk c.hello-reply.new.self.desk (λ short. step_hello c.self.inside.desk.desk short) c.hello-reply.result (shape-step_hello c.self.inside.desk.desk) c.hello-reply.ensures.step;
       valid = c.hello-reply.ensures.valid;
       shows = c.self.invariant.1;
       numbered = c.hello-reply.ensures.numbered;
@@ -18,12 +18,12 @@ follows c =
 
 pub invariant_of-self : goal.invariant_of-self
 invariant_of-self c = (
-  (step_of_parts c.self.inside.desk.desk c.hello-reply.new.self.desk (λ short. step_hello c.self.inside.desk.desk short) c.hello-reply.result (shape_of_step c.self.inside.desk.desk c.hello-reply.new.self.desk (λ short. step_hello c.self.inside.desk.desk short) c.hello-reply.result (shape-hello c.self.inside.desk.desk) c.hello-reply.ensures.step) c.hello-reply.ensures.valid c.self.invariant.0 c.hello-reply.ensures.step (follows c).marked).1,
+  (step_of_parts c.self.inside.desk.desk c.hello-reply.new.self.desk (λ short. step_hello c.self.inside.desk.desk short) c.hello-reply.result (shape_of_step c.self.inside.desk.desk c.hello-reply.new.self.desk (λ short. step_hello c.self.inside.desk.desk short) c.hello-reply.result (shape-step_hello c.self.inside.desk.desk) c.hello-reply.ensures.step) c.hello-reply.ensures.valid c.self.invariant.0 c.hello-reply.ensures.step (follows c).marked).1,
   (follows c).shows,
 )
 
 pub returns-clause-step : goal.returns-clause-step
-returns-clause-step c = rw (← c.self.view_is) (step_of_parts c.self.inside.desk.desk c.hello-reply.new.self.desk (λ short. step_hello c.self.inside.desk.desk short) c.hello-reply.result (shape_of_step c.self.inside.desk.desk c.hello-reply.new.self.desk (λ short. step_hello c.self.inside.desk.desk short) c.hello-reply.result (shape-hello c.self.inside.desk.desk) c.hello-reply.ensures.step) c.hello-reply.ensures.valid c.self.invariant.0 c.hello-reply.ensures.step (follows c).marked).0
+returns-clause-step c = rw (← c.self.view_is) (step_of_parts c.self.inside.desk.desk c.hello-reply.new.self.desk (λ short. step_hello c.self.inside.desk.desk short) c.hello-reply.result (shape_of_step c.self.inside.desk.desk c.hello-reply.new.self.desk (λ short. step_hello c.self.inside.desk.desk short) c.hello-reply.result (shape-step_hello c.self.inside.desk.desk) c.hello-reply.ensures.step) c.hello-reply.ensures.valid c.self.invariant.0 c.hello-reply.ensures.step (follows c).marked).0
 
 pub returns-clause-valid : goal.returns-clause-valid
 returns-clause-valid c = (invariant_of-self c).0.state
