@@ -20,10 +20,16 @@ use Rattle.scene_core.specs.View.{scene_from}
 use Rattle.desk_model.specs.Seen as seen
 use Rattle.admit_core.specs.Roster.{RosterState}
 use Rattle.desk_model.specs.Desk.{Ring}
-use Rattle.touch_rules.specs.Films.{looks_alike, shown_film, ShowsAnew}
+use Rattle.cmd_words.specs.declared.commands.Command.{Command}
+use Rattle.cmd_words.specs.declared.replies.Reply.{Reply}
+use Rattle.desk_model.specs.Desk.{Desk}
+use Rattle.desk_model.specs.Commands.{step}
+use Rattle.touch_rules.specs.Films.{unless_refused}
+use Rattle.touch_rules.specs.Telling.{is_told, number_anew, where_shown}
+use Rattle.touch_rules.proofs.StepLooks.{steps_tell_looks}
 use Rattle.desk_model.specs.OwnPart.{LeavesOthers}
 use Rattle.touch_rules.specs.Touched.{TellsLooks}
-use Rattle.touch_rules.specs.Laws.{IsOwnEvent, ShowsNumberAnew, is_number, is_seen_anew, kept_of}
+use Rattle.touch_rules.specs.Laws.{IsOwnEvent, kept_of}
 use Rattle.std.specs.Option.{option_map_or, option_and_then}
 use Rattle.std.specs.Str.{bytes_eq}
 use Rattle.std.specs.Cmp.{nat_eq_equiv}
@@ -31,12 +37,11 @@ use Rattle.std.proofs.lemmas.Slice.Eq.{bytes_eq-Decides}
 use Rattle.widget_model.specs.Nodes.{id_named}
 use Rattle.widget_model.proofs.Naming.{id_named-row, row_named-found, row_named-parts}
 use Rattle.touch_rules.proofs.OthersLooks.{number-of-row}
-use Rattle.touch_rules.proofs.OwnLooks.{own_looks_are_enough, leaving_touches_nothing, staying_touches_nothing}
+use Rattle.touch_rules.proofs.OwnLooks.{leaving_touches_nothing, staying_touches_nothing}
 use Rattle.desk_commands.specs.Parts.{stage_of, desk_of, names_window}
 use Rattle.desk_layout.specs.Numbers.{KeepsNumbers}
 use Rattle.desk_core.specs.View.{DeskView}
 use Rattle.desk_core.specs.Touching.{numbered_of, TellsTouched}
-use Rattle.desk_core.proofs.Views.{view-scene}
 
 -- a call that leaves the others, from one whole desk to another
 pub record IsCall (client : ℕ) (old new : DeskView) : Type 0 where
@@ -56,62 +61,23 @@ event-call client old new call = record {
   pointer = call.others.pointer;
 }
 
-named-number : (widgets : Widgets) (rows : List Row) (id : ℕ) (row : Row) → IsWidgets widgets → rows ≡ rows_of widgets → row_at widgets.entries id ≡ Some row → row_named rows row.client row.name ≡ Some row
-named-number widgets rows id row valid same there = ap (λ (rs : List Row). row_named rs row.client row.name) same ∙ row_named-row widgets.entries id row valid.forest.own_numbers valid.forest.own_names there
-
--- the number of the VScreen that shows another film, where its key is known
-anew-number : (client : ℕ) (old new : DeskView) (named : Option (List ℕ)) → IsCall client old new → ShowsAnew client named old.desk.rows new.desk.rows → ShowsNumberAnew (option_and_then (id_named (nodes old.widgets.entries) client) named) (numbered_of old) (numbered_of new)
-anew-number client old new named call shows = record { each = each }
-  where
-    number : (id : ℕ) (a : Row) → row_at old.widgets.entries id ≡ Some a → (o : Option (List ℕ)) → (nat_eq client a.client && option_map_or (λ (one : List ℕ). bytes_eq one a.name) o false) ≡ is_number (option_and_then (id_named (nodes old.widgets.entries) client) o) id
-    number id a at_a None = and-none (nat_eq client a.client)
-      where
-        and-none : (b : Bool) → (b && false) ≡ false
-        and-none true = refl
-        and-none false = refl
-    number id a at_a (Some name) = by (nat_eq client a.client && bytes_eq name a.name) refl
-      where
-        own : id_named (nodes old.widgets.entries) a.client a.name ≡ Some id
-        own = id_named-row old.widgets.entries id a call.before.forest.own_names at_a
-
-        by : (b : Bool) → (nat_eq client a.client && bytes_eq name a.name) ≡ b → b ≡ is_number (id_named (nodes old.widgets.entries) client name) id
-        by true q =
-            let parts = and_parts (nat_eq client a.client) (bytes_eq name a.name) q in
-            let here : id_named (nodes old.widgets.entries) client name ≡ Some id =
-            ap₂ (id_named (nodes old.widgets.entries)) (eqb-true client a.client parts.0) ((bytes_eq-Decides name a.name).0 parts.1) ∙ own in
-            sym (ap (λ (o : Option ℕ). is_number o id) here ∙ nat_eq_equiv.refl id)
-        by false q = sym (other (id_named (nodes old.widgets.entries) client name) refl)
-          where
-            other : (o : Option ℕ) → id_named (nodes old.widgets.entries) client name ≡ o → is_number o id ≡ false
-            other None p = refl
-            other (Some other_id) p = same (nat_eq id other_id) refl
-              where
-                same : (b : Bool) → nat_eq id other_id ≡ b → b ≡ false
-                same false e = refl
-                same true e =
-                    let named_row : row_named (rows_of old.widgets) client name ≡ Some a =
-                    row_named-found old.widgets.entries client name other_id call.before.forest.own_numbers p ∙ ap (row_at old.widgets.entries) (sym (eqb-true id other_id e)) ∙ at_a in
-                    let parts = row_named-parts (rows_of old.widgets) client name a named_row in
-                    let both : (nat_eq client a.client && bytes_eq name a.name) ≡ true = and_from _ _ (eq-eqb client a.client (sym parts.0)) ((bytes_eq-Decides name a.name).1 (sym parts.1)) in
-                    absurd (true≢false (sym both ∙ q))
-
-    each : (id : ℕ) (a b : Row) → row_at old.widgets.entries id ≡ Some a → row_at new.widgets.entries id ≡ Some b → not (looks_alike (shown_film a) (shown_film b)) ≡ is_number (option_and_then (id_named (nodes old.widgets.entries) client) named) id
-    each id a b at_a at_b =
-        let keys : key_of b ≡ key_of a = sym (call.numbers.keys id (key_of a) (key_of b) (ap (option_map key_of) at_a) (ap (option_map key_of) at_b)) in
-        let found : row_named new.desk.rows a.client a.name ≡ Some b = sym (ap (λ (key : ℕ × List ℕ). row_named new.desk.rows key.0 key.1) keys) ∙ named-number new.widgets new.desk.rows id b call.after call.rows_after at_b in
-        shows.each a.client a.name a b (named-number old.widgets old.desk.rows id a call.before call.rows at_a) found ∙ number id a at_a named
-
--- a call in which one VScreen at most shows another film
-pub obeyed-touched : (client : ℕ) (old new : DeskView) (named : Option (List ℕ)) → IsCall client old new → ShowsAnew client named old.desk.rows new.desk.rows
-    → ((id : ℕ) → list_any (nat_eq id) new.touched ≡ ((is_number_of client id && differ (kept_of (numbered_of old) id) (kept_of (numbered_of new) id)) || is_seen_anew (option_and_then (id_named (nodes old.widgets.entries) client) named) (numbered_of old) (numbered_of new) id))
+-- a command, by what was kept and told
+pub stepped-touched : (client : ℕ) (old new : DeskView) (command : Command) (payload : List ℕ) (short : Bool) (looks : List (Option Seen)) (anew : Option ℕ) (reply : Reply) → IsCall client old new → (reply, new.desk) ≡ step old.desk client command payload short
+    → ((id : ℕ) → is_number_of client id ≡ true → get_or looks (id - first_number client) None ≡ kept_of (numbered_of old) id)
+    → anew ≡ where_shown old.widgets old.windows (number_anew old.widgets client command payload)
+    → ((id : ℕ) → list_any (nat_eq id) new.touched ≡ is_told client looks (unless_refused reply anew) new.widgets new.windows (seen.scene_of new.desk) id)
     → TellsTouched old new
-obeyed-touched client old new named call shows told =
-    own_looks_are_enough client (option_and_then (id_named (nodes old.widgets.entries) client) named) (numbered_of old) (numbered_of new) new.touched
+stepped-touched client old new command payload short looks anew reply call stepped keeps is told =
+    steps_tell_looks old.desk client command payload short (numbered_of old) (numbered_of new) looks new.touched
     (record { widgets = call.before; rows = call.rows })
     (record { widgets = call.after; rows = call.rows_after })
     (event-call client old new call)
-    (anew-number client old new named call shows)
-    told
+    (record { each = keeps })
+    refl
+    (ap (λ (done : Reply × Desk). done.1.rows) stepped)
+    (λ id.
+    told id
+    ∙ ap₂ (λ (r : Reply) (a : Option ℕ). is_told client looks (unless_refused r a) new.widgets new.windows (seen.scene_of new.desk) id) (ap (λ (done : Reply × Desk). done.0) stepped) is)
 
 -- a client that has left has no number
 row_at-left : (es : List (ℕ × Row)) (client id : ℕ) (row : Row) → row_at (filter (λ (e : ℕ × Row). not (nat_eq client e.1.client)) es) id ≡ Some row → nat_eq client row.client ≡ false
@@ -150,20 +116,3 @@ pub stayed-touched : (old new : DeskView) → new.widgets.entries ≡ old.widget
 stayed-touched old new entries scene none =
     let T : List ℕ → Type 0 = λ xs. TellsLooks (numbered_of old) (numbered_of new) xs in
     subst T (sym none) (staying_touches_nothing (numbered_of old) (numbered_of new) entries scene)
-
--- what was kept and told by the parts of a desk is kept and told of the desk
-told-same : (own : Bool) (a b after : Option Seen) → (own ≡ true → a ≡ b) → (own && differ a after) ≡ (own && differ b after)
-told-same true a b after same = ap (λ (o : Option Seen). differ o after) (same refl)
-told-same false a b after same = refl
-
-pub kept-told : (client : ℕ) (looks : List (Option Seen)) (shape : Shape) (roster roster' : RosterState) (rings : List Ring) (pointer pointer' : Pointer) (w w' : Widgets) (keys keys' : List ℕ) (touched : List ℕ)
-    → list_all (names_window (nodes w.entries)) keys ≡ true → list_all (names_window (nodes w'.entries)) keys' ≡ true
-    → ((id : ℕ) → is_number_of client id ≡ true → get_or looks (id - first_number client) None ≡ kept_look w keys (scene_from w keys pointer shape.width shape.height) id)
-    → ((id : ℕ) → list_any (nat_eq id) touched ≡ (is_number_of client id && differ (get_or looks (id - first_number client) None) (kept_look w' keys' (scene_from w' keys' pointer' shape.width shape.height) id)))
-    → (id : ℕ) → list_any (nat_eq id) touched ≡ (is_number_of client id && differ (kept_look w keys (seen.scene_of (desk_of (stage_of shape roster rings w pointer) w keys)) id) (kept_look w' keys' (seen.scene_of (desk_of (stage_of shape roster' rings w' pointer') w' keys')) id))
-kept-told client looks shape roster roster' rings pointer pointer' w w' keys keys' touched windows windows' keeps tells id =
-    let after = kept_look w' keys' (seen.scene_of (desk_of (stage_of shape roster' rings w' pointer') w' keys')) id in
-    tells id
-    ∙ ap (λ (s : Scene). is_number_of client id && differ (get_or looks (id - first_number client) None) (kept_look w' keys' s id)) (view-scene shape roster' rings pointer' w' keys' windows')
-    ∙ told-same (is_number_of client id) (get_or looks (id - first_number client) None) (kept_look w keys (seen.scene_of (desk_of (stage_of shape roster rings w pointer) w keys)) id) after
-    (λ own. keeps id own ∙ ap (λ (s : Scene). kept_look w keys s id) (view-scene shape roster rings pointer w keys windows))

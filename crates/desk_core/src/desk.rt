@@ -20,7 +20,7 @@ ghost use Rattle.desk_model.specs.Refusals.{is_memory};
 use crate::asking::answer_to;
 use crate::clients::Clients;
 use crate::polling::poll_reply;
-use crate::touching::{forget, keep_looks, tell_looks};
+use crate::touching::{forget, keep_looks, screen_anew, tell_looks};
 use admit_core::Roster;
 use arrayvec::ArrayVec;
 use bind_core::Ring;
@@ -211,6 +211,15 @@ impl Desk {
         }
         let moves = may_move(&self.tree, client, command);
         let before = keep_looks(&self.tree, &self.windows, &self.pointer, self.shape, client);
+        let anew = screen_anew(
+            &self.tree,
+            &self.windows,
+            &self.pointer,
+            self.shape,
+            client,
+            command,
+            payload,
+        );
         let answer = obey(
             self.alloc,
             &mut self.tree,
@@ -224,6 +233,8 @@ impl Desk {
         let_go(&self.tree, &self.windows, &mut self.pointer);
         tell_looks(
             &before,
+            anew,
+            &answer.reply,
             &self.tree,
             &self.windows,
             &self.pointer,

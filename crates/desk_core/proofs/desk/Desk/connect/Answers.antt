@@ -50,7 +50,7 @@ returns-in-Err-clause-step c =
 pub invariant_of-self-in-Ok-join_client : goal.invariant_of-self-in-Ok-join_client
 invariant_of-self-in-Ok-join_client c =
     let i = c.self.inside in
-    connected-kept i.shape i.pointer i.clients c.join.new.self i.tree c.join_client.new.self i.windows i.roster c.args.client c.in-Ok-join_client.ensures.ok (added_new i.clients c.join.new.self c.args.client c.in-Ok.events c.in-Ok.ensures.ring c.in-Ok-join.ensures.ok) c.self.invariant (and_from _ _ (le-leb 1 c.args.client c.requires.low) (le-leb c.args.client 16 c.requires.high)) 
+    connected-kept i.shape i.pointer i.clients c.join.new.self i.tree c.join_client.new.self i.windows i.roster c.args.client c.in-Ok-join_client.ensures.ok (added_new i.clients c.join.new.self c.args.client c.in-Ok.events c.in-Ok.ensures.ring c.in-Ok-join.ensures.ok) c.self.invariant (and_from _ _ (le-leb 1 c.args.client c.requires.low) (le-leb c.args.client 16 c.requires.high))
     (connected-joined (stage_of i.shape i.roster i.clients i.tree i.pointer) (clients_of i.clients) i.tree i.windows c.args.client false c.self.invariant.parts c.if-has.ensures)
     c.join_client.ensures.valid
 

@@ -57,7 +57,7 @@ returns-in-Err-clause-step c =
 pub invariant_of-self-in-Ok-join_client : goal.invariant_of-self-in-Ok-join_client
 invariant_of-self-in-Ok-join_client c =
     let i = c.self.inside in
-    greeted-kept i.shape i.pointer i.clients c.join.new.self i.tree c.join_client.new.self i.windows i.roster c.in-Some.client c.in-Ok-join_client.ensures.ok (added_new i.clients c.join.new.self c.in-Some.client c.in-Ok.events c.in-Ok.ensures.ring c.in-Ok-join.ensures.ok) c.self.invariant 
+    greeted-kept i.shape i.pointer i.clients c.join.new.self i.tree c.join_client.new.self i.windows i.roster c.in-Some.client c.in-Ok-join_client.ensures.ok (added_new i.clients c.join.new.self c.in-Some.client c.in-Ok.events c.in-Ok.ensures.ring c.in-Ok-join.ensures.ok) c.self.invariant
     (free-joined (stage_of i.shape i.roster i.clients i.tree i.pointer) (clients_of i.clients) i.tree i.windows (Some c.in-Some.client) c.self.invariant.parts c.in-Some.ensures.free)
     c.join_client.ensures.valid
 

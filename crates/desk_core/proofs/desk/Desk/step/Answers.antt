@@ -23,7 +23,15 @@ use Rattle.widget_model.specs.Forest.{IsWidgets}
 use Rattle.desk_model.specs.Seen as seen
 use Rattle.touch_rules.specs.Laws.{kept_of}
 use Rattle.desk_core.specs.Touching.{numbered_of}
-use Rattle.desk_core.proofs.TouchedLooks.{obeyed-touched, stayed-touched, kept-told}
+use Rattle.std.proofs.Common.{◌-◌, get_or, Option, None}
+use Rattle.std.specs.Option.{option_map}
+use Rattle.scene_model.specs.Scene.{Scene}
+use Rattle.look_data.specs.Kept.{kept_look}
+use Rattle.widget_model.specs.Nodes.{first_number}
+use Rattle.touch_rules.specs.Films.{unless_refused}
+use Rattle.touch_rules.specs.Telling.{is_told, number_anew, where_shown}
+use Rattle.desk_core.proofs.Views.{view-scene}
+use Rattle.desk_core.proofs.TouchedLooks.{stepped-touched, stayed-touched}
 use Rattle.desk_core.proofs.desk.Desk.step.Goals as goal
 
 pub returns-then-not-has-clause-step : goal.returns-then-not-has-clause-step
@@ -119,12 +127,15 @@ returns-clause-touched c =
     let windows = c.obey-answer.new.windows in
     let pointer = c.let_go.new.pointer in
     let touched = c.tell_looks.new.touched.looks.items in
+    let reply = c.obey-answer.result.reply in
+    let looks = c.keep_looks-before.result in
+    let anew : Option ℕ = option_map (λ one. one.key) c.screen_anew-anew.result in
     let new : DeskView = record { desk = desk_of (stage_of i.shape c.obey-answer.new.roster i.clients tree pointer) tree windows; changed = c.obey-answer.result.changed; widgets = tree; windows = windows; touched = touched } in
     let kept = invariant_of-self-2 c in
     let W : DeskView → Type 0 = λ s. IsWidgets s.widgets in
     let R : DeskView → Type 0 = λ s. s.desk.rows ≡ rows_of s.widgets in
-    let T : DeskView → Type 0 = λ s. (id : ℕ) → list_any (nat_eq id) touched ≡ (is_number_of c.args.client id && differ (kept_of (numbered_of s) id) (kept_of (numbered_of new) id)) in
-    obeyed-touched c.args.client c.args.self.now new ?
+    let K : DeskView → Type 0 = λ s. (id : ℕ) → is_number_of c.args.client id ≡ true → get_or looks (id - first_number c.args.client) None ≡ kept_of (numbered_of s) id in
+    stepped-touched c.args.client c.args.self.now new c.args.command.now c.args.payload.now (is_memory reply) looks anew reply
     (record {
       some = c.requires.low;
       before = subst W c.self.view_is c.self.invariant.parts.tree;
@@ -134,8 +145,10 @@ returns-clause-touched c =
       numbers = returns-clause-numbered c;
       others = returns-clause-others c;
     })
-    ?
-    (λ id. ?)
+    (returns-clause-step c)
+    (subst K c.self.view_is (λ id own. c.keep_looks-before.ensures id own ∙ ap (λ (s : Scene). kept_look i.tree i.windows s id) (view-scene i.shape i.roster i.clients i.pointer i.tree i.windows c.self.invariant.parts.windows)))
+    (c.screen_anew-anew.ensures ∙ ap (λ (s : DeskView). where_shown s.widgets s.windows (number_anew s.widgets c.args.client c.args.command.now c.args.payload.now)) c.self.view_is)
+    (λ id. c.tell_looks.ensures id ∙ ap (λ (s : Scene). is_told c.args.client looks (unless_refused reply anew) tree windows s id) (view-scene i.shape c.obey-answer.new.roster i.clients pointer tree windows kept.parts.windows))
 
 -- a command that only asks leaves the desk as it was
 pub returns-in-Some-clause-step : goal.returns-in-Some-clause-step
