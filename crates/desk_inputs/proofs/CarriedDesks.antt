@@ -1,14 +1,12 @@
 -- The desk of the parts after an input: what it asked for is carried out on the desk of the parts before.
-use Rattle.std.proofs.Common.{◌≡◌, ℕ, ℤ, Bool, true, false, cond, List, Option, Some, None, refl, sym, ap, ◌∙◌}
+use Rattle.std.proofs.Common.{◌≡◌, ℕ, Bool, true, false, cond, List, Option, Some, None, refl, sym, ap, ◌∙◌}
 use Rattle.std.specs.List.{fold}
 use Rattle.std.specs.Option.{option_map_or, option_and_then}
-use Rattle.std.proofs.lemmas.Bool.{true≢false, and_from}
 use Rattle.kind_core.specs.declared.shapes.Shape.{Shape}
 use Rattle.admit_core.specs.Roster.{RosterState}
 use Rattle.cmd_words.specs.declared.inputs.Input.{Input}
 use Rattle.widget_model.specs.Rows.{Row}
 use Rattle.widget_model.specs.Nodes.{Node}
-use Rattle.widget_model.specs.Pointer as model
 use Rattle.widget_model.specs.Pointer.{no_grab, on_widget, drags}
 use Rattle.widget_model.specs.Kinds.{is_window_kind}
 use Rattle.widget_model.specs.Named.{is_kind_of}
@@ -20,7 +18,7 @@ use Rattle.tree_core.specs.declared.pointer.Pointer.{Pointer}
 use Rattle.tree_core.specs.declared.pointer.Grab.{Grab}
 use Rattle.tree_core.specs.declared.pointer.Grab.TheVariants.{Nothing, Widget, Drag}
 use Rattle.tree_core.specs.Holds.{grab_seen, pointer_seen}
-use Rattle.desk_model.specs.Desk.{Desk, Admission, Ring}
+use Rattle.desk_model.specs.Desk.{Desk, Ring}
 use Rattle.desk_model.specs.Seen as seen
 use Rattle.desk_model.specs.InputEffects as model_effects
 use Rattle.desk_model.specs.DeskFacts.{IsDesk}
