@@ -181,7 +181,7 @@ fn admitted_of(tree: &Tree, roster: &Roster, client: u32) -> Option<u32>
 }
 
 /// Ends the admissions of the client's VScreens, which then leave with it. The others keep their order. See
-/// docs/MACHINE.md, "Frames".
+/// docs/MACHINE.md, "Admission".
 pub fn dismiss(tree: &Tree, roster: &mut Roster, client: u32)
     requires { AreListed tree.now.entries roster.old }
     ensures dismissed { roster.new.entries ≡ filter (is_others_entry (nodes tree.now.entries) client) roster.old.entries }

@@ -1,17 +1,19 @@
 -- Each call of the desk gives the step of its event, with that step's ending.
-use Rattle.std.proofs.Common.{◌≡◌, ℕ, Bool, true, false, is_some, Option, Some, None, refl, sym, ap, ◌∙◌}
-use Rattle.std.proofs.lemmas.Bool.{false≢true}
-use Rattle.std.specs.Prelude.{IfSome, pos}
-use Rattle.std.specs.Option.{option_map}
+use Rattle.std.proofs.Common.{◌≡◌, ℕ, Bool, true, false, List, Some, None, refl, sym, ap, ◌∙◌}
+use Rattle.std.specs.Prelude.{pos}
 use Rattle.cmd_words.specs.declared.commands.Command.{Command}
 use Rattle.cmd_words.specs.declared.replies.Reply.{Reply}
 use Rattle.cmd_words.specs.declared.replies.Reply.TheVariants.{Done, Number, Refused}
 use Rattle.cmd_words.specs.declared.replies.Refusal.{Refusal}
 use Rattle.cmd_words.specs.declared.replies.Refusal.TheVariants.{Memory, Full, NotConnected, Connected}
-use Rattle.desk_model.specs.Desk.{Desk, is_connected}
+use Rattle.cmd_words.specs.declared.commands.Command.TheVariants.{Poll}
+use Rattle.bind_core.specs.Polling.{poll_answer, after_poll}
+use Rattle.desk_commands.specs.Effects.{is_poll}
+use Rattle.desk_model.specs.Polling.{ring_of, with_ring, poll_reply, step_poll}
+use Rattle.desk_model.specs.Desk.{Desk, Ring, is_connected}
 use Rattle.desk_model.specs.LetGo.{let_go, event_end}
 use Rattle.desk_model.specs.Clients.{step_connect, step_hello, step_bye, with_client, without_client, free_client}
-use Rattle.desk_model.specs.Commands.{row_of, is_built, asked, step}
+use Rattle.desk_model.specs.Commands.{row_of, step}
 
 -- a client comes: nothing is let go that wasn't
 pub held-with_client : (client : ℕ) (desk : Desk) → let_go desk ≡ desk → let_go (with_client client desk) ≡ with_client client desk
@@ -54,21 +56,21 @@ pub bye-gone : (desk : Desk) (client : ℕ) → is_connected desk client ≡ tru
 unfolding step_bye
 bye-gone desk client there = rw there refl
 
-pub step-absent : (desk : Desk) (client : ℕ) (command : Command) (short : Bool) → let_go desk ≡ desk → is_built command ≡ true → is_connected desk client ≡ false → step desk client command short ≡ Some (Refused NotConnected, desk)
+pub step-absent : (desk : Desk) (client : ℕ) (command : Command) (payload : List ℕ) (short : Bool) → let_go desk ≡ desk → is_connected desk client ≡ false → (Refused NotConnected, desk) ≡ step desk client command payload short
 unfolding step
-step-absent desk client command short held built gone = by (row_of command) built
-  where
-    by : (row : Option (Desk → ℕ → Bool → Reply × Desk)) → is_some row ≡ true → option_map (λ row. event_end (asked row desk client short)) row ≡ Some (Refused NotConnected, desk)
-    by None h = absurd (false≢true h)
-    by (Some row) h = ap Some (rw gone (refused-end desk NotConnected held))
+step-absent desk client command payload short held gone = rw gone (sym (refused-end desk NotConnected held))
 
 -- what the row did, and then the pointer let go
-pub step-obeyed : (desk : Desk) (client : ℕ) (command : Command) (short : Bool) (reply : Reply) (mid next : Desk) → is_built command ≡ true → is_connected desk client ≡ true → IfSome (row_of command) (λ row. (reply, mid) ≡ row desk client short) → next ≡ let_go mid → step desk client command short ≡ Some (reply, next)
+pub step-obeyed : (desk : Desk) (client : ℕ) (command : Command) (payload : List ℕ) (short : Bool) (reply : Reply) (mid next : Desk) → is_connected desk client ≡ true → (reply, mid) ≡ row_of command payload desk client short → next ≡ let_go mid → (reply, next) ≡ step desk client command payload short
 unfolding step
-step-obeyed desk client command short reply mid next built there did end = by (row_of command) built did
-  where
-    by : (row : Option (Desk → ℕ → Bool → Reply × Desk)) → is_some row ≡ true → IfSome row (λ row. (reply, mid) ≡ row desk client short) → option_map (λ row. event_end (asked row desk client short)) row ≡ Some (reply, next)
-    by None h did = absurd (false≢true h)
-    by (Some row) h did =
-        let connected : asked row desk client short ≡ row desk client short = rw there refl in
-        ap (λ (done : Reply × Desk). Some (event_end done)) (connected ∙ sym did) ∙ ap (λ (d : Desk). Some (reply, d)) (sym end)
+step-obeyed desk client command payload short reply mid next there did end = rw there (ap (λ (d : Desk). (reply, d)) end ∙ ap event_end did)
+
+-- the pointer's hold has nothing to do with the rings
+pub held-with_rings : (rings : List Ring) (desk : Desk) → let_go desk ≡ desk → let_go (record desk { rings = rings }) ≡ record desk { rings = rings }
+unfolding let_go
+held-with_rings rings desk held = ap (λ (d : Desk). record d { rings = rings }) held
+
+pub poll-row : (command : Command) (payload : List ℕ) (desk : Desk) (client : ℕ) (short : Bool) → is_poll command ≡ true → (poll_reply (poll_answer (ring_of desk.rings client)), record desk { rings = with_ring client after_poll desk.rings }) ≡ row_of command payload desk client short
+unfolding step_poll
+poll-row Poll payload desk client short asks = refl
+poll-row _ payload desk client short asks = absurd (cc)

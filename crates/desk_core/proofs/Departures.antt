@@ -50,10 +50,14 @@ others_windows es client (k ∷ ks) windows = by (others_windows es client ks pa
         and_from _ _ here rest
     by rest false q = rest
 
+-- the stage without the client's admissions and events
+abbrev pub stage_without : ℕ → Stage → Stage
+stage_without client stage = record stage { roster = filter (λ admission. not (nat_eq client admission.client)) stage.roster; rings = filter (λ ring. not (nat_eq client ring.client)) stage.rings }
+
 -- the desk without the client
-pub desk_of-departed : (stage : Stage) (w : Widgets) (client : ℕ) (keys : List ℕ) → list_all (names_window (nodes w.entries)) keys ≡ true → desk_of stage (departed client w) (filter (is_others (nodes w.entries) client) keys) ≡ without_client client (desk_of stage w keys)
+pub desk_of-departed : (stage : Stage) (w : Widgets) (client : ℕ) (keys : List ℕ) → list_all (names_window (nodes w.entries)) keys ≡ true → desk_of (stage_without client stage) (departed client w) (filter (is_others (nodes w.entries) client) keys) ≡ without_client client (desk_of stage w keys)
 desk_of-departed stage w client keys windows =
-    ap₂ (λ (rs : List Row) (ws : List (ℕ × List ℕ)). record (desk_of stage (departed client w) []) { rows = rs; windows = ws }) (rows_of-departed w client) (others_titles w.entries client keys windows ∙ windows_at-filter (nodes w.entries) client keys)
+    ap₂ (λ (rs : List Row) (ws : List (ℕ × List ℕ)). record (desk_of (stage_without client stage) (departed client w) []) { rows = rs; windows = ws }) (rows_of-departed w client) (others_titles w.entries client keys windows ∙ windows_at-filter (nodes w.entries) client keys)
 
 pub AreParts-departed : (joined : List ℕ) (w : Widgets) (client : ℕ) (keys : List ℕ) → AreParts joined w keys → IsWidgets (departed client w) → IsStack (filter (is_others (nodes w.entries) client) keys) → AreParts (filter (λ other. not (nat_eq client other)) joined) (departed client w) (filter (is_others (nodes w.entries) client) keys)
 AreParts-departed joined w client keys kept valid stack =

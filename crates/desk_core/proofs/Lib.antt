@@ -1,6 +1,7 @@
 pub mod ClientLists
 pub mod Departures
 pub mod ByeChanges
+mod Rosters
 mod CallSteps
 mod Calls
 mod Views

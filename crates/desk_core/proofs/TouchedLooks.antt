@@ -1,10 +1,8 @@
 -- The looks that a call touched are those that its clause names.
-use Rattle.std.proofs.Common.{◌≡◌, ◌≤◌, ◌-◌, ℕ, Bool, true, false, cond, ◌&&◌, not, nat_eq, List, [], ◌∷◌, Option, Some, None, refl, sym, ap, subst, ◌∙◌, get_or}
-use Rattle.std.proofs.lemmas.Bool.{true≢false}
+use Rattle.std.proofs.Common.{◌≡◌, ◌≤◌, ◌-◌, ℕ, Bool, true, false, cond, ◌&&◌, ◌||◌, not, nat_eq, List, [], ◌∷◌, Option, Some, None, refl, sym, ap, ap₂, subst, ◌∙◌, get_or}
+use Rattle.std.proofs.lemmas.Bool.{true≢false, and_parts, and_from, eqb-true, eq-eqb}
 use Rattle.std.specs.List.{list_any, list_all, filter}
 use Rattle.std.specs.Option.{option_map}
-use Rattle.cmd_words.specs.declared.commands.Command.{Command}
-use Rattle.cmd_words.specs.declared.replies.Reply.{Reply}
 use Rattle.kind_core.specs.declared.shapes.Shape.{Shape}
 use Rattle.look_core.specs.Seen.{Seen}
 use Rattle.look_data.specs.Kept.{kept_look, differ}
@@ -20,18 +18,30 @@ use Rattle.tree_core.specs.declared.pointer.Pointer.{Pointer}
 use Rattle.scene_model.specs.Scene.{Scene}
 use Rattle.scene_core.specs.View.{scene_from}
 use Rattle.desk_model.specs.Seen as seen
+use Rattle.admit_core.specs.Roster.{RosterState}
+use Rattle.desk_model.specs.Desk.{Ring}
+use Rattle.cmd_words.specs.declared.commands.Command.{Command}
+use Rattle.cmd_words.specs.declared.replies.Reply.{Reply}
+use Rattle.desk_model.specs.Desk.{Desk}
 use Rattle.desk_model.specs.Commands.{step}
+use Rattle.touch_rules.specs.Films.{unless_refused}
+use Rattle.touch_rules.specs.Telling.{is_told, number_anew, where_shown}
+use Rattle.touch_rules.proofs.StepLooks.{steps_tell_looks}
 use Rattle.desk_model.specs.OwnPart.{LeavesOthers}
 use Rattle.touch_rules.specs.Touched.{TellsLooks}
 use Rattle.touch_rules.specs.Laws.{IsOwnEvent, kept_of}
+use Rattle.std.specs.Option.{option_map_or, option_and_then}
+use Rattle.std.specs.Str.{bytes_eq}
+use Rattle.std.specs.Cmp.{nat_eq_equiv}
+use Rattle.std.proofs.lemmas.Slice.Eq.{bytes_eq-Decides}
+use Rattle.widget_model.specs.Nodes.{id_named}
+use Rattle.widget_model.proofs.Naming.{id_named-row, row_named-found, row_named-parts}
 use Rattle.touch_rules.proofs.OthersLooks.{number-of-row}
-use Rattle.touch_rules.proofs.OwnLooks.{own_looks_are_enough, leaving_touches_nothing, staying_touches_nothing}
-use Rattle.touch_rules.proofs.FilmsStay.{commands_keep_films}
+use Rattle.touch_rules.proofs.OwnLooks.{leaving_touches_nothing, staying_touches_nothing}
 use Rattle.desk_commands.specs.Parts.{stage_of, desk_of, names_window}
 use Rattle.desk_layout.specs.Numbers.{KeepsNumbers}
 use Rattle.desk_core.specs.View.{DeskView}
 use Rattle.desk_core.specs.Touching.{numbered_of, TellsTouched}
-use Rattle.desk_core.proofs.Views.{view-scene}
 
 -- a call that leaves the others, from one whole desk to another
 pub record IsCall (client : ℕ) (old new : DeskView) : Type 0 where
@@ -51,25 +61,23 @@ event-call client old new call = record {
   pointer = call.others.pointer;
 }
 
-named-number : (widgets : Widgets) (rows : List Row) (id : ℕ) (row : Row) → IsWidgets widgets → rows ≡ rows_of widgets → row_at widgets.entries id ≡ Some row → row_named rows row.client row.name ≡ Some row
-named-number widgets rows id row valid same there = ap (λ (rs : List Row). row_named rs row.client row.name) same ∙ row_named-row widgets.entries id row valid.forest.own_numbers valid.forest.own_names there
-
-pub obeyed-touched : (client : ℕ) (old new : DeskView) (command : Command) (short : Bool) (reply : Reply) → IsCall client old new → step old.desk client command short ≡ Some (reply, new.desk)
-    → ((id : ℕ) → list_any (nat_eq id) new.touched ≡ (is_number_of client id && differ (kept_of (numbered_of old) id) (kept_of (numbered_of new) id)))
+-- a command, by what was kept and told
+pub stepped-touched : (client : ℕ) (old new : DeskView) (command : Command) (payload : List ℕ) (short : Bool) (looks : List (Option Seen)) (anew : Option ℕ) (reply : Reply) → IsCall client old new → (reply, new.desk) ≡ step old.desk client command payload short
+    → ((id : ℕ) → is_number_of client id ≡ true → get_or looks (id - first_number client) None ≡ kept_of (numbered_of old) id)
+    → anew ≡ where_shown old.widgets old.windows (number_anew old.widgets client command payload)
+    → ((id : ℕ) → list_any (nat_eq id) new.touched ≡ is_told client looks (unless_refused reply anew) new.widgets new.windows (seen.scene_of new.desk) id)
     → TellsTouched old new
-obeyed-touched client old new command short reply call stepped told =
-    own_looks_are_enough client (numbered_of old) (numbered_of new) new.touched
+stepped-touched client old new command payload short looks anew reply call stepped keeps is told =
+    steps_tell_looks old.desk client command payload short (numbered_of old) (numbered_of new) looks new.touched
     (record { widgets = call.before; rows = call.rows })
     (record { widgets = call.after; rows = call.rows_after })
     (event-call client old new call)
-    (record { each = films })
-    told
-  where
-    films : (id : ℕ) (a b : Row) → is_number_of client id ≡ true → row_at old.widgets.entries id ≡ Some a → row_at new.widgets.entries id ≡ Some b → b.film ≡ a.film
-    films id a b own at_a at_b =
-        let keys : key_of b ≡ key_of a = sym (call.numbers.keys id (key_of a) (key_of b) (ap (option_map key_of) at_a) (ap (option_map key_of) at_b)) in
-        let found : row_named new.desk.rows a.client a.name ≡ Some b = sym (ap (λ (key : ℕ × List ℕ). row_named new.desk.rows key.0 key.1) keys) ∙ named-number new.widgets new.desk.rows id b call.after call.rows_after at_b in
-        (commands_keep_films old.desk client command short reply new.desk stepped).each a.client a.name a b (named-number old.widgets old.desk.rows id a call.before call.rows at_a) found
+    (record { each = keeps })
+    refl
+    (ap (λ (done : Reply × Desk). done.1.rows) stepped)
+    (λ id.
+    told id
+    ∙ ap₂ (λ (r : Reply) (a : Option ℕ). is_told client looks (unless_refused r a) new.widgets new.windows (seen.scene_of new.desk) id) (ap (λ (done : Reply × Desk). done.0) stepped) is)
 
 -- a client that has left has no number
 row_at-left : (es : List (ℕ × Row)) (client id : ℕ) (row : Row) → row_at (filter (λ (e : ℕ × Row). not (nat_eq client e.1.client)) es) id ≡ Some row → nat_eq client row.client ≡ false
@@ -108,20 +116,3 @@ pub stayed-touched : (old new : DeskView) → new.widgets.entries ≡ old.widget
 stayed-touched old new entries scene none =
     let T : List ℕ → Type 0 = λ xs. TellsLooks (numbered_of old) (numbered_of new) xs in
     subst T (sym none) (staying_touches_nothing (numbered_of old) (numbered_of new) entries scene)
-
--- what was kept and told by the parts of a desk is kept and told of the desk
-told-same : (own : Bool) (a b after : Option Seen) → (own ≡ true → a ≡ b) → (own && differ a after) ≡ (own && differ b after)
-told-same true a b after same = ap (λ (o : Option Seen). differ o after) (same refl)
-told-same false a b after same = refl
-
-pub kept-told : (client : ℕ) (looks : List (Option Seen)) (shape : Shape) (pointer pointer' : Pointer) (w w' : Widgets) (keys keys' : List ℕ) (touched : List ℕ)
-    → list_all (names_window (nodes w.entries)) keys ≡ true → list_all (names_window (nodes w'.entries)) keys' ≡ true
-    → ((id : ℕ) → is_number_of client id ≡ true → get_or looks (id - first_number client) None ≡ kept_look w keys (scene_from w keys pointer shape.width shape.height) id)
-    → ((id : ℕ) → list_any (nat_eq id) touched ≡ (is_number_of client id && differ (get_or looks (id - first_number client) None) (kept_look w' keys' (scene_from w' keys' pointer' shape.width shape.height) id)))
-    → (id : ℕ) → list_any (nat_eq id) touched ≡ (is_number_of client id && differ (kept_look w keys (seen.scene_of (desk_of (stage_of shape w pointer) w keys)) id) (kept_look w' keys' (seen.scene_of (desk_of (stage_of shape w' pointer') w' keys')) id))
-kept-told client looks shape pointer pointer' w w' keys keys' touched windows windows' keeps tells id =
-    let after = kept_look w' keys' (seen.scene_of (desk_of (stage_of shape w' pointer') w' keys')) id in
-    tells id
-    ∙ ap (λ (s : Scene). is_number_of client id && differ (get_or looks (id - first_number client) None) (kept_look w' keys' s id)) (view-scene shape pointer' w' keys' windows')
-    ∙ told-same (is_number_of client id) (get_or looks (id - first_number client) None) (kept_look w keys (seen.scene_of (desk_of (stage_of shape w pointer) w keys)) id) after
-    (λ own. keeps id own ∙ ap (λ (s : Scene). kept_look w keys s id) (view-scene shape pointer w keys windows))

@@ -17,6 +17,8 @@ use Rattle.widget_model.specs.Widgets.{Widgets, nodes, rows_of, row_at, row_kind
 use Rattle.tree_core.specs.declared.pointer.Pointer.{Pointer}
 use Rattle.tree_core.proofs.ForestLemmas.{node_at-nodes}
 use Rattle.scene_model.specs.Placing.{place_in}
+use Rattle.admit_core.specs.Roster.{RosterState}
+use Rattle.desk_model.specs.Desk.{Ring}
 use Rattle.desk_model.specs.Seen as seen
 use Rattle.scene_core.specs.View.{keys_of, scene_from, AreWindows, KeepsPlaces}
 use Rattle.scene_core.proofs.Numbered.{live-there}
@@ -67,9 +69,9 @@ keys-windows es (key ∷ keys) windows =
     ap (λ (o : Option Row). option_map_or (λ (k : ℕ × List ℕ). k ∷ keys_of es keys) (option_map key_of o) (keys_of es keys)) named.there
     ∙ ap₂ (λ (k : ℕ × List ℕ) (ks : List (ℕ × List ℕ)). k ∷ ks) (sym (ap (λ (o : Option Node). option_map_or (λ (node : Node). (node.client, node.name)) o (0, [])) named.node)) (keys-windows es keys parts.1)
 
-pub view-scene : (shape : Shape) (pointer : Pointer) (w : Widgets) (keys : List ℕ) → list_all (names_window (nodes w.entries)) keys ≡ true
-    → scene_from w keys pointer shape.width shape.height ≡ seen.scene_of (desk_of (stage_of shape w pointer) w keys)
-view-scene shape pointer w keys windows = ap (λ (ws : List (ℕ × List ℕ)). record (scene_from w keys pointer shape.width shape.height) { windows = ws }) (keys-windows w.entries keys windows)
+pub view-scene : (shape : Shape) (roster : RosterState) (rings : List Ring) (pointer : Pointer) (w : Widgets) (keys : List ℕ) → list_all (names_window (nodes w.entries)) keys ≡ true
+    → scene_from w keys pointer shape.width shape.height ≡ seen.scene_of (desk_of (stage_of shape roster rings w pointer) w keys)
+view-scene shape roster rings pointer w keys windows = ap (λ (ws : List (ℕ × List ℕ)). record (scene_from w keys pointer shape.width shape.height) { windows = ws }) (keys-windows w.entries keys windows)
 
 all-windows : (es : List (ℕ × Row)) (keys : List ℕ) → list_all (names_window (nodes es)) keys ≡ true → All (λ (id : ℕ). row_kind es id ≡ Some Window) keys
 all-windows es [] windows = All-nil (λ (id : ℕ). row_kind es id ≡ Some Window)

@@ -1,5 +1,5 @@
 -- Commands that only ask: `get`. They change nothing.
-use Rattle.std.specs.Prelude.{◌≡◌, ℕ, Bool, true, false, List, IfSome, Some}
+use Rattle.std.specs.Prelude.{◌≡◌, ℕ, Bool, true, false, List}
 use Rattle.cmd_words.specs.declared.commands.Command.{Command}
 use Rattle.cmd_words.specs.declared.commands.Command.TheVariants.{Get}
 use Rattle.cmd_words.specs.declared.replies.Reply.{Reply}
@@ -14,7 +14,7 @@ only_asks _ = false
 
 -- the command's row gives that reply, and the desk as it was
 pub record IsAnswer (rows : List Row) (client : ℕ) (command : Command) (reply : Reply) : Type 0 where
-  pub answers : (short : Bool) (desk : Desk) → desk.rows ≡ rows → IfSome (row_of command) (λ row. (reply, desk) ≡ row desk client short)
+  pub answers : (payload : List ℕ) (short : Bool) (desk : Desk) → desk.rows ≡ rows → (reply, desk) ≡ row_of command payload desk client short
 
 -- the desk, its numbers and its kept places stay as they were
 pub record StaysAsItWas (old new : DeskView) : Type 0 where

@@ -1,9 +1,7 @@
 //! Commands that only ask, and so change nothing.
 
-ghost use Rattle.std.specs.Prelude.{◌≡◌, true, false, Bool, IfSome, MatchOption};
+ghost use Rattle.std.specs.Prelude.{◌≡◌, true, false, MatchOption};
 ghost use Rattle.widget_model.specs.Widgets.{rows_of};
-ghost use Rattle.desk_model.specs.Desk.{Desk};
-ghost use Rattle.desk_model.specs.Commands.{row_of};
 ghost use Rattle.desk_core.specs.Asking.{only_asks, IsAnswer};
 
 use cmd_words::{Command, Reply};

@@ -6,7 +6,7 @@ ghost use Rattle.desk_model.specs.DeskFacts.{IsDesk};
 ghost use Rattle.desk_model.specs.Seen.{open_windows};
 ghost use Rattle.desk_model.specs.Clients.{free_client, step_bye, step_connect, step_hello};
 ghost use Rattle.scene_model.specs.Shapes.{IsShape};
-ghost use Rattle.desk_model.specs.Commands.{is_built, step};
+ghost use Rattle.desk_model.specs.Commands.{IsPayload, step};
 ghost use Rattle.desk_model.specs.OwnPart.{LeavesOthers};
 ghost use Rattle.desk_layout.specs.Numbers.{KeepsNumbers};
 ghost use Rattle.desk_layout.specs.Placed.{HaveDuePlaces};
@@ -19,10 +19,13 @@ ghost use Rattle.desk_model.specs.Refusals.{is_memory};
 
 use crate::asking::answer_to;
 use crate::clients::Clients;
-use crate::touching::{forget, keep_looks, tell_looks};
+use crate::polling::poll_reply;
+use crate::touching::{forget, keep_looks, screen_anew, tell_looks};
+use admit_core::Roster;
 use arrayvec::ArrayVec;
+use bind_core::Ring;
 use cmd_words::{Command, Refusal, Reply};
-use desk_commands::{close_windows, let_go, may_move, obey, place_of};
+use desk_commands::{close_windows, dismiss, is_poll, let_go, may_move, obey, place_of};
 use desk_layout::settle;
 use scene_core::View;
 use scene_model::Shape;
@@ -39,9 +42,11 @@ use tree_core::{Grab, Id, Pointer, Tree};
 pub struct Desk {
     shape: Shape,
     pointer: Pointer,
+    alloc: Global,
     clients: Clients,
     tree: Tree,
     windows: Stack,
+    roster: Roster,
     changed: bool,
     touched: Touched,
 }
@@ -53,9 +58,9 @@ impl Model for Desk {
 
     ghost Value = { DeskView };
 
-    ghost view = { λ d. record { desk = desk_of (stage_of d.shape d.tree d.pointer) d.tree d.windows; changed = d.changed; widgets = d.tree; windows = d.windows; touched = d.touched.looks.items } };
+    ghost view = { λ d. record { desk = desk_of (stage_of d.shape d.roster d.clients d.tree d.pointer) d.tree d.windows; changed = d.changed; widgets = d.tree; windows = d.windows; touched = d.touched.looks.items } };
 
-    ghost invariant = { λ d. IsKept d.shape d.pointer d.clients d.tree d.windows };
+    ghost invariant = { λ d. IsKept d.shape d.pointer d.clients d.tree d.windows d.roster };
 }
 
 impl Drop for Desk {
@@ -63,9 +68,11 @@ impl Drop for Desk {
         let Desk {
             shape: _,
             pointer: _,
+            alloc: _,
             clients: _,
             tree: _,
             windows: _,
+            roster: _,
             changed: _,
             touched: Touched { looks: _ },
         } = self;
@@ -91,9 +98,11 @@ impl Desk {
         Desk {
             shape,
             pointer,
-            clients: Clients::new(),
+            alloc,
+            clients: Clients::new(alloc),
             tree: Tree::new(alloc),
             windows: Stack::new(),
+            roster: Roster::new(shape.budget - shape.spare),
             changed: false,
             touched: Touched {
                 looks: ArrayVec::new(),
@@ -119,11 +128,21 @@ impl Desk {
         if self.clients.has(client) {
             return Reply::Refused(Refusal::Connected);
         }
-        match self.tree.join_client(client) {
+        let events = match Ring::new(self.alloc) {
+            Ok(events) => events,
+            Err(_) => return Reply::Refused(Refusal::Memory),
+        };
+        match self.clients.join(client, events) {
             Ok(()) => {}
             Err(_) => return Reply::Refused(Refusal::Memory),
         }
-        self.clients.join(client);
+        match self.tree.join_client(client) {
+            Ok(()) => {}
+            Err(_) => {
+                self.clients.leave(client);
+                return Reply::Refused(Refusal::Memory);
+            }
+        }
         Reply::Done
     }
 
@@ -144,25 +163,34 @@ impl Desk {
             Some(client) => client,
             None => return Reply::Refused(Refusal::Full { limit: 16 }),
         };
-        match self.tree.join_client(client) {
+        let events = match Ring::new(self.alloc) {
+            Ok(events) => events,
+            Err(_) => return Reply::Refused(Refusal::Memory),
+        };
+        match self.clients.join(client, events) {
             Ok(()) => {}
             Err(_) => return Reply::Refused(Refusal::Memory),
         }
-        self.clients.join(client);
+        match self.tree.join_client(client) {
+            Ok(()) => {}
+            Err(_) => {
+                self.clients.leave(client);
+                return Reply::Refused(Refusal::Memory);
+            }
+        }
         Reply::Number(client as i32)
     }
 
     /// Carries out a client's command, of a client from 1 to 16, and answers it: a Number or Words where it is
-    /// `get`, else Done. Refuses NotConnected where the client isn't connected; else each command has its own
-    /// refusals, and the first that holds is the answer. `payload` has the bytes of a frame, so far none. See
-    /// docs/GUIDE.md, "Commands".
+    /// `get`, a kept event, none, or how many were lost where it is `poll`, else Done. Refuses NotConnected where the
+    /// client isn't connected; else each command has its own refusals, and the first that holds is the answer.
+    /// `payload` has the bytes that come with the command: those of a frame, else none. See docs/GUIDE.md, "Commands".
     pub fn step(&mut self, client: u32, command: &Command, payload: &[u8]) -> Reply
         requires low { 1 ≤ client }
         requires high { client ≤ 16 }
-        requires built { is_built command.now ≡ true }
-        requires bare { payload.now ≡ [] }
+        requires payload { IsPayload command.now payload.now }
         ensures changed { TellsChange self.old self.new }
-        ensures step { step self.old.desk client command.now (is_memory result) ≡ Some (result, self.new.desk) }
+        ensures step { (result, self.new.desk) ≡ step self.old.desk client command.now payload.now (is_memory result) }
         ensures others { LeavesOthers client self.old.desk self.new.desk }
         ensures valid { IsDesk self.new.desk }
         ensures numbered { KeepsNumbers self.old.widgets.entries self.new.widgets.entries }
@@ -178,13 +206,35 @@ impl Desk {
             Some(reply) => return reply,
             None => {}
         }
+        if is_poll(command) {
+            return poll_reply(self.clients.poll(client));
+        }
         let moves = may_move(&self.tree, client, command);
         let before = keep_looks(&self.tree, &self.windows, &self.pointer, self.shape, client);
-        let answer = obey(&mut self.tree, &mut self.windows, client, command);
+        let anew = screen_anew(
+            &self.tree,
+            &self.windows,
+            &self.pointer,
+            self.shape,
+            client,
+            command,
+            payload,
+        );
+        let answer = obey(
+            self.alloc,
+            &mut self.tree,
+            &mut self.windows,
+            &mut self.roster,
+            client,
+            command,
+            payload,
+        );
         settle(&mut self.tree, client, answer.changed, moves);
         let_go(&self.tree, &self.windows, &mut self.pointer);
         tell_looks(
             &before,
+            anew,
+            &answer.reply,
             &self.tree,
             &self.windows,
             &self.pointer,
@@ -196,7 +246,7 @@ impl Desk {
         answer.reply
     }
 
-    /// A client, 1 to 16, leaves with its windows and widgets, and is answered Done. Refuses NotConnected where
+    /// A client, 1 to 16, leaves with its windows, widgets, admissions and events, and is answered Done. Refuses NotConnected where
     /// it isn't connected. See docs/GUIDE.md, "Commands".
     pub fn bye(&mut self, client: u32) -> Reply
         requires low { 1 ≤ client }
@@ -217,6 +267,7 @@ impl Desk {
         close_windows(&self.tree, &mut self.windows, client);
         let pointer = &mut self.pointer;
         let_go(&self.tree, &self.windows, pointer);
+        dismiss(&self.tree, &mut self.roster, client);
         self.tree.drop_client(client);
         self.clients.leave(client);
         self.changed = count > 0;

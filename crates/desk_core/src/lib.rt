@@ -5,6 +5,8 @@ mod asking;
 mod clients;
 mod desk;
 pub mod laws;
+mod member;
+mod polling;
 mod touching;
 
 pub use asking::only_asks;

@@ -1,8 +1,9 @@
 -- A client's looks, number by number: one more is kept, and one more is told.
-use Rattle.std.proofs.Common.{◌≡◌, ℕ, zero, suc, ◌+◌, ◌-◌, ◌<◌, ◌≤◌, ◌⊎◌, inl, inr, Bool, true, false, cond, ◌&&◌, ◌||◌, nat_eq, nat_le, nat_lt, List, [], ◌∷◌, ◌++◌, map, length, get_or, replicate, Option, Some, None, is_some, refl, sym, ap, subst, ◌∙◌, arith, ◌≢◌, length-append}
+use Rattle.std.proofs.Common.{◌≡◌, ℕ, ◌+◌, ◌-◌, ◌<◌, ◌≤◌, ◌⊎◌, inl, inr, Bool, true, false, cond, ◌&&◌, ◌||◌, nat_eq, nat_le, nat_lt, List, [], ◌∷◌, ◌++◌, map, length, get_or, Option, Some, None, is_some, refl, sym, ap, ◌∙◌, arith, ◌≢◌, length-append}
 use Rattle.std.proofs.lemmas.Bool.{cases_eq, eq-eqb, true≢false}
 use Rattle.std.proofs.lemmas.Bool.Decides.{nat_tests}
 use Rattle.std.proofs.lemmas.List.{get_or-set_same, get_or-set_other, get_or_default}
+use Rattle.std.proofs.lemmas.List.Folds.{list_any-append}
 use Rattle.std.proofs.Math.ListN.{get_or-map, set}
 use Rattle.std.specs.List.{list_any}
 use Rattle.std.specs.Option.{option_map, option_map_or, option_and_then}
@@ -64,44 +65,27 @@ AreKeptOf-each client view looks kept = record { each = each }
         ∙ kept (id - first_number client) less
         ∙ ap (kept_in view) back
 
--- none is told at first
-pub told-none : (first : ℕ) (before : List (Option LookData)) (view : View) (id : ℕ) → false ≡ told_of first 0 before view id
+or_false : (b : Bool) → (b || false) ≡ b
+or_false true = refl
+or_false false = refl
+
+-- none more is told at first
+pub told-none : (first : ℕ) (before : List (Option LookData)) (view : View) (was : List ℕ) (id : ℕ) → list_any (nat_eq id) was ≡ (list_any (nat_eq id) was || told_of first 0 before view id)
 unfolding told_of
-told-none first before view id = sym (ap (λ (b : Bool). b && differs_at first before view id) none)
+told-none first before view was id =
+    sym (or_false (list_any (nat_eq id) was))
+    ∙ sym (ap (λ (b : Bool). list_any (nat_eq id) was || (b && differs_at first before view id)) none)
   where
     none : (nat_le first id && nat_lt id (first + 0)) ≡ false
     none = grind (arith, nat_tests)
 
 -- one number more
-list_any-push : (id x : ℕ) (xs : List ℕ) → list_any (nat_eq id) (xs ++ x ∷ []) ≡ (list_any (nat_eq id) xs || nat_eq id x)
-list_any-push id x [] = or_false (nat_eq id x)
-  where
-    or_false : (b : Bool) → (b || false) ≡ b
-    or_false true = refl
-    or_false false = refl
-list_any-push id x (y ∷ ys) = rw (list_any-push id x ys) (assoc (nat_eq id y) (list_any (nat_eq id) ys) (nat_eq id x))
-  where
-    assoc : (a b c : Bool) → (a || (b || c)) ≡ ((a || b) || c)
-    assoc true b c = refl
-    assoc false b c = refl
-
-told-next : (first k : ℕ) (before : List (Option LookData)) (view : View) (xs ys : List ℕ) → ((id : ℕ) → list_any (nat_eq id) xs ≡ told_of first k before view id) → ys ≡ cond (differ (option_map seen_in (get_or before k None)) (kept_in view (first + k))) (xs ++ (first + k) ∷ []) xs → (id : ℕ) → list_any (nat_eq id) ys ≡ told_of first (k + 1) before view id
+told-one : (first k : ℕ) (before : List (Option LookData)) (view : View) (id : ℕ) → (told_of first k before view id || (differ (option_map seen_in (get_or before k None)) (kept_in view (first + k)) && nat_eq id (first + k))) ≡ told_of first (k + 1) before view id
 unfolding told_of
-told-next first k before view xs ys told more id = by (cases_eq id (first + k))
+told-one first k before view id = by (cases_eq id (first + k))
   where
     here : Bool
     here = differ (option_map seen_in (get_or before k None)) (kept_in view (first + k))
-
-    any : (b : Bool) → list_any (nat_eq id) (cond b (xs ++ (first + k) ∷ []) xs) ≡ (list_any (nat_eq id) xs || (b && nat_eq id (first + k)))
-    any true = list_any-push id (first + k) xs
-    any false = sym (or_false (list_any (nat_eq id) xs))
-      where
-        or_false : (b : Bool) → (b || false) ≡ b
-        or_false true = refl
-        or_false false = refl
-
-    all : list_any (nat_eq id) ys ≡ (told_of first k before view id || (here && nat_eq id (first + k)))
-    all = ap (λ (zs : List ℕ). list_any (nat_eq id) zs) more ∙ any here ∙ ap (λ (b : Bool). b || (here && nat_eq id (first + k))) (told id)
 
     tests : (c d e : Bool) → ((c && d) || (e && false)) ≡ (c && d)
     tests true true true = refl
@@ -115,15 +99,14 @@ told-next first k before view xs ys told more id = by (cases_eq id (first + k))
     and_true true = refl
     and_true false = refl
 
-    by : (id ≡ first + k) ⊎ (id ≢ first + k) → list_any (nat_eq id) ys ≡ told_of first (k + 1) before view id
+    by : (id ≡ first + k) ⊎ (id ≢ first + k) → (told_of first k before view id || (here && nat_eq id (first + k))) ≡ told_of first (k + 1) before view id
     by (inl same) =
         let range : (nat_le first id && nat_lt id (first + k)) ≡ false = grind (arith, nat_tests) in
         let wider : (nat_le first id && nat_lt id (first + (k + 1))) ≡ true = grind (arith, nat_tests) in
         let one : nat_eq id (first + k) ≡ true = eq-eqb id (first + k) same in
         let index : id - first ≡ k = omega arith in
         let is : differs_at first before view id ≡ here = ap (λ (n : ℕ). differ (option_map seen_in (get_or before n None)) (kept_in view id)) index ∙ ap (λ (n : ℕ). differ (option_map seen_in (get_or before k None)) (kept_in view n)) same in
-        all
-        ∙ ap (λ (b : Bool). (b && differs_at first before view id) || (here && nat_eq id (first + k))) range
+        ap (λ (b : Bool). (b && differs_at first before view id) || (here && nat_eq id (first + k))) range
         ∙ ap (λ (b : Bool). here && b) one
         ∙ and_true here
         ∙ sym is
@@ -131,14 +114,29 @@ told-next first k before view xs ys told more id = by (cases_eq id (first + k))
     by (inr apart) =
         let none : nat_eq id (first + k) ≡ false = grind (arith, nat_tests) in
         let range : (nat_le first id && nat_lt id (first + k)) ≡ (nat_le first id && nat_lt id (first + (k + 1))) = grind (arith, nat_tests) in
-        all
-        ∙ ap (λ (b : Bool). ((nat_le first id && nat_lt id (first + k)) && differs_at first before view id) || (here && b)) none
+        ap (λ (b : Bool). ((nat_le first id && nat_lt id (first + k)) && differs_at first before view id) || (here && b)) none
         ∙ tests (nat_le first id && nat_lt id (first + k)) (differs_at first before view id) here
         ∙ ap (λ (b : Bool). b && differs_at first before view id) range
 
-pub told-more : (first k : ℕ) (before : List (Option LookData)) (read : Option LookData) (view : View) (xs ys : List ℕ) → k < length before → ((id : ℕ) → list_any (nat_eq id) xs ≡ told_of first k before view id) → ys ≡ cond (differ (option_map seen_in (get_or before k read)) (kept_in view (first + k))) (xs ++ (first + k) ∷ []) xs → (id : ℕ) → list_any (nat_eq id) ys ≡ told_of first (k + 1) before view id
-told-more first k before read view xs ys within told more =
-    told-next first k before view xs ys told (more ∙ ap (λ (o : Option LookData). cond (differ (option_map seen_in o) (kept_in view (first + k))) (xs ++ (first + k) ∷ []) xs) (get_or_default before k read None within))
+-- a number that is added where the test says so
+any-added : (id x : ℕ) (xs : List ℕ) (b : Bool) → list_any (nat_eq id) (cond b (xs ++ x ∷ []) xs) ≡ (list_any (nat_eq id) xs || (b && nat_eq id x))
+any-added id x xs true = list_any-append (nat_eq id) xs (x ∷ []) ∙ ap (λ (b : Bool). list_any (nat_eq id) xs || b) (or_false (nat_eq id x))
+any-added id x xs false = sym (or_false (list_any (nat_eq id) xs))
+
+or_assoc : (a b c : Bool) → ((a || b) || c) ≡ (a || (b || c))
+or_assoc true b c = refl
+or_assoc false b c = refl
+
+pub told-more : (first k : ℕ) (before : List (Option LookData)) (read : Option LookData) (view : View) (was xs ys : List ℕ) → k < length before → ((id : ℕ) → list_any (nat_eq id) xs ≡ (list_any (nat_eq id) was || told_of first k before view id)) → ys ≡ cond (differ (option_map seen_in (get_or before k read)) (kept_in view (first + k))) (xs ++ (first + k) ∷ []) xs
+    → (id : ℕ) → list_any (nat_eq id) ys ≡ (list_any (nat_eq id) was || told_of first (k + 1) before view id)
+told-more first k before read view was xs ys within told more id =
+    let here = differ (option_map seen_in (get_or before k None)) (kept_in view (first + k)) in
+    let added : ys ≡ cond here (xs ++ (first + k) ∷ []) xs = more ∙ ap (λ (o : Option LookData). cond (differ (option_map seen_in o) (kept_in view (first + k))) (xs ++ (first + k) ∷ []) xs) (get_or_default before k read None within) in
+    ap (list_any (nat_eq id)) added
+    ∙ any-added id (first + k) xs here
+    ∙ ap (λ (b : Bool). b || (here && nat_eq id (first + k))) (told id)
+    ∙ or_assoc (list_any (nat_eq id) was) (told_of first k before view id) (here && nat_eq id (first + k))
+    ∙ ap (λ (b : Bool). list_any (nat_eq id) was || b) (told-one first k before view id)
 
 -- and one more at the most
 pub room-more : (k x : ℕ) (b : Bool) (xs ys : List ℕ) → length xs ≤ k → ys ≡ cond b (xs ++ x ∷ []) xs → length ys ≤ k + 1

@@ -1,8 +1,7 @@
-ghost use Rattle.std.specs.Prelude.{◌≡◌, ◌≤◌, ℕ};
+ghost use Rattle.std.specs.Prelude.{◌≡◌, ◌≤◌, ◌+◌, ◌||◌, ℕ, length, nat_eq};
 ghost use Rattle.std.specs.List.{list_any};
 ghost use Rattle.look_data.specs.Kept.{AreKeptOf, is_changed};
 ghost use Rattle.widget_model.specs.Forest.{IsWidgets};
-ghost use Rattle.std.specs.Prelude.{nat_eq};
 
 use crate::data::LookData;
 use crate::keeping::{keep_looks, tell_looks};
@@ -50,7 +49,21 @@ impl ClientLooks {
         requires widgets { IsWidgets view.now.tree.now }
         requires low { 1 ≤ client }
         requires high { client ≤ 16 }
-        ensures { (id : ℕ) → list_any (nat_eq id) touched.new.looks.items ≡ is_changed client self.now view.now id }
+        ensures told { (id : ℕ) → list_any (nat_eq id) touched.new.looks.items ≡ is_changed client self.now view.now id }
+        ensures few { length touched.new.looks.items ≤ 128 }
+    {
+        touched.looks.clear();
+        self.tell_more(view, client, touched);
+    }
+
+    /// Tells the same besides what was told before, of at most 15 clients: of each it tells at most 128 numbers.
+    pub fn tell_more(&self, view: &View<'_>, client: u32, touched: &mut Touched)
+        requires widgets { IsWidgets view.now.tree.now }
+        requires low { 1 ≤ client }
+        requires high { client ≤ 16 }
+        requires room { length touched.old.looks.items ≤ 1920 }
+        ensures told { (id : ℕ) → list_any (nat_eq id) touched.new.looks.items ≡ (list_any (nat_eq id) touched.old.looks.items || is_changed client self.now view.now id) }
+        ensures few { length touched.new.looks.items ≤ length touched.old.looks.items + 128 }
     {
         tell_looks(&self.looks, view, client, &mut touched.looks);
     }

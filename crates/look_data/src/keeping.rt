@@ -1,5 +1,5 @@
 //! A client's looks, kept and compared number by number.
-ghost use Rattle.std.specs.Prelude.{◌≡◌, ◌≤◌, ◌<◌, ◌+◌, ◌++◌, ◌∷◌, [], ℕ, nat_eq, None, length, if◌then◌else◌, slice_index_or};
+ghost use Rattle.std.specs.Prelude.{◌≡◌, ◌≤◌, ◌<◌, ◌+◌, ◌++◌, ◌∷◌, ◌||◌, [], ℕ, nat_eq, None, length, if◌then◌else◌, slice_index_or};
 ghost use Rattle.std.specs.List.{list_any};
 ghost use Rattle.std.specs.Option.{option_map};
 ghost use Rattle.look_data.specs.Data.{seen_in};
@@ -34,8 +34,9 @@ fn is_open(windows: &Stack, key: u32) -> bool
     false
 }
 
-/// Whether the widget is shown: its root is an open window.
-fn is_shown(view: &View<'_>, id: Id) -> bool
+/// Whether the widget is shown: its root is an open window. It goes up at most 12 levels, and compares the root with the
+/// open windows. See docs/MACHINE.md, "The reach of a change".
+pub fn is_shown(view: &View<'_>, id: Id) -> bool
     requires { IsLive view.now.tree.now id.key }
     ensures { result ≡ is_shown_at view.now.tree.now view.now.stack.now id.key }
 {
@@ -105,7 +106,7 @@ fn tell_look(before: &Option<LookData>, view: &View<'_>, id: Id, looks: &mut Arr
     }
 }
 
-/// The client's numbers whose kept look differs from what would be kept of them now.
+/// Adds the client's numbers whose kept look differs from what would be kept of them now.
 pub(crate) fn tell_looks(
     before: &[Option<LookData>; 128],
     view: &View<'_>,
@@ -115,10 +116,11 @@ pub(crate) fn tell_looks(
     requires widgets { IsWidgets view.now.tree.now }
     requires low { 1 ≤ client }
     requires high { client ≤ 16 }
-    ensures { (id : ℕ) → list_any (nat_eq id) looks.new.items ≡ told_of (first_number client) 128 before.now view.now id }
+    requires room { length looks.old.items ≤ 1920 }
+    ensures told { (id : ℕ) → list_any (nat_eq id) looks.new.items ≡ (list_any (nat_eq id) looks.old.items || told_of (first_number client) 128 before.now view.now id) }
+    ensures few { length looks.new.items ≤ length looks.old.items + 128 }
 {
     let first = first_number(client);
-    looks.clear();
     for k in 0..128 {
         tell_look(
             &before[k],

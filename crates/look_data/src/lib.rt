@@ -12,4 +12,5 @@ mod same;
 
 pub use client_looks::ClientLooks;
 pub use data::LookData;
+pub use keeping::is_shown;
 pub use looks::look_data;

@@ -1,4 +1,7 @@
-pub mod SameBytes
+pub mod LooksDiffer
 pub mod OthersLooks
+pub mod ShownFilms
+pub mod ShownAnew
 pub mod OwnLooks
-pub mod FilmsStay
+pub mod StepLooks
+pub mod AnewLemmas

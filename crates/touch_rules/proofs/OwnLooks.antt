@@ -1,7 +1,6 @@
--- Comparing the client's own looks tells the touched ones.
-use Rattle.std.proofs.Common.{◌≡◌, ℕ, Bool, true, false, cond, ◌&&◌, not, nat_eq, List, [], Option, Some, None, IsSome, refl, sym, ap, ◌∙◌}
-use Rattle.std.proofs.lemmas.Bool.{true≢false}
-use Rattle.std.proofs.lemmas.Slice.Eq.{bytes_eq-Decides}
+-- Comparing the looks of the clients of an event tells the touched ones.
+use Rattle.std.proofs.Common.{◌≡◌, ℕ, Bool, true, false, cond, ◌&&◌, ◌||◌, not, nat_eq, List, [], ◌∷◌, Option, Some, None, IsSome, refl, sym, ap, ◌∙◌}
+use Rattle.std.proofs.lemmas.Bool.{true≢false, or_parts}
 use Rattle.std.specs.List.{list_any}
 use Rattle.std.specs.Option.{option_map, option_map_or, option_and_then}
 use Rattle.look_core.specs.Seen.{Seen, no_film}
@@ -17,9 +16,11 @@ use Rattle.scene_model.specs.LookOf.{look_of}
 use Rattle.look_data.specs.Data.{but_bytes}
 use Rattle.look_data.specs.Kept.{is_shown_at, kept_look, differ}
 use Rattle.touch_rules.specs.Touched.{Numbered, is_shown, look_numbered, is_touched, TellsLooks}
-use Rattle.touch_rules.specs.Laws.{IsNumbered, IsOwnEvent, KeepsOwnFilms, kept_of, OwnLooksAreEnough, LeavingTouchesNothing, StayingTouchesNothing}
-use Rattle.touch_rules.proofs.SameBytes.{differs-but_bytes}
-use Rattle.touch_rules.proofs.OthersLooks.{look-others}
+use Rattle.touch_rules.specs.Films.{looks_alike, shown_film}
+use Rattle.touch_rules.specs.Laws.{IsNumbered, is_number_among, IsEventOf, kept_of, is_number, ShowsNumberAnew, is_seen_anew, OwnLooksAreEnough, SomeLooksAreEnough, LeavingTouchesNothing, StayingTouchesNothing}
+use Rattle.touch_rules.proofs.LooksDiffer.{or_false, differs-but_bytes}
+use Rattle.touch_rules.proofs.OthersLooks.{event-own, row-others, look-others}
+use Rattle.touch_rules.proofs.ShownFilms.{alike-same}
 
 own_look : (look : Seen) → same_look look look ≡ true
 own_look look = (same_are_equal look look).1 refl
@@ -51,42 +52,73 @@ differ-none : (before : Option Seen) → differ before None ≡ false
 differ-none None = refl
 differ-none (Some seen) = refl
 
-record Compared (own : Bool) (s s' : Scene) (o p : Option Row) : Type 0 where
-  films : own ≡ true → (a b : Row) → o ≡ Some a → p ≡ Some b → b.film ≡ a.film
+record Compared (own one : Bool) (s s' : Scene) (o p : Option Row) : Type 0 where
+  films : (a b : Row) → o ≡ Some a → p ≡ Some b → not (looks_alike (shown_film a) (shown_film b)) ≡ one
   others : own ≡ false → (a b : Row) → o ≡ Some a → p ≡ Some b → look_of s' b ≡ look_of s a
 
-compared : (own shown shown' : Bool) (s s' : Scene) (o p : Option Row) → (shown ≡ true → IsSome o) → (shown' ≡ true → IsSome p) → Compared own s s' o p
-    → (own && differ (kept s shown o) (kept s' shown' p)) ≡ (shown && (shown' && not (same_look (look s o) (look s' p))))
-compared own false shown' s s' o p there there' c = and_false own
-compared own true false s s' o p there there' c = ap (λ (b : Bool). own && b) (differ-none (option_map (λ (row : Row). but_bytes (look_of s row)) o)) ∙ and_false own
-compared own true true s s' None p there there' c = absurd (not_some None (there refl) refl)
-compared own true true s s' (Some a) None there there' c = absurd (not_some None (there' refl) refl)
-compared true true true s s' (Some a) (Some b) there there' c = ap not (differs-but_bytes s s' a b (c.films refl a b refl refl))
-compared false true true s s' (Some a) (Some b) there there' c = sym (ap not (ap (same_look (look_of s a)) (c.others refl a b refl refl) ∙ own_look (look_of s a)))
+nothing : (a b : Bool) → ((a && false) || (b && false)) ≡ false
+nothing a b = rw (and_false a, and_false b) refl
 
-pub own_looks_are_enough : OwnLooksAreEnough
+and_true : (b : Bool) → (b && true) ≡ b
+and_true true = refl
+and_true false = refl
+
+compared : (own one shown shown' : Bool) (s s' : Scene) (o p : Option Row) → (shown ≡ true → IsSome o) → (shown' ≡ true → IsSome p) → Compared own one s s' o p
+    → ((own && differ (kept s shown o) (kept s' shown' p)) || (one && (shown && shown'))) ≡ (shown && (shown' && not (same_look (look s o) (look s' p))))
+compared own one false shown' s s' o p there there' c = nothing own one
+compared own one true false s s' o p there there' c = ap (λ (b : Bool). (own && b) || (one && false)) (differ-none (option_map (λ (row : Row). but_bytes (look_of s row)) o)) ∙ nothing own one
+compared own one true true s s' None p there there' c = absurd (not_some None (there refl) refl)
+compared own one true true s s' (Some a) None there there' c = absurd (not_some None (there' refl) refl)
+compared true one true true s s' (Some a) (Some b) there there' c =
+    ap (λ (t : Bool). not (same_look (but_bytes (look_of s a)) (but_bytes (look_of s' b))) || t) (and_true one ∙ sym (c.films a b refl refl))
+    ∙ sym (differs-but_bytes s s' a b)
+compared false one true true s s' (Some a) (Some b) there there' c =
+    let same : not (same_look (look_of s a) (look_of s' b)) ≡ false = ap not (ap (same_look (look_of s a)) (c.others refl a b refl refl) ∙ own_look (look_of s a)) in
+    let parts = or_parts (not (same_look (but_bytes (look_of s a)) (but_bytes (look_of s' b)))) (not (looks_alike (shown_film a) (shown_film b))) (sym (differs-but_bytes s s' a b) ∙ same) in
+    and_true one ∙ sym (c.films a b refl refl) ∙ parts.1 ∙ sym same
+
+-- of an event of some clients, with at most one film that looks different
+looks_are_enough : (clients : List ℕ) (anew : Option ℕ) (before after : Numbered) (touched : List ℕ) → IsNumbered before → IsNumbered after → IsEventOf clients before after → ShowsNumberAnew anew before after
+    → ((id : ℕ) → list_any (nat_eq id) touched ≡ ((is_number_among clients id && differ (kept_of before id) (kept_of after id)) || is_seen_anew anew before after id))
+    → TellsLooks before after touched
 unfolding kept_look
-own_looks_are_enough client before after touched valid valid' event keeps told = record { each = each }
+looks_are_enough clients anew before after touched valid valid' event shows told = record { each = each }
   where
     each : (id : ℕ) → list_any (nat_eq id) touched ≡ is_touched before after id
     each id =
         told id
-        ∙ compared (is_number_of client id) (is_shown before id) (is_shown after id) before.scene after.scene (row_at before.widgets.entries id) (row_at after.widgets.entries id)
+        ∙ compared (is_number_among clients id) (is_number anew id) (is_shown before id) (is_shown after id) before.scene after.scene (row_at before.widgets.entries id) (row_at after.widgets.entries id)
         (live before.widgets before.windows id) (live after.widgets after.windows id)
         (record {
-          films = λ own a b. keeps.each id a b own;
-          others = λ other a b. look-others client id before after a b valid valid' event other;
+          films = λ a b. shows.each id a b;
+          others = λ other a b. look-others clients id before after a b valid valid' event other;
         })
+
+pub some_looks_are_enough : SomeLooksAreEnough
+some_looks_are_enough clients before after touched valid valid' event shows told =
+    looks_are_enough clients None before after touched valid valid' event shows (λ id. told id ∙ sym (or_false (is_number_among clients id && differ (kept_of before id) (kept_of after id))))
+
+pub own_looks_are_enough : OwnLooksAreEnough
+own_looks_are_enough client anew before after touched valid valid' event shows told =
+    looks_are_enough (client ∷ []) anew before after touched valid valid' (event-own client before after event) shows
+    (λ id. told id ∙ sym (ap (λ (b : Bool). (b && differ (kept_of before id) (kept_of after id)) || is_seen_anew anew before after id) (or_false (is_number_of client id))))
 
 pub leaving_touches_nothing : LeavingTouchesNothing
 unfolding kept_look
-leaving_touches_nothing client before after valid valid' event gone = own_looks_are_enough client before after [] valid valid' event films told
+leaving_touches_nothing client before after valid valid' event gone = own_looks_are_enough client None before after [] valid valid' event films told
   where
-    films : KeepsOwnFilms client before after
-    films = record { each = λ id a b own at_a at_b. absurd (let none : row_at after.widgets.entries id ≡ None = gone id own in cc) }
+    films : ShowsNumberAnew None before after
+    films = record { each = each }
+      where
+        each : (id : ℕ) (a b : Row) → row_at before.widgets.entries id ≡ Some a → row_at after.widgets.entries id ≡ Some b → not (looks_alike (shown_film a) (shown_film b)) ≡ false
+        each id a b at_a at_b = by (is_number_of client id) refl
+          where
+            by : (own : Bool) → is_number_of client id ≡ own → not (looks_alike (shown_film a) (shown_film b)) ≡ false
+            by true own = absurd (let none : row_at after.widgets.entries id ≡ None = gone id own in cc)
+            by false other = alike-same (shown_film a) (shown_film b) (ap shown_film (row-others (client ∷ []) id before after a b valid valid' (event-own client before after event) (or_false (is_number_of client id) ∙ other) at_a at_b))
 
-    told : (id : ℕ) → false ≡ (is_number_of client id && differ (kept_of before id) (kept_of after id))
-    told id = by (is_number_of client id) refl (is_shown after id) refl
+    told : (id : ℕ) → false ≡ ((is_number_of client id && differ (kept_of before id) (kept_of after id)) || false)
+    told id = by (is_number_of client id) refl (is_shown after id) refl ∙ sym (or_false (is_number_of client id && differ (kept_of before id) (kept_of after id)))
       where
         by : (own : Bool) → is_number_of client id ≡ own → (shown : Bool) → is_shown after id ≡ shown → false ≡ (own && differ (kept_of before id) (cond shown (option_map (λ (row : Row). but_bytes (look_of after.scene row)) (row_at after.widgets.entries id)) None))
         by false e shown f = refl

@@ -1,3 +1,4 @@
 pub mod Touched
 pub mod Films
 pub mod Laws
+pub mod Telling

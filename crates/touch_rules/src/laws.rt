@@ -1,16 +1,25 @@
 //! Laws over the definitions. Each function does nothing; its contract is the law.
 
-ghost use Rattle.touch_rules.specs.Films.{CommandsKeepFilms};
-ghost use Rattle.touch_rules.specs.Laws.{OwnLooksAreEnough, LeavingTouchesNothing, StayingTouchesNothing};
+ghost use Rattle.touch_rules.specs.Films.{CommandsShowAnew};
+ghost use Rattle.touch_rules.specs.Laws.{OwnLooksAreEnough, SomeLooksAreEnough, LeavingTouchesNothing, StayingTouchesNothing};
+ghost use Rattle.touch_rules.specs.Telling.{StepsTellLooks};
 
-/// Commands leave films alone.
-pub fn commands_keep_films()
-    ensures { CommandsKeepFilms }
+/// A command that is done changes what one VScreen shows at most, the one that the definitions name; a refused one
+/// changes what none shows.
+pub fn commands_show_anew()
+    ensures { CommandsShowAnew }
 {}
 
-/// After an event of one client it is enough to compare that client's looks.
+/// After an event of one client it is enough to compare that client's looks, and what the VScreen shows that the event
+/// shows anew.
 pub fn own_looks_are_enough()
     ensures { OwnLooksAreEnough }
+{}
+
+/// After an event that leaves all films, and the rows of all clients but some with the pointer's hold on their widgets,
+/// it is enough to compare the looks of those some.
+pub fn some_looks_are_enough()
+    ensures { SomeLooksAreEnough }
 {}
 
 /// A client that leaves touches no look.
@@ -21,4 +30,9 @@ pub fn leaving_touches_nothing()
 /// Where the rows, the open windows and the pointer stay, no look is touched.
 pub fn staying_touches_nothing()
     ensures { StayingTouchesNothing }
+{}
+
+/// What is kept before a client's command, and told after it, is exactly what it touched.
+pub fn steps_tell_looks()
+    ensures { StepsTellLooks }
 {}

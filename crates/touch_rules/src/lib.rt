@@ -1,4 +1,10 @@
-//! Which looks an event of a client touched, by the definitions alone.
+//! Which looks an event of a client touched: the laws, by the definitions alone, and what tells the looks that a command
+//! touched.
 #![tactic(auto)]
 
+mod anew;
 pub mod laws;
+mod telling;
+
+pub use anew::shown_anew;
+pub use telling::tell_touched;

@@ -1,10 +1,10 @@
-use Rattle.std.proofs.Common.{refl, sym, ap, ◌∙◌}
+use Rattle.std.proofs.Common.{refl, sym, ◌∙◌}
 use Rattle.kind_core.specs.declared.kinds.Kind.TheVariants.{Window, Grid, Frame, Button, Label, Entry, Scale, Scrollbar, VScreen, Variable}
 use Rattle.look_core.specs.Seen as seen
 use Rattle.widget_model.specs.Rows.{Row}
 use Rattle.scene_core.specs.View.{scene_of}
 use Rattle.scene_core.proofs.Numbered.{read}
-use Rattle.look_data.specs.Data.{seen_in, but_bytes}
+use Rattle.look_data.specs.Data.{seen_in}
 use Rattle.look_data.proofs.LookSteps.{look-kind}
 use Rattle.look_data.proofs.looks.look_data.Goals as goal
 

@@ -10,9 +10,12 @@ use Rattle.desk_model.specs.OwnPart.{LeavesOthers}
 use Rattle.widget_model.proofs.Naming.{count_of-nodes}
 use Rattle.desk_model.proofs.OwnPart.{byes_leave_others}
 use Rattle.desk_commands.specs.Parts.{desk_of, stage_of}
+use Rattle.desk_commands.proofs.Admissions.{admitted-live}
 use Rattle.desk_core.specs.View.{DeskView}
+use Rattle.desk_core.specs.ClientList.{clients_of}
 use Rattle.desk_core.proofs.ByeChanges.{tells_bye}
 use Rattle.desk_core.proofs.CallSteps.{bye-absent}
+use Rattle.desk_core.proofs.Departures.{stage_without}
 use Rattle.desk_core.proofs.Calls.{connected-joined, closed-parts, gone-desk, gone-step, gone-kept}
 use Rattle.widget_model.specs.Widgets.{Widgets}
 use Rattle.desk_layout.specs.Numbers.{KeepsNumbers}
@@ -30,28 +33,28 @@ use Rattle.desk_core.proofs.desk.Desk.bye.Goals as goal
 pub returns-then-not-has-clause-step : goal.returns-then-not-has-clause-step
 returns-then-not-has-clause-step c =
     let i = c.self.inside in
-    bye-absent (desk_of (stage_of i.shape i.tree i.pointer) i.tree i.windows) c.args.client c.self.invariant.desk.held (connected-joined (stage_of i.shape i.tree i.pointer) i.clients i.tree i.windows c.args.client false c.self.invariant.parts c.if-not-has.ensures)
+    bye-absent (desk_of (stage_of i.shape i.roster i.clients i.tree i.pointer) i.tree i.windows) c.args.client c.self.invariant.desk.held (connected-joined (stage_of i.shape i.roster i.clients i.tree i.pointer) (clients_of i.clients) i.tree i.windows c.args.client false c.self.invariant.parts c.if-not-has.ensures)
     ∙ ap (λ (s : DeskView). step_bye s.desk c.args.client) c.self.view_is
 
 pub let_go-requires-clause-parts : goal.let_go-requires-clause-parts
 let_go-requires-clause-parts c =
     let i = c.self.inside in
-    closed-parts i.clients i.tree i.windows c.close_windows.new.windows c.args.client c.self.invariant.parts c.close_windows.ensures.closed c.close_windows.ensures.valid
+    closed-parts (clients_of i.clients) i.tree i.windows c.close_windows.new.windows c.args.client c.self.invariant.parts c.close_windows.ensures.closed c.close_windows.ensures.valid
 
 pub invariant_of-self-2 : goal.invariant_of-self-2
 invariant_of-self-2 c =
     let i = c.self.inside in
-    gone-kept i.shape i.pointer c.let_go.new.pointer i.clients c.leave.new.self i.tree c.drop_client.new.self i.windows c.close_windows.new.windows c.args.client c.self.invariant
-    (connected-joined (stage_of i.shape i.tree i.pointer) i.clients i.tree i.windows c.args.client true c.self.invariant.parts c.if-not-has.ensures)
-    c.drop_client.ensures.left c.close_windows.ensures.closed (c.let_go.ensures.left i.shape) c.let_go.ensures.live
-    c.requires.low c.leave.ensures.left c.drop_client.ensures.valid c.close_windows.ensures.valid
+    gone-kept i.shape i.pointer c.let_go.new.pointer i.clients c.leave.new.self i.tree c.drop_client.new.self i.windows c.close_windows.new.windows i.roster c.dismiss.new.roster c.args.client c.self.invariant
+    (connected-joined (stage_of i.shape i.roster i.clients i.tree i.pointer) (clients_of i.clients) i.tree i.windows c.args.client true c.self.invariant.parts c.if-not-has.ensures)
+    c.drop_client.ensures.left c.close_windows.ensures.closed (c.let_go.ensures.left i.shape i.roster i.clients) c.let_go.ensures.live c.leave.ensures.left c.dismiss.ensures.dismissed
+    c.requires.low c.drop_client.ensures.valid c.close_windows.ensures.valid c.dismiss.ensures.limit c.dismiss.ensures.valid
 
 pub returns-clause-step : goal.returns-clause-step
 returns-clause-step c =
     let i = c.self.inside in
-    gone-step i.shape i.pointer c.let_go.new.pointer i.clients c.leave.new.self i.tree c.drop_client.new.self i.windows c.close_windows.new.windows c.args.client c.self.invariant
-    (connected-joined (stage_of i.shape i.tree i.pointer) i.clients i.tree i.windows c.args.client true c.self.invariant.parts c.if-not-has.ensures)
-    c.drop_client.ensures.left c.close_windows.ensures.closed (c.let_go.ensures.left i.shape) c.let_go.ensures.live
+    gone-step i.shape i.pointer c.let_go.new.pointer i.clients c.leave.new.self i.tree c.drop_client.new.self i.windows c.close_windows.new.windows i.roster c.dismiss.new.roster c.args.client c.self.invariant
+    (connected-joined (stage_of i.shape i.roster i.clients i.tree i.pointer) (clients_of i.clients) i.tree i.windows c.args.client true c.self.invariant.parts c.if-not-has.ensures)
+    c.drop_client.ensures.left c.close_windows.ensures.closed (c.let_go.ensures.left i.shape i.roster i.clients) c.let_go.ensures.live c.leave.ensures.left c.dismiss.ensures.dismissed
     ∙ ap (λ (s : DeskView). step_bye s.desk c.args.client) c.self.view_is
 
 pub returns-clause-others : goal.returns-clause-others
@@ -68,8 +71,8 @@ returns-clause-changed c =
     let old = c.args.self.now.desk in
     let D : DeskView → Type 0 = λ s. IsDesk s.desk in
     let fine = subst D c.self.view_is c.self.invariant.desk in
-    let left : desk_of (stage_of i.shape w i.pointer) c.drop_client.new.self c.close_windows.new.windows ≡ without_client client old =
-    gone-desk (stage_of i.shape w i.pointer) i.clients w c.drop_client.new.self i.windows c.close_windows.new.windows client c.self.invariant.parts c.drop_client.ensures.left c.close_windows.ensures.closed
+    let left : desk_of (stage_without client (stage_of i.shape i.roster i.clients w i.pointer)) c.drop_client.new.self c.close_windows.new.windows ≡ without_client client old =
+    gone-desk (stage_of i.shape i.roster i.clients w i.pointer) (clients_of i.clients) w c.drop_client.new.self i.windows c.close_windows.new.windows client c.self.invariant.parts c.drop_client.ensures.left c.close_windows.ensures.closed
     ∙ ap (λ (s : DeskView). without_client client s.desk) c.self.view_is in
     let many : c.count-count.result ≡ rows_counted client any_kind old.rows =
     c.count-count.ensures.count ∙ count_of-nodes w.entries client any_kind ∙ ap (λ (s : DeskView). rows_counted client any_kind s.desk.rows) c.self.view_is in
@@ -96,7 +99,7 @@ returns-clause-numbered c =
 pub returns-then-not-has-clause-touched : goal.returns-then-not-has-clause-touched
 returns-then-not-has-clause-touched c =
     let i = c.self.inside in
-    let new : DeskView = record { desk = desk_of (stage_of i.shape i.tree i.pointer) i.tree i.windows; changed = false; widgets = i.tree; windows = i.windows; touched = c.forget.new.touched.looks.items } in
+    let new : DeskView = record { desk = desk_of (stage_of i.shape i.roster i.clients i.tree i.pointer) i.tree i.windows; changed = false; widgets = i.tree; windows = i.windows; touched = c.forget.new.touched.looks.items } in
     stayed-touched c.args.self.now new (ap (λ (s : DeskView). s.widgets.entries) c.self.view_is) (ap (λ (s : DeskView). seen.scene_of s.desk) c.self.view_is) c.forget.ensures
 
 pub returns-clause-touched : goal.returns-clause-touched
@@ -104,7 +107,7 @@ returns-clause-touched c =
     let i = c.self.inside in
     let tree = c.drop_client.new.self in
     let windows = c.close_windows.new.windows in
-    let new : DeskView = record { desk = desk_of (stage_of i.shape tree c.let_go.new.pointer) tree windows; changed = nat_lt 0 c.count-count.result; widgets = tree; windows = windows; touched = c.forget.new.touched.looks.items } in
+    let new : DeskView = record { desk = desk_of (stage_of i.shape c.dismiss.new.roster c.leave.new.self tree c.let_go.new.pointer) tree windows; changed = nat_lt 0 c.count-count.result; widgets = tree; windows = windows; touched = c.forget.new.touched.looks.items } in
     let kept = invariant_of-self-2 c in
     let W : DeskView → Type 0 = λ s. IsWidgets s.widgets in
     let R : DeskView → Type 0 = λ s. s.desk.rows ≡ rows_of s.widgets in
@@ -120,3 +123,6 @@ returns-clause-touched c =
     })
     (ap (λ (w : Widgets). w.entries) c.drop_client.ensures.left ∙ ap (λ (s : DeskView). filter (λ (e : ℕ × Row). not (nat_eq c.args.client e.1.client)) s.widgets.entries) c.self.view_is)
     c.forget.ensures
+
+pub dismiss-requires : goal.dismiss-requires
+dismiss-requires c = record { valid = c.self.invariant.listed.valid; live = admitted-live c.self.inside.tree.entries c.self.inside.roster.entries c.self.invariant.listed.admitted }

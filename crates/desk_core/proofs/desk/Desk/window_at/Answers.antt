@@ -5,6 +5,7 @@ use Rattle.desk_model.specs.Seen.{open_windows}
 use Rattle.desk_model.specs.DeskFacts.{IsDesk}
 use Rattle.desk_commands.specs.Parts.{stage_of}
 use Rattle.desk_core.specs.View.{DeskView}
+use Rattle.desk_core.specs.ClientList.{clients_of}
 use Rattle.desk_commands.proofs.WindowPlaces.{sides, window_live, open_windows-key, open_windows-past, index_within, index_past, length-windows_at}
 use Rattle.desk_core.proofs.desk.Desk.window_at.Goals as goal
 
@@ -14,7 +15,7 @@ place_of-requires c = window_live c.self.inside.tree c.self.inside.windows c.arg
 pub returns-in-Some-clause-place : goal.returns-in-Some-clause-place
 returns-in-Some-clause-place c =
     ap Some c.place_of.ensures
-    ∙ sym (ap (option_map sides) (open_windows-key (stage_of c.self.inside.shape c.self.inside.tree c.self.inside.pointer) c.self.inside.tree c.self.inside.clients c.self.inside.windows c.args.index c.in-Some.key c.self.invariant.parts (sym c.in-Some.ensures.key)))
+    ∙ sym (ap (option_map sides) (open_windows-key (stage_of c.self.inside.shape c.self.inside.roster c.self.inside.clients c.self.inside.tree c.self.inside.pointer) c.self.inside.tree (clients_of c.self.inside.clients) c.self.inside.windows c.args.index c.in-Some.key c.self.invariant.parts (sym c.in-Some.ensures.key)))
     ∙ ap (λ (s : DeskView). option_map sides (slice_get (open_windows s.desk) c.args.index)) c.self.view_is
 
 pub returns-in-Some-clause-some : goal.returns-in-Some-clause-some
@@ -34,7 +35,7 @@ returns-in-Some-clause-valid c =
 
 pub returns-in-None-clause-place : goal.returns-in-None-clause-place
 returns-in-None-clause-place c =
-    sym (ap (option_map sides) (open_windows-past (stage_of c.self.inside.shape c.self.inside.tree c.self.inside.pointer) c.self.inside.tree c.self.inside.windows c.args.index (sym c.in-None.ensures.key)))
+    sym (ap (option_map sides) (open_windows-past (stage_of c.self.inside.shape c.self.inside.roster c.self.inside.clients c.self.inside.tree c.self.inside.pointer) c.self.inside.tree c.self.inside.windows c.args.index (sym c.in-None.ensures.key)))
     ∙ ap (λ (s : DeskView). option_map sides (slice_get (open_windows s.desk) c.args.index)) c.self.view_is
 
 pub returns-in-None-clause-some : goal.returns-in-None-clause-some

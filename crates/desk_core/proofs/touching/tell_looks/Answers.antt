@@ -1,4 +1,0 @@
-use Rattle.desk_core.proofs.touching.tell_looks.Goals as goal
-
-pub returns : goal.returns
-returns c = λ id. c.tell_changed.ensures id

@@ -1,0 +1,133 @@
+-- What is kept before a command and told after it is what it touched.
+use Rattle.std.proofs.Common.{◌≡◌, ◌-◌, ℕ, get_or, Bool, true, false, cond, ◌&&◌, ◌||◌, not, nat_eq, List, Option, Some, None, refl, sym, ap, ◌∙◌}
+use Rattle.std.proofs.lemmas.Bool.{eqb-true, eq-eqb, and_parts, and_from}
+use Rattle.std.proofs.lemmas.Slice.Eq.{bytes_eq-Decides}
+use Rattle.std.specs.List.{list_any}
+use Rattle.std.specs.Option.{option_map_or, option_and_then}
+use Rattle.std.specs.Str.{bytes_eq}
+use Rattle.look_core.specs.Seen.{Seen}
+use Rattle.cmd_words.specs.declared.commands.Command.{Command}
+use Rattle.cmd_words.specs.declared.replies.Reply.{Reply}
+use Rattle.cmd_words.specs.declared.replies.Reply.TheVariants.{Refused}
+use Rattle.widget_model.specs.Rows.{Row}
+use Rattle.widget_model.specs.Keys.{key_of}
+use Rattle.widget_model.specs.Named.{row_named}
+use Rattle.widget_model.specs.Nodes.{id_named, first_number, is_number_of}
+use Rattle.widget_model.specs.Widgets.{Widgets, nodes, rows_of, row_at}
+use Rattle.widget_model.specs.Forest.{IsWidgets}
+use Rattle.widget_model.proofs.Naming.{row_named-found, row_named-parts, id_named-row}
+use Rattle.tree_core.proofs.Listed.{row_named-row}
+use Rattle.scene_model.specs.Scene.{Scene}
+use Rattle.desk_model.specs.Desk.{Desk}
+use Rattle.desk_model.specs.Commands.{step}
+use Rattle.look_data.specs.Kept.{is_shown_at, kept_look, differ}
+use Rattle.touch_rules.specs.Touched.{Numbered, is_shown, TellsLooks}
+use Rattle.touch_rules.specs.Films.{looks_alike, shown_film, shown_anew, unless_refused}
+use Rattle.touch_rules.specs.Laws.{IsNumbered, IsOwnEvent, kept_of, is_number, is_seen_anew}
+use Rattle.touch_rules.specs.Telling.{number_anew, where_shown, is_told, StepsTellLooks}
+use Rattle.touch_rules.proofs.ShownAnew.{commands_show_anew}
+use Rattle.touch_rules.proofs.OwnLooks.{own_looks_are_enough}
+
+and_false : (b : Bool) → (b && false) ≡ false
+and_false true = refl
+and_false false = refl
+
+-- a name and the number that has it name one widget
+number-name : (widgets : Widgets) (client id : ℕ) (row : Row) (anew : Option (List ℕ)) → IsWidgets widgets → row_at widgets.entries id ≡ Some row → (nat_eq client row.client && option_map_or (λ one. bytes_eq one row.name) anew false) ≡ is_number (option_and_then (id_named (nodes widgets.entries) client) anew) id
+number-name widgets client id row None valid there = and_false (nat_eq client row.client)
+number-name widgets client id row (Some name) valid there = by (nat_eq client row.client && bytes_eq name row.name) refl
+  where
+    by : (b : Bool) → (nat_eq client row.client && bytes_eq name row.name) ≡ b → b ≡ is_number (id_named (nodes widgets.entries) client name) id
+    by true e =
+        let parts = and_parts (nat_eq client row.client) (bytes_eq name row.name) e in
+        let own : client ≡ row.client = eqb-true client row.client parts.0 in
+        let named : name ≡ row.name = (bytes_eq-Decides name row.name).0 parts.1 in
+        let found : id_named (nodes widgets.entries) client name ≡ Some id =
+        ap (λ (n : ℕ). id_named (nodes widgets.entries) n name) own ∙ ap (id_named (nodes widgets.entries) row.client) named ∙ id_named-row widgets.entries id row valid.forest.own_names there in
+        sym (ap (λ (o : Option ℕ). is_number o id) found ∙ eq-eqb id id refl)
+    by false e = at (id_named (nodes widgets.entries) client name) refl
+      where
+        other : (key : ℕ) → id_named (nodes widgets.entries) client name ≡ Some key → (b : Bool) → nat_eq id key ≡ b → false ≡ b
+        other key found false same = refl
+        other key found true same =
+            let here : id_named (nodes widgets.entries) client name ≡ Some id = found ∙ ap Some (sym (eqb-true id key same)) in
+            let is : row_named (rows_of widgets) client name ≡ Some row = row_named-found widgets.entries client name id valid.forest.own_numbers here ∙ there in
+            let parts = row_named-parts (rows_of widgets) client name row is in
+            sym e ∙ and_from (nat_eq client row.client) (bytes_eq name row.name) (eq-eqb client row.client (sym parts.0)) ((bytes_eq-Decides name row.name).1 (sym parts.1))
+
+        at : (o : Option ℕ) → id_named (nodes widgets.entries) client name ≡ o → false ≡ is_number o id
+        at None found = refl
+        at (Some key) found = other key found (nat_eq id key) refl
+
+refused-then : {X Y : Type 0} (reply : Reply) (f : X → Option Y) (o : Option X) → option_and_then f (unless_refused reply o) ≡ unless_refused reply (option_and_then f o)
+refused-then (Refused refusal) f o = refl
+refused-then _ f o = refl
+
+-- the number of a VScreen that was shown before is told where it is shown after
+shown-then : (shown : ℕ → Bool) (reply : Reply) (o : Option ℕ) (id : ℕ) (after : Bool)
+    → (is_number (unless_refused reply (option_and_then (λ n. cond (shown n) (Some n) None) o)) id && after) ≡ (is_number (unless_refused reply o) id && (shown id && after))
+shown-then shown reply o id after =
+    ap (λ (p : Option ℕ). is_number p id && after) (sym (refused-then reply (λ n. cond (shown n) (Some n) None) o)) ∙ by (unless_refused reply o)
+  where
+    one : (n : ℕ) (b : Bool) → shown n ≡ b → (c : Bool) → nat_eq id n ≡ c → (is_number (cond b (Some n) None) id && after) ≡ (c && (shown id && after))
+    one n true s true e = ap (λ (b : Bool). b && after) (e ∙ sym s ∙ ap shown (sym (eqb-true id n e)))
+    one n true s false e = ap (λ (b : Bool). b && after) e
+    one n false s true e = ap (λ (b : Bool). b && after) (sym s ∙ ap shown (sym (eqb-true id n e)))
+    one n false s false e = refl
+
+    by : (p : Option ℕ) → (is_number (option_and_then (λ n. cond (shown n) (Some n) None) p) id && after) ≡ (is_number p id && (shown id && after))
+    by None = refl
+    by (Some n) = one n (shown n) refl (nat_eq id n) refl
+
+kept-same : (own : Bool) (a b after : Option Seen) → (own ≡ true → a ≡ b) → (own && differ a after) ≡ (own && differ b after)
+kept-same true a b after same = ap (λ (o : Option Seen). differ o after) (same refl)
+kept-same false a b after same = refl
+
+pub steps_tell_looks : StepsTellLooks
+steps_tell_looks desk client command payload short before after looks touched valid valid' event kept rows rows' told =
+    own_looks_are_enough client (unless_refused reply (number_anew before.widgets client command payload)) before after touched valid valid' event (record { each = shows }) tells
+  where
+    reply : Reply
+    reply = (step desk client command payload short).0
+
+    anew : Option (List ℕ)
+    anew = shown_anew (rows_of before.widgets) client command payload
+
+    found : (numbered : Numbered) (rows : List Row) (id : ℕ) (row : Row) → IsNumbered numbered → numbered.scene.rows ≡ rows → row_at numbered.widgets.entries id ≡ Some row → row_named rows row.client row.name ≡ Some row
+    found numbered rows id row valid is there =
+        ap (λ (rs : List Row). row_named rs row.client row.name) (sym is ∙ valid.rows)
+        ∙ row_named-row numbered.widgets.entries id row valid.widgets.forest.own_numbers valid.widgets.forest.own_names there
+
+    shows : (id : ℕ) (a b : Row) → row_at before.widgets.entries id ≡ Some a → row_at after.widgets.entries id ≡ Some b → not (looks_alike (shown_film a) (shown_film b)) ≡ is_number (unless_refused reply (number_anew before.widgets client command payload)) id
+    shows id a b at_a at_b =
+        let key : key_of a ≡ key_of b = event.keys id a b at_a at_b in
+        let there : row_named (step desk client command payload short).1.rows a.client a.name ≡ Some b = ap (λ (k : ℕ × List ℕ). row_named (step desk client command payload short).1.rows k.0 k.1) key ∙ found after (step desk client command payload short).1.rows id b valid' rows' at_b in
+        (commands_show_anew desk client command payload short).each a.client a.name a b (found before desk.rows id a valid rows at_a) there
+        ∙ ap (λ (rs : List Row). nat_eq client a.client && option_map_or (λ one. bytes_eq one a.name) (unless_refused reply (shown_anew rs client command payload)) false) (sym rows ∙ valid.rows)
+        ∙ number-name before.widgets client id a (unless_refused reply anew) valid.widgets at_a
+        ∙ ap (λ (o : Option ℕ). is_number o id) (refused-then reply (id_named (nodes before.widgets.entries) client) anew)
+
+    tells : (id : ℕ) → list_any (nat_eq id) touched ≡ ((is_number_of client id && differ (kept_of before id) (kept_of after id)) || is_seen_anew (unless_refused reply (number_anew before.widgets client command payload)) before after id)
+    tells id =
+        told id
+        ∙ ap (λ (b : Bool). b || (is_number (unless_refused reply (where_shown before.widgets before.windows (number_anew before.widgets client command payload))) id && is_shown after id)) (kept-same (is_number_of client id) _ (kept_of before id) (kept_of after id) (kept.each id))
+        ∙ ap (λ (b : Bool). (is_number_of client id && differ (kept_of before id) (kept_of after id)) || b) (shown-then (is_shown_at before.widgets before.windows) reply (number_anew before.widgets client command payload) id (is_shown after id))
+
+-- What a step's calls say of it, each in the words of its clause: the looks kept before it and the VScreen that was asked
+-- for then, by the scene `s`, and what was told after it, by the scene `s'`.
+pub told-step : (desk : Desk) (client : ℕ) (command : Command) (payload : List ℕ) (short : Bool) (before after : Numbered) (reply : Reply) (next : Desk) (looks : List (Option Seen)) (anew : Option ℕ) (s s' : Scene) (touched : List ℕ)
+    → IsNumbered before → IsNumbered after → IsOwnEvent client before after
+    → (reply, next) ≡ step desk client command payload short → before.scene.rows ≡ desk.rows → after.scene.rows ≡ next.rows → s ≡ before.scene → s' ≡ after.scene
+    → ((id : ℕ) → is_number_of client id ≡ true → get_or looks (id - first_number client) None ≡ kept_look before.widgets before.windows s id)
+    → anew ≡ where_shown before.widgets before.windows (number_anew before.widgets client command payload)
+    → ((id : ℕ) → list_any (nat_eq id) touched ≡ is_told client looks (unless_refused reply anew) after.widgets after.windows s' id)
+    → TellsLooks before after touched
+told-step desk client command payload short before after reply next looks anew s s' touched valid valid' event stepped rows rows' scene scene' kept asked told =
+    steps_tell_looks desk client command payload short before after looks touched valid valid' event
+    (record { each = λ id own. kept id own ∙ ap (λ (t : Scene). kept_look before.widgets before.windows t id) scene })
+    rows
+    (rows' ∙ ap (λ (done : Reply × Desk). done.1.rows) stepped)
+    (λ id. told id
+    ∙ ap (λ (t : Scene). is_told client looks (unless_refused reply anew) after.widgets after.windows t id) scene'
+    ∙ ap (λ (o : Option ℕ). is_told client looks (unless_refused reply o) after.widgets after.windows after.scene id) asked
+    ∙ ap (λ (done : Reply × Desk). is_told client looks (unless_refused done.0 (where_shown before.widgets before.windows (number_anew before.widgets client command payload))) after.widgets after.windows after.scene id) stepped)
