@@ -1,12 +1,11 @@
 -- The kept places of the widget that is hit and of the one that is held are their places.
-use Rattle.std.proofs.Common.{◌≡◌, ◌<◌, ℕ, ℤ, pos, Bool, true, false, cond, List, [], ◌∷◌, Option, Some, None, is_some, unwrap_or, refl, sym, ap, ap₂, ◌∙◌, subst, arith}
-use Rattle.std.specs.List.{All, find, list_all}
-use Rattle.std.specs.Option.{option_map, option_map_or, option_and_then}
-use Rattle.std.proofs.lemmas.Bool.{true≢false, and_from}
+use Rattle.std.proofs.Common.{◌≡◌, ℕ, ℤ, pos, Bool, true, cond, List, [], ◌∷◌, Option, Some, None, refl, sym, ap, ap₂, ◌∙◌, subst}
+use Rattle.std.specs.List.{All, list_all}
+use Rattle.std.specs.Option.{option_map, option_map_or}
+use Rattle.std.proofs.lemmas.Bool.{and_from}
 use Rattle.std.proofs.lemmas.List.Elements.{All-head, All-tail}
 use Rattle.geom_core.specs.declared.rectangle.Rect.{Rect}
 use Rattle.geom_core.specs.Rect.{IsInRange}
-use Rattle.kind_core.specs.declared.kinds.Kind.{Kind}
 use Rattle.kind_core.specs.declared.kinds.Kind.TheVariants.{Window}
 use Rattle.widget_model.specs.Rows.{Row}
 use Rattle.widget_model.specs.Kinds.{is_window_kind}
@@ -14,7 +13,7 @@ use Rattle.widget_model.specs.Named.{is_kind_of}
 use Rattle.widget_model.specs.Keys.{key_of, row_of, root_key}
 use Rattle.widget_model.specs.Pointer as model
 use Rattle.widget_model.specs.Pointer.{no_grab}
-use Rattle.widget_model.specs.Widgets.{Widgets, IsLive, nodes, row_at, row_kind, key_at, rows_of, place_at}
+use Rattle.widget_model.specs.Widgets.{Widgets, IsLive, row_at, row_kind, key_at, rows_of, place_at}
 use Rattle.widget_model.specs.Forest.{IsWidgets}
 use Rattle.widget_model.proofs.Hanging.{all_at, find-element}
 use Rattle.tree_core.specs.declared.id.Id.{Id}
@@ -27,7 +26,6 @@ use Rattle.scene_model.specs.Scene.{Scene}
 use Rattle.scene_model.specs.Placing.{place_in}
 use Rattle.scene_model.specs.DuePlaces.{due_place}
 use Rattle.scene_model.specs.Showing.{place_of, top_of, shows_at}
-use Rattle.scene_model.specs.TopLaws.{IsOnTop}
 use Rattle.scene_model.proofs.TopWidget.{top_is_on_top}
 use Rattle.scene_model.proofs.Ranges.{places_are_in_range}
 use Rattle.scene_model.proofs.FitWidgets.{widgets_are_fit}
@@ -37,7 +35,6 @@ use Rattle.desk_model.specs.InputEffects as input
 use Rattle.desk_model.specs.Feeding.{grabbed}
 use Rattle.desk_model.proofs.Sound.{names_window}
 use Rattle.desk_model.proofs.KeptInputs.{window-root}
-use Rattle.input_core.specs.declared.hit.Hit.{Hit}
 use Rattle.input_core.specs.Numbered.{numbered}
 use Rattle.input_core.specs.Seen.{key_seen, hit_seen}
 use Rattle.input_core.proofs.Numbers.{numbered_row}

@@ -1,4 +1,4 @@
-use Rattle.std.proofs.Common.{◌≡◌, Option, ap₂, ◌∙◌}
+use Rattle.std.proofs.Common.{Option, ap₂, ◌∙◌}
 use Rattle.geom_core.specs.declared.rectangle.Rect.{Rect}
 use Rattle.widget_model.specs.Widgets.{rows_of}
 use Rattle.tree_core.specs.Holds.{pointer_seen}

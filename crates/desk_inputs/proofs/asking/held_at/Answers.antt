@@ -1,8 +1,7 @@
-use Rattle.std.proofs.Common.{◌≡◌, refl, sym, subst}
+use Rattle.std.proofs.Common.{refl, subst}
 use Rattle.scene_core.specs.View.{scene_of}
 use Rattle.input_core.specs.Live.{IsLiveGrab}
 use Rattle.desk_inputs.specs.Asked.{GrabIsUnderWindow}
-use Rattle.tree_core.specs.declared.pointer.Grab.{Grab}
 use Rattle.desk_inputs.proofs.AskedPlaces.{held-widget, held-drag, held-nothing}
 use Rattle.desk_inputs.proofs.asking.held_at.Goals as goal
 

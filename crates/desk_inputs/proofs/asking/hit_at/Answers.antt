@@ -1,4 +1,4 @@
-use Rattle.std.proofs.Common.{◌≡◌, ℤ, pos, to_z, w32, refl, sym, arith}
+use Rattle.std.proofs.Common.{◌≡◌, pos, to_z, w32, refl, arith}
 use Rattle.std.proofs.lemmas.Int.{ints}
 use Rattle.scene_core.specs.View.{scene_of}
 use Rattle.desk_inputs.proofs.AskedPlaces.{top-under, hit-seen, hit-none}
