@@ -1,11 +1,14 @@
 //! A desk that is asked by lines of text. A row of a table is `CLIENT LINE | TEXT`, where the line is a command, or
-//! `connect`, `bye` or `hello`; or it tells of the desk: `desk live | NUMBER`, `desk changed | BOOL`,
+//! `connect`, `bye` or `hello`; a command that comes with raw bytes, at most 128, gets so many of the letter A. A row
+//! `input INPUT | BOOL` gives the desk `motion X Y`, `press`, `release` or `key BYTE`, and tells whether it changed. Or a row
+//! tells of the desk: `desk live | NUMBER`, `desk changed | BOOL`,
 //! `desk window PLACE | X Y W H` or `| none`, and the same of the kept place of a client's widget, by
 //! `desk place CLIENT NAME`.
 ghost use Rattle.std.specs.Prelude.{◌≤◌};
 
 use arrayvec::ArrayString;
 use cmd_text::{Reply, parse, print_reply};
+use cmd_words::Input;
 use desk_core::Desk;
 use kind_core::{Shape, name_from};
 use script_lines::payload_size;
@@ -37,10 +40,12 @@ fn command(desk: &mut Desk, client: u32, line: &str) -> Result<Reply, Fail>
     }
     match parse(line.as_bytes()) {
         Ok(command) => {
-            if payload_size(&command) == 0 {
-                return Ok(desk.step(client, &command, &[]));
+            let bytes = [b'A'; 128];
+            let size = payload_size(&command) as usize;
+            if size > 128 {
+                return Err("the command comes with too many raw bytes".into());
             }
-            Err("the command comes with raw bytes".into())
+            Ok(desk.step(client, &command, &bytes[..size]))
         }
         Err(_) => Err("the line is no command".into()),
     }
@@ -97,6 +102,28 @@ fn kept_place(desk: &Desk, said: &str) -> Result<Option<(i32, i32, u32, u32)>, F
     }
 }
 
+/// The input that is written so.
+fn input(said: &str) -> Result<Input, Fail> {
+    match said {
+        "press" => return Ok(Input::Press),
+        "release" => return Ok(Input::Release),
+        _ => {}
+    }
+    let mut words = said.split_whitespace();
+    let first = words.next();
+    let x = number(&mut words)?.max(0) as u32;
+    match first {
+        Some("motion") => Ok(Input::Motion {
+            x,
+            y: number(&mut words)?.max(0) as u32,
+        }),
+        Some("key") => Ok(Input::Key {
+            byte: x.min(255) as u8,
+        }),
+        _ => Err("it is no input".into()),
+    }
+}
+
 /// Whether the desk is as the row says.
 fn is_so(desk: &Desk, said: &str, wanted: &str) -> Result<bool, Fail> {
     match said.split_once(' ') {
@@ -133,6 +160,11 @@ fn is_answered(
 fn holds(rt: &impl Abort, desk: &mut Desk, row: &str) -> Result<(), Fail> {
     let (said, wanted) = row.split_once(" | ").ok_or("a row has no answer")?;
     let (first, line) = said.split_once(' ').ok_or("a row has one word")?;
+    if first == "input" {
+        desk.feed(input(line)?);
+        assert!(rt; desk.changed() == (wanted == "true"), "at {row}");
+        return Ok(());
+    }
     if first == "desk" {
         assert!(rt; is_so(desk, line, wanted)?, "at {row}");
         return Ok(());

@@ -6,10 +6,14 @@ mod asking;
 #[cfg(test)]
 mod clients;
 #[cfg(test)]
+mod inputs;
+#[cfg(test)]
 mod placement;
 #[cfg(test)]
 mod places;
 #[cfg(test)]
 mod refusals;
+#[cfg(test)]
+mod screens;
 #[cfg(test)]
 mod widgets;
