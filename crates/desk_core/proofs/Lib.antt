@@ -4,5 +4,6 @@ pub mod ByeChanges
 mod Rosters
 mod CallSteps
 mod Calls
+mod Beats
 mod Views
 mod TouchedLooks

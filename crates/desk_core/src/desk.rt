@@ -1,4 +1,4 @@
-ghost use Rattle.std.specs.Prelude.{◌≡◌, ◌<◌, ◌≤◌, ◌↔◌, IsSome, IfSome, Some, true, false, [], length, slice_get};
+ghost use Rattle.std.specs.Prelude.{◌≡◌, ◌<◌, ◌≤◌, ◌↔◌, IsSome, IfSome, Some, true, false, [], length, slice_get, All, map};
 ghost use Rattle.std.specs.Bool.{OnTrue};
 ghost use Rattle.std.specs.Option.{option_map};
 ghost use Rattle.desk_model.specs.Desk.{opening_desk};
@@ -7,6 +7,10 @@ ghost use Rattle.desk_model.specs.Seen.{open_windows};
 ghost use Rattle.desk_model.specs.Clients.{free_client, step_bye, step_connect, step_hello};
 ghost use Rattle.scene_model.specs.Shapes.{IsShape};
 ghost use Rattle.desk_model.specs.Commands.{IsPayload, step};
+ghost use Rattle.desk_model.specs.Beat.{bands_next};
+ghost use Rattle.desk_model.specs.Beat as beats;
+ghost use Rattle.widget_model.specs.Widgets.{IsLive};
+ghost use Rattle.desk_commands.specs.Beating.{bands_named, bands_keyed};
 ghost use Rattle.desk_model.specs.OwnPart.{LeavesOthers};
 ghost use Rattle.desk_layout.specs.Numbers.{KeepsNumbers};
 ghost use Rattle.desk_layout.specs.Placed.{HaveDuePlaces};
@@ -25,7 +29,7 @@ use admit_core::Roster;
 use arrayvec::ArrayVec;
 use bind_core::Ring;
 use cmd_words::{Command, Refusal, Reply};
-use desk_commands::{close_windows, dismiss, is_poll, let_go, may_move, obey, place_of};
+use desk_commands::{beat, close_windows, dismiss, is_poll, let_go, may_move, obey, place_of};
 use desk_layout::settle;
 use scene_core::View;
 use scene_model::Shape;
@@ -34,6 +38,7 @@ use stack_core::Stack;
 use std::alloc::Global;
 use std::marker::Model;
 use tree_core::{Grab, Id, Pointer, Tree};
+use vscreen_core::Band;
 
 /// The desk: the connected clients, their widgets, the order of the open windows and the pointer. It answers each
 /// client's command, and keeps the places of the widgets. Contracts see the record `DeskView`: the desk of desk_model,
@@ -274,6 +279,26 @@ impl Desk {
         Reply::Done
     }
 
+    /// Takes the desk to its beat: the film of each admitted VScreen draws its band and goes on to its next phase.
+    /// Answers the bands, in pixels of their films, each with its VScreen, in the order of admission. It takes no memory,
+    /// and what the last call changed and touched is forgotten. See docs/MACHINE.md, "A tick".
+    pub fn beat(&mut self) -> ArrayVec<(Id, Band), 128>
+        ensures beat { self.new.desk ≡ beats.beat self.old.desk }
+        ensures bands { bands_named self.new.widgets.entries result.items ≡ bands_keyed (bands_next self.old.desk) }
+        ensures live { All (λ entry. IsLive self.new.widgets entry.0.key) result.items }
+        ensures valid { IsDesk self.new.desk }
+        ensures numbered { KeepsNumbers self.old.widgets.entries self.new.widgets.entries }
+        ensures numbers { map (λ entry. entry.0) self.new.widgets.entries ≡ map (λ entry. entry.0) self.old.widgets.entries }
+        ensures places { self.new.widgets.places ≡ self.old.widgets.places }
+        ensures windows { self.new.windows ≡ self.old.windows }
+        ensures unchanged { self.new.changed ≡ false }
+        ensures untouched { self.new.touched ≡ [] }
+    {
+        self.changed = false;
+        forget(&mut self.touched);
+        beat(&mut self.tree, &self.roster)
+    }
+
     /// What the desk shows, lent for a look: the widgets by their numbers with the places that are kept of them, the
     /// numbers of the open windows, the pointer and the screen's size. The kept place of each Window and of each widget
     /// under one is its place, in pixels of the screen; no other widget has one. See docs/MACHINE.md, "Layout".
@@ -309,7 +334,7 @@ impl Desk {
     }
 
     /// Whether the last call of `connect`, `hello`, `step` or `bye` changed the rows, the open windows or their
-    /// order; false before the first. See docs/MACHINE.md, "Commands".
+    /// order; false before the first and after a `beat`. See docs/MACHINE.md, "Commands".
     pub fn changed(&self) -> bool
         ensures { result ≡ self.now.changed }
     {
@@ -317,7 +342,7 @@ impl Desk {
     }
 
     /// The numbers of the widgets that were shown before the last call of `connect`, `hello`, `step` or `bye`, are shown
-    /// after it and look different, but for width and height; none before the first. See docs/MACHINE.md, "The reach of
+    /// after it and look different, but for width and height; none before the first and after a `beat`. See docs/MACHINE.md, "The reach of
     /// a change".
     pub fn touched(&self) -> &Touched
         ensures { result.now.looks.items ≡ self.now.touched }
