@@ -9,7 +9,7 @@ use Rattle.kind_core.specs.declared.values.Value.TheVariants.{Number, Words}
 use Rattle.kind_core.specs.declared.shapes.Cell.{Cell}
 use Rattle.vscreen_core.specs.FilmState.{FilmState}
 use Rattle.widget_model.specs.Rows.{Row}
-use Rattle.desk_core.specs.View.{DeskView, TellsChange}
+use Rattle.desk_core.specs.View.{DeskView, TellsChange, StaysUnlessChanged}
 
 -- what isn't otherwise is so
 abbrev IsStable : Type 0 → Type 0
@@ -139,9 +139,9 @@ row_stable =
     (λ row. refl)
     (pair_stable named_stable ruled_stable)
 
--- where a call says that it changed neither the rows nor the windows nor their order, they are as they were
-pub unchanged : (old new : DeskView) → TellsChange old new → new.changed ≡ false → (new.desk.rows ≡ old.desk.rows) × (new.desk.windows ≡ old.desk.windows)
-unchanged old new tells still = (
+-- a call that says rightly whether it changed the rows and the windows
+pub TellsChange-stays : (old new : DeskView) → TellsChange old new → StaysUnlessChanged old new
+TellsChange-stays old new tells still = (
   list_stable row_stable new.desk.rows old.desk.rows (λ n. true≢false (sym (tells.1 (λ both. n both.0)) ∙ still)),
   list_stable (pair_stable nat_stable bytes_stable) new.desk.windows old.desk.windows (λ n. true≢false (sym (tells.1 (λ both. n both.1)) ∙ still)),
 )

@@ -3,7 +3,6 @@ use Rattle.scene_model.specs.Scene.{Scene}
 use Rattle.scene_core.specs.View as views
 use Rattle.desk_model.specs.DeskFacts.{AreOpenOnce}
 use Rattle.server_core.proofs.Reaching.{marked_of_desks, shows_of_desk}
-use Rattle.server_core.proofs.Stable.{unchanged}
 use Rattle.server_core.proofs.UnchangedShots.{shot_unchanged}
 use Rattle.server_core.proofs.following.follow_call.Goals as goal
 
@@ -15,7 +14,7 @@ returns-then-changed c before calls = record {
 
 pub returns-else-changed : goal.returns-else-changed
 returns-else-changed c before calls =
-    let stays = unchanged before c.args.desk.now calls.changed (sym c.if-changed.ensures) in
+    let stays = calls.unchanged (sym c.if-changed.ensures) in
     let once : AreOpenOnce (views.scene_of c.view-view.result).windows = subst (λ (s : Scene). AreOpenOnce s.windows) (sym c.view-view.ensures.scene) calls.valid.once in
     let shot = shot_unchanged before c.args.desk.now c.view-view.result c.args.shown.now calls.shape stays.0 stays.1 calls.numbered c.view-view.ensures.scene c.view-view.ensures.tree c.view-view.ensures.stack c.view-view.ensures.view calls.shows in
     record {
