@@ -4,3 +4,4 @@ mod BeatShots
 mod Reaching
 mod StillShots
 mod UnchangedShots
+mod Stable

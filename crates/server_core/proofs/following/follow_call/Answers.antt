@@ -14,7 +14,7 @@ returns-then-changed c before calls = record {
 
 pub returns-else-changed : goal.returns-else-changed
 returns-else-changed c before calls =
-    let stays = calls.changed.stays (sym c.if-changed.ensures) in
+    let stays = calls.unchanged (sym c.if-changed.ensures) in
     let once : AreOpenOnce (views.scene_of c.view-view.result).windows = subst (λ (s : Scene). AreOpenOnce s.windows) (sym c.view-view.ensures.scene) calls.valid.once in
     let shot = shot_unchanged before c.args.desk.now c.view-view.result c.args.shown.now calls.shape stays.0 stays.1 calls.numbered c.view-view.ensures.scene c.view-view.ensures.tree c.view-view.ensures.stack c.view-view.ensures.view calls.shows in
     record {

@@ -14,7 +14,7 @@ follows c =
       valid = c.feed.ensures.valid;
       shows = c.self.invariant.1;
       numbered = c.feed.ensures.numbered;
-      changed = c.feed.ensures.changed;
+      unchanged = c.feed.ensures.unchanged;
       touched = c.feed.ensures.touched;
     })
 
