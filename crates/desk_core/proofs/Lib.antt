@@ -6,3 +6,6 @@ mod CallSteps
 mod Calls
 mod Views
 mod TouchedLooks
+mod FedPlaces
+mod CarriedParts
+mod FedDesks

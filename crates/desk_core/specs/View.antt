@@ -1,6 +1,6 @@
 -- What contracts see of the desk: the desk itself, whether the last call changed it, the numbered rows with the places
 -- that are kept of them, the numbers of the open windows, and those of the looks that the last call touched.
-use Rattle.std.specs.Prelude.{ℕ, ◌≡◌, ◌↔◌, Bool, IsTrue, List}
+use Rattle.std.specs.Prelude.{ℕ, ◌≡◌, ◌↔◌, Bool, IsTrue, false, List}
 use Rattle.widget_model.specs.Widgets.{Widgets}
 use Rattle.desk_model.specs.Desk.{Desk}
 
@@ -18,3 +18,7 @@ pub record DeskView : Type 0 where
 -- whether the call says rightly that it changed the rows, the open windows or their order
 abbrev pub TellsChange : DeskView → DeskView → Type 0
 TellsChange old new = IsTrue new.changed ↔ ¬ ((new.desk.rows ≡ old.desk.rows) × (new.desk.windows ≡ old.desk.windows))
+
+-- where the call says that it changed nothing, the rows, the open windows and their order are as they were
+abbrev pub StaysUnlessChanged : DeskView → DeskView → Type 0
+StaysUnlessChanged old new = new.changed ≡ false → (new.desk.rows ≡ old.desk.rows) × (new.desk.windows ≡ old.desk.windows)

@@ -7,10 +7,11 @@ ghost use Rattle.desk_model.specs.Seen.{open_windows};
 ghost use Rattle.desk_model.specs.Clients.{free_client, step_bye, step_connect, step_hello};
 ghost use Rattle.scene_model.specs.Shapes.{IsShape};
 ghost use Rattle.desk_model.specs.Commands.{IsPayload, step};
+ghost use Rattle.desk_model.specs.Feeding.{step_feed};
 ghost use Rattle.desk_model.specs.OwnPart.{LeavesOthers};
 ghost use Rattle.desk_layout.specs.Numbers.{KeepsNumbers};
 ghost use Rattle.desk_layout.specs.Placed.{HaveDuePlaces};
-ghost use Rattle.desk_core.specs.View.{TellsChange};
+ghost use Rattle.desk_core.specs.View.{StaysUnlessChanged, TellsChange};
 ghost use Rattle.desk_core.specs.Asking.{only_asks, StaysAsItWas};
 ghost use Rattle.desk_core.specs.Touching.{TellsTouched};
 ghost use Rattle.desk_model.specs.Seen as seen;
@@ -19,12 +20,13 @@ ghost use Rattle.desk_model.specs.Refusals.{is_memory};
 
 use crate::asking::answer_to;
 use crate::clients::Clients;
+use crate::feeding::{asked_on, carry_telling};
 use crate::polling::poll_reply;
 use crate::touching::{forget, keep_looks, screen_anew, tell_looks};
 use admit_core::Roster;
 use arrayvec::ArrayVec;
 use bind_core::Ring;
-use cmd_words::{Command, Refusal, Reply};
+use cmd_words::{Command, Input, Refusal, Reply};
 use desk_commands::{close_windows, dismiss, is_poll, let_go, may_move, obey, place_of};
 use desk_layout::settle;
 use scene_core::View;
@@ -274,6 +276,34 @@ impl Desk {
         Reply::Done
     }
 
+    /// Carries out what an input asks for: it can't be refused. The call says that it changed nothing only where the rows
+    /// and the open windows are as they were. See docs/MACHINE.md, "Input".
+    pub fn feed(&mut self, input: Input)
+        ensures step { self.new.desk ≡ step_feed self.old.desk input }
+        ensures valid { IsDesk self.new.desk }
+        ensures numbered { KeepsNumbers self.old.widgets.entries self.new.widgets.entries }
+        ensures unchanged { StaysUnlessChanged self.old self.new }
+        ensures touched { TellsTouched self.old self.new }
+    {
+        let effects = asked_on(
+            &self.tree,
+            &self.windows,
+            &self.pointer,
+            self.shape,
+            input,
+        );
+        self.changed = carry_telling(
+            &mut self.tree,
+            &mut self.windows,
+            &mut self.pointer,
+            &mut self.clients,
+            self.shape,
+            &effects,
+            16,
+            &mut self.touched,
+        );
+    }
+
     /// What the desk shows, lent for a look: the widgets by their numbers with the places that are kept of them, the
     /// numbers of the open windows, the pointer and the screen's size. The kept place of each Window and of each widget
     /// under one is its place, in pixels of the screen; no other widget has one. See docs/MACHINE.md, "Layout".
@@ -309,15 +339,16 @@ impl Desk {
     }
 
     /// Whether the last call of `connect`, `hello`, `step` or `bye` changed the rows, the open windows or their
-    /// order; false before the first. See docs/MACHINE.md, "Commands".
+    /// order; after `feed`, false only where it changed none of them; false before the first. See docs/MACHINE.md,
+    /// "Commands".
     pub fn changed(&self) -> bool
         ensures { result ≡ self.now.changed }
     {
         self.changed
     }
 
-    /// The numbers of the widgets that were shown before the last call of `connect`, `hello`, `step` or `bye`, are shown
-    /// after it and look different, but for width and height; none before the first. See docs/MACHINE.md, "The reach of
+    /// The numbers of the widgets that were shown before the last call of `connect`, `hello`, `step`, `feed` or `bye`, are
+    /// shown after it and look different, but for width and height; none before the first. See docs/MACHINE.md, "The reach of
     /// a change".
     pub fn touched(&self) -> &Touched
         ensures { result.now.looks.items ≡ self.now.touched }
