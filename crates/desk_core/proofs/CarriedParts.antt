@@ -1,7 +1,7 @@
 -- What is carried out of an input on the parts of a desk, and what they keep together after it.
-use Rattle.std.proofs.Common.{◌≡◌, ◌↔◌, IsTrue, ℕ, ℤ, Bool, true, false, ◌||◌, nat_eq, List, [], ◌∷◌, Option, Some, None, refl, sym, ap, ap₂, ◌∙◌, subst}
+use Rattle.std.proofs.Common.{◌≡◌, ℕ, Bool, true, false, nat_eq, List, [], ◌∷◌, None, refl, sym, ap, ap₂, ◌∙◌, subst}
 use Rattle.std.proofs.lemmas.Bool.{true≢false, eqb-true, eq-eqb}
-use Rattle.std.specs.Prelude.{map, IfSome}
+use Rattle.std.specs.Prelude.{map}
 use Rattle.std.specs.List.{fold}
 use Rattle.std.specs.Option.{option_map}
 use Rattle.kind_core.specs.declared.shapes.Shape.{Shape}
@@ -10,14 +10,12 @@ use Rattle.widget_model.specs.Rows.{Row}
 use Rattle.widget_model.specs.Nodes.{Node}
 use Rattle.widget_model.specs.Widgets.{Widgets, nodes, rows_of}
 use Rattle.widget_model.specs.Forest.{IsWidgets}
-use Rattle.tree_core.specs.declared.id.Id.{Id}
 use Rattle.tree_core.specs.declared.pointer.Pointer.{Pointer}
 use Rattle.input_core.specs.declared.effects.Effects.{Effects}
 use Rattle.input_core.specs.Seen.{key_seen, post_seen, effects_seen}
-use Rattle.desk_model.specs.Desk.{Desk, Ring}
+use Rattle.desk_model.specs.Desk.{Ring}
 use Rattle.desk_model.specs.LetGo.{let_go}
-use Rattle.desk_model.specs.Feeding.{rows_after, with_post, carried_out}
-use Rattle.scene_core.specs.Laid.{with_places}
+use Rattle.desk_model.specs.Feeding.{rows_after, with_post}
 use Rattle.desk_layout.specs.Placed.{HaveDuePlaces}
 use Rattle.desk_commands.specs.Parts.{desk_of, stage_of, windows_at, AreParts}
 use Rattle.desk_commands.specs.Pointer.{HoldsLive}
@@ -87,10 +85,11 @@ module _ (effects : Effects) (w given laid : Widgets) (keys keys' : List ℕ) (r
 
   unchanged-by : (raised ≡ false) × GivesNone effects → (rows_of laid ≡ rows_of w) × (windows_at (nodes laid.entries) keys' ≡ windows_at (nodes w.entries) keys)
   unchanged-by both =
-      let none = both.1 in
-      (laid_rows ∙ rows-none w.entries effects (rows_of w) none.0 none.1.0 none.1.1.0 none.1.1.1,
-      ap (λ (ns : List (ℕ × Node)). windows_at ns keys') laid_nodes
-      ∙ windows_stable (windows_at (nodes w.entries) keys') (windows_at (nodes w.entries) keys) (λ n. true≢false (sym (tells.1 (λ same. n same.1)) ∙ both.0)))
+      let none = both.1 in (
+        laid_rows ∙ rows-none w.entries effects (rows_of w) none.0 none.1.0 none.1.1.0 none.1.1.1,
+        ap (λ (ns : List (ℕ × Node)). windows_at ns keys') laid_nodes
+            ∙ windows_stable (windows_at (nodes w.entries) keys') (windows_at (nodes w.entries) keys) (λ n. true≢false (sym (tells.1 (λ same. n same.1)) ∙ both.0)),
+      )
 
   pub carried-all : (changed : Bool) → HaveDuePlaces laid → HoldsLive laid.entries after → (changed ≡ false → (raised ≡ false) × GivesNone effects)
       → ((shape : Shape) (roster : RosterState) (rings : List Ring) → desk_of (stage_of shape roster rings laid after) laid keys' ≡ let_go (desk_of (stage_of shape roster rings laid effects.pointer) laid keys'))

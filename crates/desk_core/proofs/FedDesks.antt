@@ -1,7 +1,6 @@
 -- What an input makes of the parts of a desk: the desk of its step, parts that keep what they kept, and the touched looks.
-use Rattle.std.proofs.Common.{◌≡◌, ◌≤◌, ◌<◌, ◌-◌, ◌*◌, ◌+◌, ℕ, Bool, true, false, ◌&&◌, ◌||◌, nat_eq, nat_lt, List, [], ◌∷◌, Option, Some, None, is_some, get_or, refl, sym, ap, ◌∙◌, subst, arith}
+use Rattle.std.proofs.Common.{◌≡◌, ◌≤◌, ◌<◌, ℕ, Bool, true, false, ◌&&◌, nat_eq, nat_lt, List, [], ◌∷◌, Option, Some, None, is_some, refl, sym, ap, ◌∙◌, subst, arith}
 use Rattle.std.proofs.lemmas.Bool.{true≢false, and_parts, and_from, lt-ltb}
-use Rattle.std.proofs.lemmas.Bool.Decides.{nat_tests}
 use Rattle.std.specs.Prelude.{IfSome}
 use Rattle.std.specs.List.{list_all, list_any}
 use Rattle.std.specs.Option.{option_map}
@@ -15,7 +14,7 @@ use Rattle.look_data.specs.Kept.{differ}
 use Rattle.widget_model.specs.Rows.{Row}
 use Rattle.widget_model.specs.Keys.{key_of}
 use Rattle.widget_model.specs.Named.{row_named}
-use Rattle.widget_model.specs.Nodes.{Node, node_at, first_number, is_number_of}
+use Rattle.widget_model.specs.Nodes.{Node, node_at}
 use Rattle.widget_model.specs.Widgets.{Widgets, IsLive, nodes, rows_of, row_at}
 use Rattle.widget_model.specs.Forest.{IsWidgets}
 use Rattle.tree_core.specs.declared.id.Id.{Id}
@@ -47,14 +46,13 @@ use Rattle.desk_inputs.specs.Asked.{effects_in}
 use Rattle.desk_inputs.specs.Raised.{is_open_at}
 use Rattle.desk_inputs.proofs.CarriedDesks.{effects_in-desk, fed-desk}
 use Rattle.desk_inputs.proofs.GivenValues.{live-kept}
-use Rattle.touch_rules.specs.Films.{looks_alike, shown_film}
-use Rattle.touch_rules.specs.Laws.{ShowsNumberAnew, kept_of}
+use Rattle.touch_rules.specs.Films.{shown_film}
+use Rattle.touch_rules.specs.Laws.{kept_of}
 use Rattle.touch_rules.proofs.ShownFilms.{alike-same}
 use Rattle.touch_rules.proofs.OwnLooks.{all_looks_are_enough, kept-none}
 use Rattle.desk_core.specs.View.{DeskView}
 use Rattle.desk_core.specs.Touching.{numbered_of, TellsTouched}
 use Rattle.desk_core.specs.Kept.{IsKept}
-use Rattle.desk_core.specs.ClientList.{clients_of}
 use Rattle.desk_core.specs.Feeding.{IsCarried}
 use Rattle.desk_core.proofs.Views.{view-scene}
 use Rattle.desk_core.proofs.Rosters.{lists-admitted}
@@ -135,39 +133,13 @@ module _ (shape : Shape) (pointer : Pointer) (rings : List Ring) (w : Widgets) (
           held = is.held;
           limit = kept.limit;
           listed = lists-admitted w' roster is.parts.tree
-          (record { valid = kept.listed.valid; live = entries-live w.entries w'.entries roster.entries is.same_nodes (admitted-live w.entries roster.entries kept.listed.admitted) })
-          kept_desk.roster.shares;
+              (record { valid = kept.listed.valid; live = entries-live w.entries w'.entries roster.entries is.same_nodes (admitted-live w.entries roster.entries kept.listed.admitted) })
+              kept_desk.roster.shares;
           desk = kept_desk;
           placed = is.placed;
           across = subst (λ (x : ℕ). x < shape.width) (sym at_x) on_screen.across;
           down = subst (λ (y : ℕ). y < shape.height) (sym at_y) on_screen.down;
         }
-
--- the looks of one more client are told
-module _ (client : ℕ) (low : 1 ≤ client) (looks : List (Option Seen)) (was now : ℕ → Option Seen) (before after : List ℕ)
-    (keeps : (id : ℕ) → is_number_of client id ≡ true → get_or looks (id - first_number client) None ≡ was id)
-    (rest : (id : ℕ) → list_any (nat_eq id) before ≡ (nat_lt id (128 * (client - 1)) && differ (was id) (now id)))
-    (more : (id : ℕ) → list_any (nat_eq id) after ≡ (list_any (nat_eq id) before || (is_number_of client id && differ (get_or looks (id - first_number client) None) (now id)))) where
-  one_more : (id : ℕ) → nat_lt id (128 * client) ≡ (nat_lt id (128 * (client - 1)) || is_number_of client id)
-  one_more id = grind (arith, nat_tests, low)
-
-  tests : (less own all differs : Bool) → all ≡ (less || own) → ((less && differs) || (own && differs)) ≡ (all && differs)
-  tests true true all true is = sym (ap (λ (b : Bool). b && true) is)
-  tests true true all false is = sym (ap (λ (b : Bool). b && false) is)
-  tests true false all true is = sym (ap (λ (b : Bool). b && true) is)
-  tests true false all false is = sym (ap (λ (b : Bool). b && false) is)
-  tests false own all differs is = sym (ap (λ (b : Bool). b && differs) is)
-
-  pub told-more : (id : ℕ) → list_any (nat_eq id) after ≡ (nat_lt id (128 * client) && differ (was id) (now id))
-  told-more id =
-      more id
-      ∙ ap (λ (b : Bool). b || (is_number_of client id && differ (get_or looks (id - first_number client) None) (now id))) (rest id)
-      ∙ ap (λ (b : Bool). (nat_lt id (128 * (client - 1)) && differ (was id) (now id)) || b) (by (is_number_of client id) refl)
-      ∙ tests (nat_lt id (128 * (client - 1))) (is_number_of client id) (nat_lt id (128 * client)) (differ (was id) (now id)) (one_more id)
-    where
-      by : (own : Bool) → is_number_of client id ≡ own → (own && differ (get_or looks (id - first_number client) None) (now id)) ≡ (own && differ (was id) (now id))
-      by true e = ap (λ (look : Option Seen). differ look (now id)) (keeps id e)
-      by false e = refl
 
 -- the looks of all clients are told
 module _ (old new : DeskView) (effects : Effects) (before : IsWidgets old.widgets) (after : IsWidgets new.widgets)
@@ -183,11 +155,11 @@ module _ (old new : DeskView) (effects : Effects) (before : IsWidgets old.widget
       let was : row_named (rows_of old.widgets) a.client a.name ≡ Some a = row_named-row old.widgets.entries id a before.forest.own_numbers before.forest.own_names at_a in
       let now : row_named (rows_of new.widgets) b.client b.name ≡ Some b = row_named-row new.widgets.entries id b after.forest.own_numbers after.forest.own_names at_b in
       let both : Some b ≡ Some (fed_row seen_effects a) =
-          sym now
-          ∙ ap (λ (key : ℕ × List ℕ). row_named (rows_of new.widgets) key.0 key.1) (sym keys)
-          ∙ ap (λ (rs : List Row). row_named rs a.client a.name) rows
-          ∙ row_named-fed seen_effects (rows_of old.widgets) a.client a.name
-          ∙ ap (option_map (fed_row seen_effects)) was in
+      sym now
+      ∙ ap (λ (key : ℕ × List ℕ). row_named (rows_of new.widgets) key.0 key.1) (sym keys)
+      ∙ ap (λ (rs : List Row). row_named rs a.client a.name) rows
+      ∙ row_named-fed seen_effects (rows_of old.widgets) a.client a.name
+      ∙ ap (option_map (fed_row seen_effects)) was in
       let same : b ≡ fed_row seen_effects a = cc in
       let stays = fed_row-same seen_effects a in
       ap shown_film same ∙ ap (λ (k : Kind). shown_film (record (fed_row seen_effects a) { kind = k })) stays.kind

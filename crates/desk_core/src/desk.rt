@@ -285,13 +285,7 @@ impl Desk {
         ensures unchanged { StaysUnlessChanged self.old self.new }
         ensures touched { TellsTouched self.old self.new }
     {
-        let effects = asked_on(
-            &self.tree,
-            &self.windows,
-            &self.pointer,
-            self.shape,
-            input,
-        );
+        let effects = asked_on(&self.tree, &self.windows, &self.pointer, self.shape, input);
         self.changed = carry_telling(
             &mut self.tree,
             &mut self.windows,

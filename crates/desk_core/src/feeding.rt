@@ -147,7 +147,10 @@ fn lay_asked(tree: &mut Tree, effects: &Effects)
 fn gives_values(effects: &Effects) -> bool
     ensures { result ≡ false → (effects.now.value ≡ None) × ((effects.now.text ≡ None) × ((effects.now.caret ≡ None) × (effects.now.moved ≡ None))) }
 {
-    effects.value.is_some() || effects.text.is_some() || effects.caret.is_some() || effects.moved.is_some()
+    effects.value.is_some()
+        || effects.text.is_some()
+        || effects.caret.is_some()
+        || effects.moved.is_some()
 }
 
 /// Carries out what an input asks for: the events are posted, the window is raised, the values are given, the widgets

@@ -1,4 +1,4 @@
-use Rattle.std.proofs.Common.{◌||◌, ℕ, Bool, false, Option, sym, ap, subst}
+use Rattle.std.proofs.Common.{◌||◌, ℕ, Bool, false, Option, sym, subst}
 use Rattle.std.specs.Option.{option_map}
 use Rattle.tree_core.specs.declared.id.Id.{Id}
 use Rattle.desk_core.specs.Feeding.{is_named, HavePlacesBut}

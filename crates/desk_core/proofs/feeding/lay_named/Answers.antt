@@ -1,4 +1,4 @@
-use Rattle.std.proofs.Common.{◌||◌, ℕ, Bool, Option, sym, subst}
+use Rattle.std.proofs.Common.{◌||◌, Option, subst}
 use Rattle.tree_core.specs.declared.id.Id.{Id}
 use Rattle.desk_core.specs.Feeding.{is_named, HavePlacesBut}
 use Rattle.desk_core.proofs.FedPlaces.{owner-range, due-laid}

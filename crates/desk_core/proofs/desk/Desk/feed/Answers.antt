@@ -1,4 +1,4 @@
-use Rattle.std.proofs.Common.{◌≡◌, ℕ, ap, sym, ◌∙◌, subst, true, Bool, nat_eq, nat_lt, ◌&&◌}
+use Rattle.std.proofs.Common.{◌≡◌, ℕ, ap, ◌∙◌, subst, nat_eq, nat_lt, ◌&&◌}
 use Rattle.std.specs.List.{list_any}
 use Rattle.look_data.specs.Kept.{differ, kept_look}
 use Rattle.widget_model.specs.Forest.{IsWidgets}
