@@ -3,3 +3,4 @@ pub mod Tags
 pub mod RaisedWindows
 pub mod AskedPlaces
 pub mod CarriedDesks
+pub mod FedParts
