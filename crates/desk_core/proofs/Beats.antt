@@ -56,6 +56,8 @@ module _ (shape : Shape) (pointer : Pointer) (rings : List Ring) (w : Widgets) (
           };
           held = holds.live;
           limit = kept.limit;
+          across = kept.across;
+          down = kept.down;
           listed = listed;
           desk = subst IsDesk (sym beaten-desk) (beats_keep unbeaten kept.desk);
           placed = due-beaten w new roster stage keys kept.parts.tree valid kept.placed numbered places (beats stage keys);

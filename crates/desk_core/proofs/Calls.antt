@@ -1,5 +1,5 @@
 -- What each call of the desk makes of its parts: the desk of its event's step, and parts that keep what they kept.
-use Rattle.std.proofs.Common.{◌≡◌, ◌≤◌, ℕ, ◌-◌, Bool, true, false, cond, not, ◌&&◌, nat_eq, List, [], ◌∷◌, ◌++◌, Option, Some, None, refl, sym, ap, ap₂, ◌∙◌, subst}
+use Rattle.std.proofs.Common.{◌≡◌, ◌≤◌, ◌<◌, ℕ, ◌-◌, Bool, true, false, cond, not, ◌&&◌, nat_eq, List, [], ◌∷◌, ◌++◌, Option, Some, None, refl, sym, ap, ap₂, ◌∙◌, subst}
 use Rattle.std.specs.Prelude.{pos}
 use Rattle.std.specs.List.{filter, list_all}
 use Rattle.std.specs.Cmp.{nat_eq_equiv}
@@ -63,10 +63,15 @@ connected-joined stage clients w keys client there kept is = ap (λ (cs : List �
 pub free-joined : (stage : Stage) (clients : List ℕ) (w : Widgets) (keys : List ℕ) (free : Option ℕ) → AreParts clients w keys → free ≡ free_client clients → free_client (desk_of stage w keys).clients ≡ free
 free-joined stage clients w keys free kept is = ap free_client (sym kept.clients) ∙ sym is
 
+-- the pointer stays where it is as it lets go
+pub let_go-stays : (shape : Shape) (roster : RosterState) (rings : List Ring) (w : Widgets) (keys : List ℕ) (pointer after : Pointer) → desk_of (stage_of shape roster rings w after) w keys ≡ let_go (desk_of (stage_of shape roster rings w pointer) w keys) → (after.x ≡ pointer.x) × (after.y ≡ pointer.y)
+unfolding let_go
+let_go-stays shape roster rings w keys pointer after end = (ap (λ (d : Desk). d.pointer.x) end, ap (λ (d : Desk). d.pointer.y) end)
+
 -- the parts of a desk at opening
-pub IsKept-opening : (shape : Shape) (pointer : Pointer) (rings : List Ring) (w : Widgets) (keys : List ℕ) (roster : RosterState) → IsShape shape → desk_of (stage_of shape (empty_roster (shape.budget - shape.spare)) [] no_widgets pointer) no_widgets [] ≡ opening_desk shape → HoldsLive [] pointer → rings ≡ [] → w ≡ no_widgets → keys ≡ [] → roster ≡ empty_roster (shape.budget - shape.spare) → IsWidgets w → IsStack keys → IsRoster roster → IsKept shape pointer rings w keys roster
+pub IsKept-opening : (shape : Shape) (pointer : Pointer) (rings : List Ring) (w : Widgets) (keys : List ℕ) (roster : RosterState) → IsShape shape → desk_of (stage_of shape (empty_roster (shape.budget - shape.spare)) [] no_widgets pointer) no_widgets [] ≡ opening_desk shape → HoldsLive [] pointer → pointer.x < shape.width → pointer.y < shape.height → rings ≡ [] → w ≡ no_widgets → keys ≡ [] → roster ≡ empty_roster (shape.budget - shape.spare) → IsWidgets w → IsStack keys → IsRoster roster → IsKept shape pointer rings w keys roster
 unfolding empty_roster
-IsKept-opening shape pointer rings w keys roster is opening held none_connected none none_open none_admitted tree stack valid =
+IsKept-opening shape pointer rings w keys roster is opening held across down none_connected none none_open none_admitted tree stack valid =
     let P : List Ring → Widgets → List ℕ → RosterState → Type 0 = λ rs v ks r. IsWidgets v → IsStack ks → IsRoster r → IsKept shape pointer rs v ks r in
     subst (λ rs. P rs w keys roster) (sym none_connected) (subst (λ v. P [] v keys roster) (sym none) (subst (λ ks. P [] no_widgets ks roster) (sym none_open) (subst (λ r. P [] no_widgets [] r) (sym none_admitted)
     (λ tree stack valid. record {
@@ -76,6 +81,8 @@ IsKept-opening shape pointer rings w keys roster is opening held none_connected 
       listed = record { valid = valid; admitted = refl };
       desk = subst IsDesk (sym opening) (IsDesk-opening shape is);
       placed = record { each = λ id row there. absurd (cc) };
+      across = across;
+      down = down;
     })))) tree stack valid
 
 -- a client joins: the rows and the open windows stay
@@ -141,6 +148,8 @@ module _ (shape : Shape) (pointer : Pointer) (rings now : List Ring) (w new : Wi
         limit = kept.limit;
         listed = subst (λ (v : Widgets). ListsAdmitted v.entries roster) (sym left) kept.listed;
         placed = joined-placed w new client left kept.placed;
+        across = kept.across;
+        down = kept.down;
         desk = desk;
       }
 
@@ -238,6 +247,8 @@ module _ (shape : Shape) (pointer : Pointer) (rings : List Ring) (w new : Widget
             listed = lists-admitted laid roster' is.changed.valid (subst (λ (v : Widgets). AreListed v.entries roster') (sym is.changed.same) did.listed) kept_desk.roster.shares;
             desk = kept_desk;
             placed = placed-by low (λ h. obeyed-still changed tells (sym moved ∙ h)) moves refl;
+            across = subst (λ (x : ℕ). x < shape.width) (sym (let_go-stays shape roster' rings laid keys' pointer after end).0) kept.across;
+            down = subst (λ (y : ℕ). y < shape.height) (sym (let_go-stays shape roster' rings laid keys' pointer after end).1) kept.down;
           }
 
 -- `poll`: the client's ring changes, and nothing else
@@ -263,6 +274,8 @@ module _ (shape : Shape) (pointer : Pointer) (rings now : List Ring) (w : Widget
         listed = kept.listed;
         desk = subst IsDesk (sym (ap (λ (done : Reply × Desk). done.1) polled-step)) (IsDesk-command unpolled client command payload (is_memory reply) kept.desk);
         placed = kept.placed;
+        across = kept.across;
+        down = kept.down;
       }
 
 -- `bye`: the client's windows close, the pointer lets go, and then the client's widgets go
@@ -345,4 +358,6 @@ module _ (shape : Shape) (pointer after : Pointer) (rings now : List Ring) (w ne
         listed = lists-admitted new roster' tree listed kept_desk.roster.shares;
         desk = kept_desk;
         placed = subst HaveDuePlaces (sym left) (departed-due w client kept.parts.tree low (subst IsWidgets left tree) kept.placed);
+        across = subst (λ (x : ℕ). x < shape.width) (sym (let_go-stays shape roster rings w keys' pointer after end).0) kept.across;
+        down = subst (λ (y : ℕ). y < shape.height) (sym (let_go-stays shape roster rings w keys' pointer after end).1) kept.down;
       }

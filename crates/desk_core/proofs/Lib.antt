@@ -7,3 +7,6 @@ mod Calls
 mod Beats
 mod Views
 mod TouchedLooks
+mod FedPlaces
+mod CarriedParts
+mod FedDesks

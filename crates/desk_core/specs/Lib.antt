@@ -3,3 +3,4 @@ pub mod View
 pub mod Touching
 pub mod Kept
 pub mod Asking
+pub mod Feeding

@@ -7,6 +7,7 @@ ghost use Rattle.desk_model.specs.Seen.{open_windows};
 ghost use Rattle.desk_model.specs.Clients.{free_client, step_bye, step_connect, step_hello};
 ghost use Rattle.scene_model.specs.Shapes.{IsShape};
 ghost use Rattle.desk_model.specs.Commands.{IsPayload, step};
+ghost use Rattle.desk_model.specs.Feeding.{step_feed};
 ghost use Rattle.desk_model.specs.Beat.{bands_next};
 ghost use Rattle.desk_model.specs.Beat as beats;
 ghost use Rattle.widget_model.specs.Widgets.{IsLive};
@@ -14,7 +15,7 @@ ghost use Rattle.desk_commands.specs.Beating.{bands_named, bands_keyed};
 ghost use Rattle.desk_model.specs.OwnPart.{LeavesOthers};
 ghost use Rattle.desk_layout.specs.Numbers.{KeepsNumbers};
 ghost use Rattle.desk_layout.specs.Placed.{HaveDuePlaces};
-ghost use Rattle.desk_core.specs.View.{TellsChange};
+ghost use Rattle.desk_core.specs.View.{StaysUnlessChanged, TellsChange};
 ghost use Rattle.desk_core.specs.Asking.{only_asks, StaysAsItWas};
 ghost use Rattle.desk_core.specs.Touching.{TellsTouched};
 ghost use Rattle.desk_model.specs.Seen as seen;
@@ -23,12 +24,13 @@ ghost use Rattle.desk_model.specs.Refusals.{is_memory};
 
 use crate::asking::answer_to;
 use crate::clients::Clients;
+use crate::feeding::{asked_on, carry_telling};
 use crate::polling::poll_reply;
 use crate::touching::{forget, keep_looks, screen_anew, tell_looks};
 use admit_core::Roster;
 use arrayvec::ArrayVec;
 use bind_core::Ring;
-use cmd_words::{Command, Refusal, Reply};
+use cmd_words::{Command, Input, Refusal, Reply};
 use desk_commands::{beat, close_windows, dismiss, is_poll, let_go, may_move, obey, place_of};
 use desk_layout::settle;
 use scene_core::View;
@@ -279,6 +281,28 @@ impl Desk {
         Reply::Done
     }
 
+    /// Carries out what an input asks for: it can't be refused. The call says that it changed nothing only where the rows
+    /// and the open windows are as they were. See docs/MACHINE.md, "Input".
+    pub fn feed(&mut self, input: Input)
+        ensures step { self.new.desk ≡ step_feed self.old.desk input }
+        ensures valid { IsDesk self.new.desk }
+        ensures numbered { KeepsNumbers self.old.widgets.entries self.new.widgets.entries }
+        ensures unchanged { StaysUnlessChanged self.old self.new }
+        ensures touched { TellsTouched self.old self.new }
+    {
+        let effects = asked_on(&self.tree, &self.windows, &self.pointer, self.shape, input);
+        self.changed = carry_telling(
+            &mut self.tree,
+            &mut self.windows,
+            &mut self.pointer,
+            &mut self.clients,
+            self.shape,
+            &effects,
+            16,
+            &mut self.touched,
+        );
+    }
+
     /// Takes the desk to its beat: the film of each admitted VScreen draws its band and goes on to its next phase.
     /// Answers the bands, in pixels of their films, each with its VScreen, in the order of admission. It takes no memory,
     /// and what the last call changed and touched is forgotten. See docs/MACHINE.md, "A tick".
@@ -334,16 +358,17 @@ impl Desk {
     }
 
     /// Whether the last call of `connect`, `hello`, `step` or `bye` changed the rows, the open windows or their
-    /// order; false before the first and after a `beat`. See docs/MACHINE.md, "Commands".
+    /// order; after `feed`, false only where it changed none of them; false before the first and after a `beat`. See
+    /// docs/MACHINE.md, "Commands".
     pub fn changed(&self) -> bool
         ensures { result ≡ self.now.changed }
     {
         self.changed
     }
 
-    /// The numbers of the widgets that were shown before the last call of `connect`, `hello`, `step` or `bye`, are shown
-    /// after it and look different, but for width and height; none before the first and after a `beat`. See docs/MACHINE.md, "The reach of
-    /// a change".
+    /// The numbers of the widgets that were shown before the last call of `connect`, `hello`, `step`, `feed` or `bye`, are
+    /// shown after it and look different, but for width and height; none before the first and after a `beat`. See
+    /// docs/MACHINE.md, "The reach of a change".
     pub fn touched(&self) -> &Touched
         ensures { result.now.looks.items ≡ self.now.touched }
     {

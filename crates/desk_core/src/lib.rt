@@ -4,6 +4,7 @@
 mod asking;
 mod clients;
 mod desk;
+mod feeding;
 pub mod laws;
 mod member;
 mod polling;

@@ -1,9 +1,9 @@
 //! The looks that a call touched: a client's are kept before it and compared after it.
 
-ghost use Rattle.std.specs.Prelude.{◌≡◌, ◌≤◌, ◌-◌, ℕ, nat_eq, true, [], None, slice_index_or};
+ghost use Rattle.std.specs.Prelude.{◌≡◌, ◌≤◌, ◌-◌, ◌+◌, ◌||◌, ◌&&◌, ℕ, length, nat_eq, true, [], None, slice_index_or};
 ghost use Rattle.std.specs.List.{list_any};
 ghost use Rattle.std.specs.Option.{option_map};
-ghost use Rattle.look_data.specs.Kept.{kept_look};
+ghost use Rattle.look_data.specs.Kept.{differ, kept_look};
 ghost use Rattle.scene_core.specs.View.{scene_from};
 ghost use Rattle.touch_rules.specs.Films.{unless_refused};
 ghost use Rattle.touch_rules.specs.Telling.{is_told, number_anew, where_shown};
@@ -96,4 +96,31 @@ pub(crate) fn tell_looks(
         height: shape.height,
     };
     tell_touched(&view, client, before, anew, reply, touched);
+}
+
+/// Tells which of the client's looks have changed besides those that were told before.
+pub(crate) fn tell_more(
+    before: &ClientLooks,
+    tree: &Tree,
+    windows: &Stack,
+    pointer: &Pointer,
+    shape: Shape,
+    client: u32,
+    touched: &mut Touched,
+)
+    requires widgets { IsWidgets tree.now }
+    requires low { 1 ≤ client }
+    requires high { client ≤ 16 }
+    requires room { length touched.old.looks.items ≤ 1920 }
+    ensures told { (id : ℕ) → list_any (nat_eq id) touched.new.looks.items ≡ (list_any (nat_eq id) touched.old.looks.items || (is_number_of client id && differ (slice_index_or before.now (id - first_number client) None) (kept_look tree.now windows.now (scene_from tree.now windows.now pointer.now shape.width shape.height) id))) }
+    ensures few { length touched.new.looks.items ≤ length touched.old.looks.items + 128 }
+{
+    let view = View {
+        tree,
+        stack: windows,
+        pointer,
+        width: shape.width,
+        height: shape.height,
+    };
+    before.tell_more(&view, client, touched);
 }

@@ -1,5 +1,5 @@
 -- Which pixels the bands of the roster's VScreens show after a beat: those that lie in a band.
-use Rattle.std.proofs.Common.{◌≡◌, ℕ, ◌*◌, ◌<◌, ◌/◌, ◌%◌, ℤ, pos, Bool, true, false, cond, not, ◌&&◌, ◌||◌, nat_lt, nat_eq, List, [], ◌∷◌, map, Option, Some, None, refl, sym, ap, ◌∙◌, subst, slice_get, arith}
+use Rattle.std.proofs.Common.{◌≡◌, ℕ, ◌*◌, ◌/◌, ◌%◌, ℤ, pos, Bool, true, false, cond, not, ◌&&◌, ◌||◌, nat_lt, nat_eq, List, [], ◌∷◌, map, Option, Some, None, refl, sym, ap, ◌∙◌, subst, arith}
 use Rattle.std.specs.List.{list_any, list_all, All, find, count_by, range_with_len}
 use Rattle.std.specs.Option.{option_map, option_map_or, option_and_then}
 use Rattle.std.specs.Str.{bytes_eq}
@@ -9,7 +9,6 @@ use Rattle.std.proofs.lemmas.Bool.Decides.{nat_tests}
 use Rattle.std.proofs.Math.Nat.{mul_comm}
 use Rattle.std.proofs.lemmas.List.Sums.{sum_by-cons}
 use Rattle.std.proofs.lemmas.Slice.Eq.{bytes_eq-Decides}
-use Rattle.geom_core.specs.declared.rectangle.Rect.{Rect}
 use Rattle.geom_core.specs.Count.{count_in, screen_of, true_count, marks_on}
 use Rattle.geom_core.proofs.ScreenLemmas.{true_count-marks_on}
 use Rattle.vscreen_core.specs.declared.band.Band.{Band}
@@ -20,14 +19,13 @@ use Rattle.vscreen_core.proofs.Periods.{band_was_drawn}
 use Rattle.tree_core.specs.declared.id.Id.{Id}
 use Rattle.tree_core.proofs.Listed.{All-at}
 use Rattle.widget_model.specs.Rows.{Row}
-use Rattle.widget_model.specs.Keys.{key_of, same_key, row_of}
+use Rattle.widget_model.specs.Keys.{same_key, row_of}
 use Rattle.widget_model.specs.Named.{row_named, has_name}
 use Rattle.widget_model.specs.Trees.{is_admitted}
 use Rattle.widget_model.specs.Widgets.{key_at}
 use Rattle.widget_model.specs.Fitting.{IsFitFilm}
 use Rattle.widget_model.proofs.Hanging.{find-element, all_at}
 use Rattle.scene_model.specs.Scene.{Scene}
-use Rattle.scene_model.specs.Shapes.{area}
 use Rattle.scene_model.specs.Showing.{place_of, top_of}
 use Rattle.scene_model.specs.Bands.{lying_at, is_top, film_in_band, shows_band}
 use Rattle.scene_model.specs.Bands as bands
@@ -35,10 +33,9 @@ use Rattle.desk_model.specs.Desk.{Desk, Admission, is_admission}
 use Rattle.desk_model.specs.DeskFacts.{IsDesk, has_its_share, is_listed, AreAdmittedOnce}
 use Rattle.desk_model.specs.Screens.{film_named}
 use Rattle.desk_model.specs.Seen.{scene_of}
-use Rattle.desk_model.specs.Beat.{beat, band_next, bands_next, in_band_of, in_band, is_banded, band_count}
+use Rattle.desk_model.specs.Beat.{beat, band_next, bands_next, in_band_of, in_band, band_count}
 use Rattle.desk_model.proofs.BeatRows.{film_beaten, film_beaten-keeps, film_named-beaten}
 use Rattle.machine_model.proofs.DamageKeys.{same_key-from}
-use Rattle.painter_core.specs.Banding.{view_shows_band}
 use Rattle.painter_core.proofs.KeyLemmas.{same_key-true}
 use Rattle.scene_core.specs.declared.view.View.{View}
 use Rattle.scene_core.specs.View as views

@@ -1,19 +1,14 @@
 -- A beat moves nothing: the shot of what the desk showed before it is the shot of what it shows after it.
 use Rattle.std.proofs.Common.{◌≡◌, ℕ, ℤ, pos, Bool, true, false, cond, nat_eq, List, [], ◌∷◌, map, Option, Some, None, refl, sym, ap, ◌∙◌}
-use Rattle.std.specs.Prelude.{IsSomeAnd}
-use Rattle.std.specs.List.{list_any}
 use Rattle.std.specs.Option.{option_map, option_map_or, option_and_then}
 use Rattle.geom_core.specs.declared.rectangle.Rect.{Rect}
-use Rattle.kind_core.specs.declared.shapes.Shape.{Shape}
-use Rattle.shot_core.specs.declared.spot.Spot.{Spot}
-use Rattle.shot_core.specs.Shot.{Seen, spot_at}
-use Rattle.tree_core.specs.declared.pointer.Pointer.{Pointer}
+use Rattle.shot_core.specs.Shot.{Seen}
 use Rattle.tree_core.proofs.Listed.{numbered_place}
 use Rattle.widget_model.specs.Rows.{Row}
 use Rattle.widget_model.specs.Nodes.{Node, id_named}
 use Rattle.widget_model.specs.Keys.{key_of}
 use Rattle.widget_model.specs.Trees.{root_of}
-use Rattle.widget_model.specs.Widgets.{Widgets, nodes, rows_of, row_at, key_at}
+use Rattle.widget_model.specs.Widgets.{Widgets, nodes, row_at, key_at}
 use Rattle.widget_model.specs.Relatives.{parent_id, root_id}
 use Rattle.scene_model.specs.Scene.{Scene}
 use Rattle.scene_model.specs.Placing.{place_in}
@@ -22,12 +17,12 @@ use Rattle.scene_model.proofs.Still.{still_places}
 use Rattle.scene_model.proofs.StillTops.{scene_changed, root_of-still, shows_at-still}
 use Rattle.scene_core.specs.declared.view.View.{View}
 use Rattle.scene_core.specs.View as views
-use Rattle.scene_core.specs.Shots.{IsSpotBy, IsShotBy, is_shown_id, place_by, shows_by}
+use Rattle.scene_core.specs.Shots.{place_by, shows_by}
 use Rattle.desk_model.specs.Desk.{Desk}
 use Rattle.desk_model.specs.Seen.{scene_of}
 use Rattle.desk_model.specs.Beat.{beat, row_beaten}
 use Rattle.desk_model.proofs.BeatRows.{client-beaten, name-beaten, kind-beaten, attached-beaten, MovesNothing-beaten}
-use Rattle.damage_rules.specs.Views.{Sight, IsShotIn, scene_in}
+use Rattle.damage_rules.specs.Views.{scene_in}
 use Rattle.drawing_core.specs.Following.{sight_of}
 use Rattle.desk_core.specs.View.{DeskView}
 use Rattle.server_core.specs.Serving.{ShowsDesk}

@@ -1,5 +1,5 @@
 -- From what a server's parts do to a step of the machine.
-use Rattle.std.proofs.Common.{◌≡◌, ℕ, ◌+◌, ◌-◌, ◌*◌, ◌<◌, ◌≤◌, min, pos, Bool, true, false, not, ◌&&◌, ◌||◌, cond, List, length, get_or, replicate, refl, sym, ap, ◌∙◌, subst, arith}
+use Rattle.std.proofs.Common.{◌≡◌, ℕ, ◌+◌, ◌-◌, ◌*◌, ◌≤◌, min, pos, Bool, true, false, not, ◌&&◌, ◌||◌, cond, List, length, get_or, replicate, refl, sym, ap, ◌∙◌, subst, arith}
 use Rattle.cmd_words.specs.declared.inputs.Drew.{Drew}
 use Rattle.cmd_words.specs.declared.replies.Reply.{Reply}
 use Rattle.kind_core.specs.declared.shapes.Shape.{Shape}
@@ -17,7 +17,7 @@ use Rattle.desk_model.specs.Refusals.{is_memory}
 use Rattle.desk_model.specs.Beat.{beat, in_band, band_count}
 use Rattle.machine_model.specs.Damage.{in_reach}
 use Rattle.machine_model.specs.Reach.{is_reached}
-use Rattle.machine_model.specs.State.{IsState, opening}
+use Rattle.machine_model.specs.State.{opening}
 use Rattle.machine_model.specs.Step.{Changed, Answered, Ticked}
 use Rattle.machine_model.proofs.Beat.{shape-beat, bands_fit}
 use Rattle.machine_model.proofs.Steps.{IsState-changed, IsState-ticked}
@@ -25,7 +25,6 @@ use Rattle.scene_core.specs.declared.view.View.{View}
 use Rattle.scene_core.specs.View as views
 use Rattle.drawing_core.specs.Banding.{BandsDrawn}
 use Rattle.drawing_core.specs.Drawing.{Drawn}
-use Rattle.drawing_core.specs.Marking.{Marked}
 use Rattle.server_core.specs.Serving.{state_of, IsServing}
 use Rattle.server_core.specs.Calls.{MarkedReach}
 use Rattle.server_core.proofs.BandPixels.{IsHanded, shown_is_banded, bands-counted}

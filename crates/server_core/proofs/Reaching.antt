@@ -9,7 +9,7 @@ use Rattle.look_core.specs.Same.{same_look}
 use Rattle.stack_core.specs.Stack.{holds_key}
 use Rattle.widget_model.specs.Rows.{Row}
 use Rattle.widget_model.specs.Keys.{key_of}
-use Rattle.widget_model.specs.Widgets.{Widgets, row_at, key_at}
+use Rattle.widget_model.specs.Widgets.{Widgets, row_at}
 use Rattle.widget_model.specs.Relatives.{root_id}
 use Rattle.scene_model.specs.Scene.{Scene}
 use Rattle.scene_model.specs.LookOf.{look_of}

@@ -1,21 +1,20 @@
 -- Where the rows and the open windows are as they were, what is shown stands still, whatever the pointer does: the widgets
 -- have their numbers still, and a shot stays the shot of what is shown.
-use Rattle.std.proofs.Common.{◌≡◌, ℕ, zero, suc, ℤ, Bool, true, false, cond, ◌&&◌, nat_eq, List, [], ◌∷◌, map, Option, Some, None, refl, sym, ap, ◌∙◌, subst}
+use Rattle.std.proofs.Common.{◌≡◌, ℕ, zero, suc, ℤ, Bool, true, false, cond, ◌&&◌, nat_eq, List, [], ◌∷◌, Option, Some, None, refl, sym, ap, ◌∙◌, subst}
 use Rattle.std.specs.List.{All}
 use Rattle.std.specs.Option.{option_map, option_map_or}
 use Rattle.std.proofs.lemmas.Bool.{eq-eqb, eqb-true}
 use Rattle.std.proofs.lemmas.List.Elements.{All-head, All-tail}
 use Rattle.geom_core.specs.declared.rectangle.Rect.{Rect}
 use Rattle.geom_core.specs.Rect.{in_rect}
-use Rattle.kind_core.specs.declared.kinds.Kind.{Kind}
 use Rattle.kind_core.specs.declared.kinds.Kind.TheVariants.{Window}
 use Rattle.kind_core.specs.declared.shapes.Shape.{Shape}
 use Rattle.shot_core.specs.Shot.{Seen}
 use Rattle.widget_model.specs.Rows.{Row}
-use Rattle.widget_model.specs.Nodes.{Node, node_of, node_at}
+use Rattle.widget_model.specs.Nodes.{node_of, node_at}
 use Rattle.widget_model.specs.Keys.{key_of}
 use Rattle.widget_model.specs.Trees.{most_levels}
-use Rattle.widget_model.specs.Widgets.{Widgets, nodes, rows_of, row_at, row_kind, key_at}
+use Rattle.widget_model.specs.Widgets.{Widgets, nodes, row_at, row_kind, key_at}
 use Rattle.widget_model.specs.Relatives.{parent_id, root_id}
 use Rattle.widget_model.specs.Forest.{IsWidgets, HaveOwnNumbers}
 use Rattle.scene_model.specs.Scene.{Scene}
@@ -24,10 +23,9 @@ use Rattle.scene_core.specs.declared.view.View.{View}
 use Rattle.scene_core.specs.View as views
 use Rattle.scene_core.specs.Shots.{place_by, shows_by}
 use Rattle.painter_core.proofs.KeyLemmas.{number_of-key}
-use Rattle.desk_model.specs.Desk.{Desk}
 use Rattle.desk_model.specs.Seen.{scene_of}
 use Rattle.desk_layout.specs.Numbers.{KeepsNumbers}
-use Rattle.damage_rules.specs.Views.{Sight, IsShotIn, scene_in}
+use Rattle.damage_rules.specs.Views.{IsShotIn, scene_in}
 use Rattle.drawing_core.specs.Following.{sight_of}
 use Rattle.desk_core.specs.View.{DeskView}
 use Rattle.server_core.specs.Serving.{ShowsDesk}

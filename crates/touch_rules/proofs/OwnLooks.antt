@@ -98,6 +98,30 @@ pub some_looks_are_enough : SomeLooksAreEnough
 some_looks_are_enough clients before after touched valid valid' event shows told =
     looks_are_enough clients None before after touched valid valid' event shows (λ id. told id ∙ sym (or_false (is_number_among clients id && differ (kept_of before id) (kept_of after id))))
 
+-- where no film looks different, comparing the looks of all numbers tells the touched ones
+pub all_looks_are_enough : (before after : Numbered) (touched : List ℕ) → ShowsNumberAnew None before after
+    → ((id : ℕ) → list_any (nat_eq id) touched ≡ differ (kept_of before id) (kept_of after id))
+    → TellsLooks before after touched
+unfolding kept_look
+all_looks_are_enough before after touched shows told = record { each = each }
+  where
+    each : (id : ℕ) → list_any (nat_eq id) touched ≡ is_touched before after id
+    each id =
+        told id
+        ∙ sym (or_false (differ (kept_of before id) (kept_of after id)))
+        ∙ compared true false (is_shown before id) (is_shown after id) before.scene after.scene (row_at before.widgets.entries id) (row_at after.widgets.entries id)
+        (live before.widgets before.windows id) (live after.widgets after.windows id)
+        (record {
+          films = λ a b. shows.each id a b;
+          others = λ other a b at_a at_b. absurd (true≢false other);
+        })
+
+-- a number that names no widget has no kept look
+pub kept-none : (numbered : Numbered) (id : ℕ) → row_at numbered.widgets.entries id ≡ None → kept_of numbered id ≡ None
+unfolding kept_look
+kept-none numbered id none =
+    ap (λ (o : Option Row). cond (option_map_or (holds_key numbered.windows) (option_and_then (λ (row : Row). id_named (nodes numbered.widgets.entries) row.client (root_of (rows_of numbered.widgets) row.client row.name)) o) false) (option_map (λ (row : Row). but_bytes (look_of numbered.scene row)) o) None) none
+
 pub own_looks_are_enough : OwnLooksAreEnough
 own_looks_are_enough client anew before after touched valid valid' event shows told =
     looks_are_enough (client ∷ []) anew before after touched valid valid' (event-own client before after event) shows

@@ -1,4 +1,4 @@
-use Rattle.std.proofs.Common.{List, true, false, slice_get, sym, ap, ◌∙◌, arith}
+use Rattle.std.proofs.Common.{List, slice_get, sym, ap, ◌∙◌, arith}
 use Rattle.std.specs.Option.{option_map}
 use Rattle.desk_core.specs.declared.member.Member.{Member}
 use Rattle.std.proofs.lemmas.Bool.{true≢false}

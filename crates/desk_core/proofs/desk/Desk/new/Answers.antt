@@ -1,4 +1,4 @@
-use Rattle.std.proofs.Common.{false, None, refl}
+use Rattle.std.proofs.Common.{false, None, refl, arith}
 use Rattle.tree_core.specs.declared.pointer.Grab.TheVariants.{Nothing}
 use Rattle.tree_core.specs.declared.pointer.Pointer.{Pointer}
 use Rattle.admit_core.specs.Roster.{empty_roster}
@@ -9,7 +9,7 @@ use Rattle.desk_core.proofs.desk.Desk.new.Goals as goal
 pub invariant_of-result : goal.invariant_of-result
 unfolding empty_roster
 invariant_of-result c =
-    IsKept-opening c.args.shape _ c.new.result c.new-2.result c.new-3.result c.new-4.result c.requires refl (record { grab = tt; focus = tt }) c.new.ensures c.new-2.ensures.empty c.new-3.ensures.empty c.new-4.ensures.empty c.new-2.ensures.valid c.new-3.ensures.valid c.new-4.ensures.valid
+    IsKept-opening c.args.shape _ c.new.result c.new-2.result c.new-3.result c.new-4.result c.requires refl (record { grab = tt; focus = tt }) (omega (arith, c.requires.width_least)) (omega (arith, c.requires.height_least)) c.new.ensures c.new-2.ensures.empty c.new-3.ensures.empty c.new-4.ensures.empty c.new-2.ensures.valid c.new-3.ensures.valid c.new-4.ensures.valid
 
 pub returns-clause-valid : goal.returns-clause-valid
 returns-clause-valid c = (invariant_of-result c).desk

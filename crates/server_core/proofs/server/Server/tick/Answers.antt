@@ -1,4 +1,4 @@
-use Rattle.std.proofs.Common.{◌≡◌, ◌-◌, min, sym, ap, ◌∙◌, arith}
+use Rattle.std.proofs.Common.{◌-◌, min, sym, ap, ◌∙◌, arith}
 use Rattle.kind_core.specs.declared.shapes.Shape.{Shape}
 use Rattle.redraw_core.specs.Dirt.{dirty_count}
 use Rattle.widget_model.specs.Widgets.{Widgets}
