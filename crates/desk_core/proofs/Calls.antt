@@ -1,5 +1,5 @@
 -- What each call of the desk makes of its parts: the desk of its event's step, and parts that keep what they kept.
-use Rattle.std.proofs.Common.{◌≡◌, ◌≤◌, ◌<◌, ℕ, ◌-◌, Bool, true, false, cond, not, ◌&&◌, nat_eq, List, [], ◌∷◌, ◌++◌, Option, Some, None, refl, sym, ap, ap₂, ◌∙◌, subst}
+use Rattle.std.proofs.Common.{◌≡◌, ◌≤◌, ◌<◌, ℕ, ◌-◌, Bool, true, false, cond, not, ◌&&◌, nat_eq, List, [], ◌∷◌, ◌++◌, Option, Some, refl, sym, ap, ap₂, ◌∙◌, subst}
 use Rattle.std.specs.Prelude.{pos}
 use Rattle.std.specs.List.{filter, list_all}
 use Rattle.std.specs.Cmp.{nat_eq_equiv}
@@ -13,7 +13,7 @@ use Rattle.stack_core.specs.Stack.{IsStack}
 use Rattle.scene_model.specs.Shapes.{IsShape}
 use Rattle.widget_model.specs.Rows.{Row}
 use Rattle.widget_model.specs.Named.{rows_of_others}
-use Rattle.widget_model.specs.Widgets.{Widgets, nodes, no_widgets, joined, departed, key_at, row_at, rows_of, place_at}
+use Rattle.widget_model.specs.Widgets.{Widgets, nodes, no_widgets, joined, departed, key_at, rows_of}
 use Rattle.widget_model.specs.Clients.{is_joined, is_client}
 use Rattle.widget_model.specs.Forest.{IsWidgets}
 use Rattle.desk_model.specs.Desk.{Desk, Admission, Ring, opening_desk, is_connected}
@@ -23,7 +23,7 @@ use Rattle.desk_model.specs.LetGo.{is_in_window, let_go}
 use Rattle.desk_model.specs.Clients.{free_client, step_connect, step_hello, step_bye, with_client, without_client}
 use Rattle.desk_model.specs.Commands.{row_of, step}
 use Rattle.desk_model.proofs.Desks.{IsDesk-opening, IsDesk-connect, IsDesk-hello, IsDesk-bye, IsDesk-command}
-use Rattle.desk_commands.specs.Parts.{Stage, stage_of, windows_at, admissions_at, desk_of, names_window, is_others, is_live_entry, AreParts, AreListed, ListsAdmitted, HasLimitOf}
+use Rattle.desk_commands.specs.Parts.{Stage, stage_of, windows_at, admissions_at, desk_of, names_window, is_others, is_live_entry, AreParts, AreListed, ListsAdmitted}
 use Rattle.desk_core.specs.Kept.{IsKept}
 use Rattle.desk_core.specs.ClientList.{clients_of}
 use Rattle.desk_commands.proofs.Admissions.{admitted-live}

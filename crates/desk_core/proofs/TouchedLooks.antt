@@ -1,25 +1,16 @@
 -- The looks that a call touched are those that its clause names.
-use Rattle.std.proofs.Common.{◌≡◌, ◌≤◌, ◌-◌, ℕ, Bool, true, false, cond, ◌&&◌, ◌||◌, not, nat_eq, List, [], ◌∷◌, Option, Some, None, refl, sym, ap, ap₂, subst, ◌∙◌, get_or}
-use Rattle.std.proofs.lemmas.Bool.{true≢false, and_parts, and_from, eqb-true, eq-eqb}
-use Rattle.std.specs.List.{list_any, list_all, filter}
+use Rattle.std.proofs.Common.{◌≡◌, ◌≤◌, ◌-◌, ℕ, Bool, true, false, cond, not, nat_eq, List, [], ◌∷◌, Option, Some, None, refl, sym, ap, ap₂, subst, ◌∙◌, get_or}
+use Rattle.std.proofs.lemmas.Bool.{true≢false}
+use Rattle.std.specs.List.{list_any, filter}
 use Rattle.std.specs.Option.{option_map}
-use Rattle.kind_core.specs.declared.shapes.Shape.{Shape}
 use Rattle.look_core.specs.Seen.{Seen}
-use Rattle.look_data.specs.Kept.{kept_look, differ}
 use Rattle.widget_model.specs.Rows.{Row}
 use Rattle.widget_model.specs.Keys.{key_of}
-use Rattle.widget_model.specs.Named.{row_named}
 use Rattle.widget_model.specs.Nodes.{first_number, is_number_of}
-use Rattle.widget_model.specs.Widgets.{Widgets, nodes, rows_of, row_at}
+use Rattle.widget_model.specs.Widgets.{rows_of, row_at}
 use Rattle.widget_model.specs.Forest.{IsWidgets}
-use Rattle.tree_core.proofs.Listed.{row_named-row}
 use Rattle.tree_core.proofs.ForestLemmas.{number-client}
-use Rattle.tree_core.specs.declared.pointer.Pointer.{Pointer}
-use Rattle.scene_model.specs.Scene.{Scene}
-use Rattle.scene_core.specs.View.{scene_from}
 use Rattle.desk_model.specs.Seen as seen
-use Rattle.admit_core.specs.Roster.{RosterState}
-use Rattle.desk_model.specs.Desk.{Ring}
 use Rattle.cmd_words.specs.declared.commands.Command.{Command}
 use Rattle.cmd_words.specs.declared.replies.Reply.{Reply}
 use Rattle.desk_model.specs.Desk.{Desk}
@@ -30,15 +21,8 @@ use Rattle.touch_rules.proofs.StepLooks.{steps_tell_looks}
 use Rattle.desk_model.specs.OwnPart.{LeavesOthers}
 use Rattle.touch_rules.specs.Touched.{TellsLooks}
 use Rattle.touch_rules.specs.Laws.{IsOwnEvent, kept_of}
-use Rattle.std.specs.Option.{option_map_or, option_and_then}
-use Rattle.std.specs.Str.{bytes_eq}
-use Rattle.std.specs.Cmp.{nat_eq_equiv}
-use Rattle.std.proofs.lemmas.Slice.Eq.{bytes_eq-Decides}
-use Rattle.widget_model.specs.Nodes.{id_named}
-use Rattle.widget_model.proofs.Naming.{id_named-row, row_named-found, row_named-parts}
 use Rattle.touch_rules.proofs.OthersLooks.{number-of-row}
 use Rattle.touch_rules.proofs.OwnLooks.{leaving_touches_nothing, staying_touches_nothing}
-use Rattle.desk_commands.specs.Parts.{stage_of, desk_of, names_window}
 use Rattle.desk_layout.specs.Numbers.{KeepsNumbers}
 use Rattle.desk_core.specs.View.{DeskView}
 use Rattle.desk_core.specs.Touching.{numbered_of, TellsTouched}

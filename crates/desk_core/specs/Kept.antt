@@ -11,8 +11,8 @@ use Rattle.desk_commands.specs.Parts.{desk_of, stage_of, AreParts, ListsAdmitted
 use Rattle.desk_commands.specs.Pointer.{HoldsLive}
 use Rattle.desk_core.specs.ClientList.{clients_of}
 
--- what the parts keep together, and what holds of the pointer, which is on the screen, of the roster, of the desk that they
--- make up and of the kept places
+-- what the parts keep together, and what holds of the pointer, which is on the screen, of the roster, of the desk that
+-- they make up and of the kept places
 pub record IsKept (shape : Shape) (pointer : Pointer) (rings : List Ring) (widgets : Widgets) (keys : List ℕ) (roster : RosterState) : Type 0 where
   pub parts : AreParts (clients_of rings) widgets keys
   pub held : HoldsLive widgets.entries pointer

@@ -143,7 +143,7 @@ fn lay_asked(tree: &mut Tree, effects: &Effects)
     lay_named(tree, moved(effects.moved));
 }
 
-/// Whether the effects give a value to a widget.
+/// Whether the effects give a value to a widget; false only where they give none.
 fn gives_values(effects: &Effects) -> bool
     ensures { result ≡ false → (effects.now.value ≡ None) × ((effects.now.text ≡ None) × ((effects.now.caret ≡ None) × (effects.now.moved ≡ None))) }
 {
@@ -154,8 +154,8 @@ fn gives_values(effects: &Effects) -> bool
 }
 
 /// Carries out what an input asks for: the events are posted, the window is raised, the values are given, the widgets
-/// that may have moved are laid out, and the pointer is the asked one, which lets go then. Answers false where neither
-/// the rows nor the open windows have changed.
+/// that may have moved are laid out, and the pointer is the asked one, which lets go then. Answers false only where
+/// neither the rows nor the open windows have changed.
 fn carry_out(
     tree: &mut Tree,
     windows: &mut Stack,

@@ -15,9 +15,7 @@ use Rattle.desk_core.proofs.CallSteps.{step-absent, step-obeyed}
 use Rattle.desk_core.proofs.Calls.{connected-joined, obeyed-tree, obeyed-numbers, obeyed-parts, obeyed-held, obeyed-step, obeyed-kept, polled-step, polled-kept}
 use Rattle.desk_layout.specs.Numbers.{KeepsNumbers}
 use Rattle.desk_layout.proofs.KeyNumbers.{numbers-same}
-use Rattle.std.proofs.Common.{ℕ, ◌&&◌, nat_eq, refl}
-use Rattle.std.specs.List.{list_any}
-use Rattle.look_data.specs.Kept.{differ}
+use Rattle.std.proofs.Common.{ℕ, ◌&&◌, refl}
 use Rattle.widget_model.specs.Nodes.{is_number_of}
 use Rattle.widget_model.specs.Forest.{IsWidgets}
 use Rattle.desk_model.specs.Seen as seen
