@@ -1,7 +1,8 @@
 //! Tables of lines, played on a server. A row is
 //! - `CLIENT LINE | TEXT`: the client's command, or `connect`, `bye` or `hello`, and its reply;
 //! - `tick | QUEUE LEFT`: the pixels that the tick draws, of which none is in a band, and those that stay dirty;
-//! - `dirty | NUMBER` or `live | NUMBER`: the dirty pixels, or the connected clients;
+//! - `dirty | NUMBER`, `live | NUMBER` or `spans | NUMBER`: the dirty pixels, the connected clients, or the spans that the
+//!   last tick wrote;
 //! - `pixel X Y | BYTE`: what the screen has there; or `plain | BYTE`: what it has in each pixel.
 ghost use Rattle.std.specs.Prelude.{◌≡◌, ◌≤◌};
 ghost use Rattle.scene_model.specs.Shapes.{IsShape};
@@ -95,6 +96,7 @@ fn holds(server: &mut Server, word: &str, words: &str, wanted: &str) -> Result<b
         "tick" => ticks(server, wanted),
         "dirty" => Ok(server.dirty() == wanted.parse::<u32>()?),
         "live" => Ok(server.live() == wanted.parse::<u32>()?),
+        "spans" => Ok(server.spans() == wanted.parse::<u32>()?),
         "pixel" => Ok(pixel(server, words)? == Some(wanted.parse()?)),
         "plain" => Ok(is_plain(server, wanted.parse()?)),
         _ => Ok(ask(server, word.parse()?, words)?.as_str() == wanted),

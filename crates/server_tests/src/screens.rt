@@ -101,3 +101,20 @@ plain | 2
 fn a_client_that_leaves_takes_its_windows_along(rt: HostRuntime) -> Result<(), Fail> {
     plays(&rt, rt.alloc(), 32, LEAVING)
 }
+
+const ROWS: &str = "
+1 connect | ok
+1 w = new Window() | ok
+1 w.set(-w 20 -h 20) | ok
+1 w.open() | ok
+spans | 0
+tick | 400 0
+spans | 20
+tick | 0 0
+spans | 0
+";
+
+#[test]
+fn a_window_is_drawn_by_whole_rows(rt: HostRuntime) -> Result<(), Fail> {
+    plays(&rt, rt.alloc(), 32, ROWS)
+}
