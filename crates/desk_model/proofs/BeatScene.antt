@@ -1,5 +1,5 @@
 -- What a beat keeps of the scene: each widget has its place and shows its pixels, and the same widgets are on top.
-use Rattle.std.proofs.Common.{◌≡◌, ℕ, ℤ, List, map, Option, Some, slice_get}
+use Rattle.std.proofs.Common.{◌≡◌, ℕ, ℤ, List, map, Some, slice_get}
 use Rattle.std.specs.Option.{option_map}
 use Rattle.widget_model.specs.Rows.{Row}
 use Rattle.widget_model.specs.Named.{row_named}

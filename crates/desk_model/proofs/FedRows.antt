@@ -50,16 +50,16 @@ map-own [] = refl
 map-own (row ∷ rows) = ap (λ (rs : List Row). row ∷ rs) (map-own rows)
 
 -- what each part of an input makes of a row
-abbrev valued_at : (ℕ × List ℕ) → Attr → value.Value → Row → Row
+abbrev pub valued_at : (ℕ × List ℕ) → Attr → value.Value → Row → Row
 valued_at key attr v row = changed key.0 key.1 (with_attr attr v) row
 
-abbrev numbered : Attr → Option ((ℕ × List ℕ) × ℤ) → Row → Row
+abbrev pub numbered : Attr → Option ((ℕ × List ℕ) × ℤ) → Row → Row
 numbered attr asked row = option_map_or (λ ask. valued_at ask.0 attr (value.TheVariants.Number ask.1) row) asked row
 
-abbrev texted : Option ((ℕ × List ℕ) × List ℕ) → Row → Row
+abbrev pub texted : Option ((ℕ × List ℕ) × List ℕ) → Row → Row
 texted asked row = option_map_or (λ ask. valued_at ask.0 Text (value.TheVariants.Words ask.1) row) asked row
 
-abbrev shifted : Option ((ℕ × List ℕ) × ℤ × ℤ) → Row → Row
+abbrev pub shifted : Option ((ℕ × List ℕ) × ℤ × ℤ) → Row → Row
 shifted asked row = option_map_or (λ ask. valued_at ask.0 Y (value.TheVariants.Number ask.2) (valued_at ask.0 X (value.TheVariants.Number ask.1) row)) asked row
 
 -- the row after the input

@@ -28,6 +28,10 @@ pub mod KeptPoll
 pub mod FilmNames
 pub mod BeatSteps
 pub mod FedRows
+pub mod HungRows
+pub mod InPlace
+pub mod ScopedRows
+pub mod Scopes
 pub mod Desks
 pub mod ByePointer
 pub mod BeatRows

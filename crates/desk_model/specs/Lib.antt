@@ -26,3 +26,5 @@ pub mod InputTable
 pub mod Inputs
 pub mod InputFacts
 pub mod Feeding
+pub mod Scope
+pub mod InPlace

@@ -21,6 +21,4 @@ pub mod TopLaws
 pub mod DependLaws
 pub mod FillLaws
 pub mod LookLaws
-pub mod Windows
 pub mod OpenWindows
-pub mod Picture

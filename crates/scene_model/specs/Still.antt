@@ -1,5 +1,5 @@
--- Changes of rows that move nothing: each row keeps its name, kind and cell, what it needs by itself, the rules of its
--- tracks, its offset, and for a Window its own span. Then each widget keeps its place.
+-- Inner words of the proofs: changes of rows that move nothing. Each row keeps its name, kind and cell, what it needs by
+-- itself, the rules of its tracks, its offset, and for a Window its own span. Then each widget keeps its place.
 use Rattle.std.specs.Prelude.{◌≡◌, ℕ, List, Some, map, slice_get}
 use Rattle.widget_model.specs.Rows.{Row}
 use Rattle.scene_model.specs.declared.axis.Axis.{Axis}

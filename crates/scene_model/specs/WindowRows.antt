@@ -1,5 +1,6 @@
--- What the layout of a window is made from: its own row and those of the widgets under it, in the order of making, and
--- the values of the Variables that these are linked to. While they stay, so does each place.
+-- Inner words of the proofs: what the layout of a window is made from, which is its own row and those of the widgets
+-- under it, in the order of making, and the values of the Variables that these are linked to. While they stay, so does
+-- each place.
 use Rattle.std.specs.Prelude.{◌≡◌, ℕ, Bool, List, Some, slice_get}
 use Rattle.std.specs.List.{filter}
 use Rattle.widget_model.specs.Rows.{Row}
