@@ -22,7 +22,7 @@ use Rattle.tree_core.proofs.Listed.{any_place, listed_number, AreNamedApart-rows
 use Rattle.scene_model.specs.Scene.{Scene}
 use Rattle.scene_model.specs.Showing.{is_open_in}
 use Rattle.scene_core.specs.View.{keys_of, scene_from}
-use Rattle.scene_core.specs.Shots.{is_shown_id}
+use Rattle.view_shots.specs.Shots.{is_shown_id}
 use Rattle.machine_model.specs.Damage.{keys_in}
 use Rattle.machine_model.specs.DamageLaws.{IsSound}
 use Rattle.machine_model.proofs.DamageKeys.{same_key-is, same_key-from}

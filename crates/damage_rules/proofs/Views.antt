@@ -28,8 +28,8 @@ use Rattle.scene_model.specs.Placing.{place_in}
 use Rattle.scene_model.specs.Showing.{place_of, parent_in, shows_at}
 use Rattle.scene_model.specs.Colours.{look_at}
 use Rattle.scene_core.specs.View.{keys_of, scene_from}
-use Rattle.scene_core.specs.Shots.{place_by, shows_by, is_shown_id, IsSpotBy, IsShotBy}
-use Rattle.scene_core.proofs.ShotSteps.{number-low}
+use Rattle.view_shots.specs.Shots.{place_by, shows_by, is_shown_id, IsSpotBy, IsShotBy}
+use Rattle.view_shots.proofs.ShotSteps.{number-low}
 use Rattle.machine_model.specs.Damage.{keys_in}
 use Rattle.machine_model.proofs.DamageKeys.{same_key-own, same_key-is, joined_left, joined_right}
 use Rattle.machine_model.proofs.DamageScenes.{parent_stands}

@@ -11,7 +11,7 @@ use Rattle.tree_core.specs.declared.pointer.Pointer.{Pointer}
 use Rattle.scene_model.specs.Scene.{Scene}
 use Rattle.scene_model.specs.Colours.{look_at}
 use Rattle.scene_core.specs.View.{AreWindows, scene_from}
-use Rattle.scene_core.specs.Shots.{IsShotBy, is_shown_id}
+use Rattle.view_shots.specs.Shots.{IsShotBy, is_shown_id}
 use Rattle.machine_model.specs.Damage.{in_reach}
 use Rattle.shot_core.specs.Shot.{Seen, most_numbers}
 use Rattle.damage_rules.specs.Numbering.{in_areas}

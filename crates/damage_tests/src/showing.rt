@@ -8,11 +8,12 @@ ghost use Rattle.damage_tests.specs.Shown.{IsShown};
 
 use crate::words::named;
 use kind_core::Kind;
-use scene_core::{View, relayout, shot};
+use scene_core::{View, relayout};
 use shot_core::Shot;
 use stack_core::Stack;
 use std::test::Fail;
 use tree_core::{Grab, Id, Pointer, Tree};
+use view_shots::shot;
 
 /// Opens the Window on top of the others, laid out.
 fn open_window(tree: &mut Tree, stack: &mut Stack, window: Id) -> Result<(), Fail>

@@ -1,4 +1,5 @@
 mod MarkLemmas
+mod GivenLemmas
 mod DrawLemmas
 mod FollowLemmas
 mod BandingLemmas

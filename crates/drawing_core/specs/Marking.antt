@@ -16,14 +16,14 @@ pub record Marked (test : ℤ → ℤ → Bool) (old new : Dirt) : Type 0 where
 abbrev pub in_number : Seen → Seen → List ℕ → ℕ → ℤ → ℤ → Bool
 in_number before after looks key x y = in_areas before after looks x y key
 
--- whether it is in an area of one of the first `count` numbers
-abbrev pub is_given_by : ℕ → Seen → Seen → List ℕ → ℤ → ℤ → Bool
-is_given_by count before after looks x y = list_any (in_areas before after looks x y) (range_with_len 0 count)
-
 -- The reach between two shots: what all numbers give, where `looks` has the numbers of the looks that differ.
 abbrev pub is_given : Seen → Seen → List ℕ → ℤ → ℤ → Bool
-is_given before after looks x y = is_given_by most_numbers before after looks x y
+is_given before after looks x y = list_any (in_areas before after looks x y) (range_with_len 0 most_numbers)
+
+-- whether it is in an area that one of these numbers gives, as far as they are numbers of rows
+abbrev pub is_given_of : Seen → Seen → List ℕ → List ℕ → ℤ → ℤ → Bool
+is_given_of before after looks numbers x y = list_any (λ key. nat_lt key most_numbers && in_areas before after looks x y key) numbers
 
 -- What the touched numbers give, in a change that leaves the shot as it is: the shown areas of the touched widgets.
-abbrev pub is_given_touched : Seen → List ℕ → List ℕ → ℤ → ℤ → Bool
-is_given_touched shot looks numbers x y = list_any (λ key. nat_lt key most_numbers && in_areas shot shot looks x y key) numbers
+abbrev pub is_given_touched : Seen → List ℕ → ℤ → ℤ → Bool
+is_given_touched shot looks = is_given_of shot shot looks looks

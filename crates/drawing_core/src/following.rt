@@ -9,9 +9,10 @@ ghost use Rattle.drawing_core.specs.Marking.{Marked};
 
 use crate::marking::{mark, mark_touched};
 use redraw_core::Queue;
-use scene_core::{View, shot};
+use scene_core::View;
 use shot_core::{Shot, Touched};
 use std::mem::swap;
+use view_shots::shot;
 
 /// Follows a change to what the view shows, before which `shown` was the shot of what was shown: makes dirty what the
 /// change reaches, and no other pixel, and makes `shown` the shot of the view. `touched` has the widgets that are shown

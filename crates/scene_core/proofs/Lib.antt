@@ -14,4 +14,3 @@ pub mod SideSteps
 pub mod Roots
 pub mod PlaceSteps
 pub mod LaySteps
-pub mod ShotSteps

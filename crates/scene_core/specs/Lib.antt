@@ -5,5 +5,3 @@ pub mod Known
 pub mod Sides
 pub mod Places
 pub mod Laid
-pub mod Shots
-pub mod Spots

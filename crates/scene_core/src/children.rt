@@ -45,8 +45,9 @@ fn push_key(keys: &mut ArrayVec<u32, 256>, child: Option<Id>)
     }
 }
 
-/// The numbers of the widgets that hang in this one, row by row in each column.
-pub(crate) fn child_keys(tree: &Tree, id: Id) -> ArrayVec<u32, 256>
+/// The numbers of the widgets that hang in this one, row by row in each column: at most 256, as a Grid has cells. The widget
+/// is live. See docs/MACHINE.md, "Widgets".
+pub fn child_keys(tree: &Tree, id: Id) -> ArrayVec<u32, 256>
     requires { IsLive tree.now id.key }
     ensures children { AreChildren tree.now id.key result.items }
     ensures few { length result.items ≤ 256 }

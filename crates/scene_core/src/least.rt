@@ -184,9 +184,9 @@ pub fn least_size(tree: &Tree, id: Id) -> Size
     least(tree, &mut known, most_levels(), id)
 }
 
-/// A tree has at most that many levels.
+/// A tree has at most that many levels, which are 12. See docs/MACHINE.md, "Widgets".
 #[tactic(auto, unfolding(widget_model::specs::Trees::most_levels))]
-pub(crate) fn most_levels() -> u32
+pub fn most_levels() -> u32
     ensures { result ≡ most_levels }
 {
     12

@@ -1,5 +1,4 @@
-//! The layout of the widgets and what is on top: least sizes, places, the widget on top at a pixel, and the shot of what
-//! the screen shows.
+//! The layout of the widgets and what is on top: least sizes, places, and the widget on top at a pixel.
 #![tactic(auto)]
 
 mod asked;
@@ -12,7 +11,6 @@ mod least;
 mod own;
 mod places;
 mod reading;
-mod shots;
 mod shown;
 mod sides;
 mod size;
@@ -21,11 +19,11 @@ mod top;
 mod tracks;
 mod view;
 
+pub use children::child_keys;
 pub use geom_core::Rect;
 pub use laying::relayout;
-pub use least::least_size;
+pub use least::{least_size, most_levels};
 pub use places::place;
-pub use shots::shot;
 pub use size::Size;
 pub use top::top_at;
 pub use tree_core::{Grab, Pointer};

@@ -1,7 +1,7 @@
 //! What the screen shows at one moment, by numbers.
 ghost use Rattle.std.specs.Prelude.{◌≡◌, ◌<◌, ◌++◌, ◌∷◌, [], ℕ, false, length, nat_eq, Some, None, IfOk, slice_get, slice_index_or, slice_set};
 ghost use Rattle.std.specs.List.{list_any};
-ghost use Rattle.shot_core.specs.Shot.{IsShot, IsBare, most_numbers, spot_at, windows_in};
+ghost use Rattle.shot_core.specs.Shot.{AreListed, IsShot, IsBare, most_numbers, spot_at, windows_in};
 
 use crate::no_memory::NoMemory;
 use crate::spot::Spot;
@@ -11,10 +11,12 @@ use std::alloc::Global;
 use std::marker::Model;
 
 /// What the screen shows at one moment: the open windows from top to bottom, each with its place, and for each number
-/// below 2,048 the spot of the shown row that has it. See docs/MACHINE.md, "The reach of a change".
+/// below 2,048 the spot of the shown row that has it. It lists the numbers that have one, so that the work of a shot goes
+/// by the rows that are shown. See docs/MACHINE.md, "The reach of a change".
 pub struct Shot {
     windows: ArrayVec<(u32, Rect), 128>,
     spots: Vec<Option<Spot>>,
+    numbers: ArrayVec<u32, 2048>,
 }
 
 impl Model for Shot {
@@ -22,9 +24,9 @@ impl Model for Shot {
 
     ghost Value = { Seen };
 
-    ghost view = { λ s. record { windows = s.windows.items; spots = s.spots.items } };
+    ghost view = { λ s. record { windows = s.windows.items; spots = s.spots.items; numbers = s.numbers.items } };
 
-    ghost invariant = { λ s. IsShot (record { windows = s.windows.items; spots = s.spots.items }) };
+    ghost invariant = { λ s. IsShot (record { windows = s.windows.items; spots = s.spots.items; numbers = s.numbers.items }) };
 }
 
 impl Drop for Shot {
@@ -32,6 +34,7 @@ impl Drop for Shot {
         let Shot {
             windows: _,
             spots: _,
+            numbers: _,
         } = self;
     }
 }
@@ -46,17 +49,18 @@ impl Shot {
         Ok(Shot {
             windows: ArrayVec::new(),
             spots,
+            numbers: ArrayVec::new(),
         })
     }
 
-    /// Takes all windows and spots out.
-
+    /// Takes all windows and spots out. It goes over the numbers that have a spot, and no others.
     pub fn clear(&mut self)
         ensures bare { IsBare self.new }
         ensures valid { IsShot self.new }
     {
         self.windows.clear();
-        clear_spots(&mut self.spots);
+        clear_spots(&mut self.spots, self.numbers.as_slice());
+        self.numbers.clear();
     }
 
     /// Puts an open window, which isn't there yet, with its place below the others. At most 128 are open.
@@ -79,7 +83,11 @@ impl Shot {
         ensures windows { self.new.windows ≡ self.old.windows }
         ensures valid { IsShot self.new }
     {
+        let is_new = self.spots[key as usize].is_none();
         self.spots[key as usize] = Some(spot);
+        if is_new {
+            self.numbers.push(key);
+        }
     }
 
     /// The open window at that index, from 0 at the top, and its place; `None` exactly where the index is at or past
@@ -108,6 +116,14 @@ impl Shot {
     {
         self.spots[key as usize]
     }
+
+    /// The numbers that have a spot, each one once, in no order that a caller may rely on.
+    pub fn numbers(&self) -> &[u32]
+        ensures numbers { result.now ≡ self.now.numbers }
+        ensures valid { IsShot self.now }
+    {
+        self.numbers.as_slice()
+    }
 }
 
 // So many places without a spot.
@@ -125,11 +141,13 @@ fn no_spots(alloc: Global, count: usize) -> Result<Vec<Option<Spot>>, NoMemory>
     Ok(spots)
 }
 
-// Takes all spots out.
-fn clear_spots(spots: &mut [Option<Spot>])
-    ensures { (key : ℕ) → slice_index_or spots.new key None ≡ None }
+// Takes all spots out, where these are the numbers that have one.
+fn clear_spots(spots: &mut [Option<Spot>], numbers: &[u32])
+    requires { AreListed spots.old numbers.now }
+    ensures len { length spots.new ≡ length spots.old }
+    ensures none { (key : ℕ) → slice_index_or spots.new key None ≡ None }
 {
-    for spot in spots.iter_mut() {
-        *spot = None;
+    for number in numbers {
+        spots[*number as usize] = None;
     }
 }

@@ -1,6 +1,6 @@
 -- Lists of keys: which keys are in them, what is left without one, and that none is there twice.
-use Rattle.std.proofs.Common.{◌≡◌, ℕ, zero, suc, ◌+◌, ◌<◌, ◌≤◌, Bool, true, false, not, ◌&&◌, ◌||◌, List, [], ◌∷◌, length, get_or, Some, refl, sym, ap, ◌∙◌, arith}
-use Rattle.std.specs.Prelude.{slice_get, nat_eq}
+use Rattle.std.proofs.Common.{◌≡◌, ℕ, zero, suc, ◌+◌, ◌<◌, ◌≤◌, Bool, true, false, not, ◌&&◌, ◌||◌, List, [], ◌∷◌, length, get_or, Option, Some, None, is_some, refl, sym, ap, ◌∙◌, arith}
+use Rattle.std.specs.Prelude.{slice_get, nat_eq, MatchOption}
 use Rattle.std.specs.List.{remove}
 use Rattle.std.proofs.lemmas.Bool.{eqb-true, eq-eqb, ne_eqb, or_parts, or_left, or_right, or_from, cond-true, cond-false, cond_both, false≢true}
 use Rattle.std.proofs.lemmas.Bool.Decides.{nat_tests}
@@ -40,6 +40,11 @@ holds_key-at (k ∷ ks) (suc i) key h = or_right (nat_eq k key) (holds_key ks ke
 pub holds_key-nowhere : (ks : List ℕ) (key : ℕ) → ((i : ℕ) → i < length ks → get_or ks i 0 ≡ key → ⊥) → holds_key ks key ≡ false
 holds_key-nowhere [] key h = refl
 holds_key-nowhere (k ∷ ks) key h = or_from (nat_eq k key) (holds_key ks key) (ne_eqb k key (h 0 (omega arith))) (holds_key-nowhere ks key (λ i l. h (suc i) (omega arith)))
+
+-- whether an index was found at which the key stands
+pub holds_key-found : (ks : List ℕ) (key : ℕ) (place : Option ℕ) → MatchOption place (holds_key ks key ≡ false) (λ i. slice_get ks i ≡ Some key) → is_some place ≡ holds_key ks key
+holds_key-found ks key None absent = sym absent
+holds_key-found ks key (Some i) at = sym (holds_key-at ks i key at)
 
 pub slice_get-at : (ks : List ℕ) (i : ℕ) → i < length ks → slice_get ks i ≡ Some (get_or ks i 0)
 slice_get-at [] i h = absurd (omega arith)

@@ -95,6 +95,14 @@ impl Stack {
         }
     }
 
+    /// Whether the key is there. docs/MACHINE.md has the rule.
+    pub fn holds(&self, key: u32) -> bool
+        ensures found { result ≡ holds_key self.now key }
+        ensures valid { IsStack self.now }
+    {
+        place_of(self.keys.as_slice(), key).is_some()
+    }
+
     /// The key at an index counted from 0 at the top, or None at and past the number of keys.
     /// docs/MACHINE.md has the rule.
     pub fn at(&self, index: usize) -> Option<u32>

@@ -9,5 +9,5 @@ returns c before view is once still was =
     let shot = c.args.shown.now in
     let looks = c.args.touched.now.looks.items in
     Marked-reach before view shot shot looks c.args.queue.now c.mark_touched.new.queue is still was
-    (Marked-same (is_given_touched shot looks looks) (is_given shot shot looks) c.args.queue.now c.mark_touched.new.queue
+    (Marked-same (is_given_touched shot looks) (is_given shot shot looks) c.args.queue.now c.mark_touched.new.queue
     (λ x y. given-touched shot looks x y (nothing_given (sight_of view) view.width view.height shot (record { valid = is.valid; windows = is.windows }) once still x y)) c.mark_touched.ensures)

@@ -1,5 +1,6 @@
-use Rattle.std.proofs.Common.{◌≡◌, ℕ, ◌<◌, get_or, None}
+use Rattle.std.proofs.Common.{◌≡◌, length, drop}
+use Rattle.shot_core.proofs.Listed.{IsCleared}
 use Rattle.shot_core.proofs.shot.clear_spots.Given as goal
 
-abbrev pub invariant-loop-spot : goal.invariant-loop-spot
-invariant-loop-spot l = (key : ℕ) → key < l.spot-index → get_or l.spots key None ≡ None
+abbrev pub invariant-loop-number : goal.invariant-loop-number
+invariant-loop-number l = record { len : length l.spots ≡ length l.initial.spots; cleared : IsCleared l.spots (drop l.number-index l.numbers) }

@@ -1,7 +1,7 @@
-use Rattle.scene_core.specs.Spots.{AreShot}
+use Rattle.view_shots.specs.Spots.{AreShot}
 use Rattle.scene_core.specs.View.{scene_of}
 use Rattle.widget_model.specs.Trees.{most_levels}
-use Rattle.scene_core.proofs.shots.shot.Given as goal
+use Rattle.view_shots.proofs.shots.shot.Given as goal
 
 abbrev pub invariant-loop-index : goal.invariant-loop-index
 invariant-loop-index l = AreShot most_levels l.view.tree.now l.view.stack.now (scene_of l.view) l.index l.out

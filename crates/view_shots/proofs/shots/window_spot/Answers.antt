@@ -1,8 +1,8 @@
 use Rattle.std.proofs.Common.{refl}
 use Rattle.scene_core.specs.View.{scene_of}
 use Rattle.scene_core.proofs.Tops.{kept-place, under-window, window-among}
-use Rattle.scene_core.proofs.ShotSteps.{window-spot}
-use Rattle.scene_core.proofs.shots.window_spot.Goals as goal
+use Rattle.view_shots.proofs.ShotSteps.{window-spot}
+use Rattle.view_shots.proofs.shots.window_spot.Goals as goal
 
 pub kept_place-place-requires-clause-kept : goal.kept_place-place-requires-clause-kept
 kept_place-place-requires-clause-kept c =

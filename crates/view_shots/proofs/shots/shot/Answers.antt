@@ -4,10 +4,10 @@ use Rattle.std.proofs.lemmas.Option.{get_or_from_slice_get}
 use Rattle.shot_core.specs.Shot.{windows_in}
 use Rattle.widget_model.specs.Trees.{most_levels}
 use Rattle.scene_core.specs.View.{scene_of}
-use Rattle.scene_core.specs.Spots.{ArePut}
+use Rattle.view_shots.specs.Spots.{ArePut}
 use Rattle.scene_core.proofs.Tops.{among-at, under-window}
-use Rattle.scene_core.proofs.ShotSteps.{not-before, numbers-shot, shot-none, shot-more, shot-all}
-use Rattle.scene_core.proofs.shots.shot.Goals as goal
+use Rattle.view_shots.proofs.ShotSteps.{not-before, numbers-shot, shot-none, shot-more, shot-all}
+use Rattle.view_shots.proofs.shots.shot.Goals as goal
 
 pub put_window-requires-clause-absent : goal.put_window-requires-clause-absent
 put_window-requires-clause-absent c =

@@ -5,7 +5,7 @@ use Rattle.scene_model.specs.Scene.{Scene}
 use Rattle.shot_core.specs.Shot.{Seen, IsShot, spot_at}
 use Rattle.shot_core.specs.declared.spot.Spot.{Spot}
 use Rattle.scene_core.specs.Laid.{IsBelow}
-use Rattle.scene_core.specs.Shots.{place_by, is_shown_id, IsSpotBy}
+use Rattle.view_shots.specs.Shots.{place_by, is_shown_id, IsSpotBy}
 
 -- each spot that is there is that of a shown widget
 pub record IsShownSpot (widgets : Widgets) (windows : List ℕ) (scene : Scene) (id : ℕ) (spot : Spot) : Type 0 where

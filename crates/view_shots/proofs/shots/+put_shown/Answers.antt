@@ -6,8 +6,8 @@ use Rattle.scene_core.proofs.LeastSteps.{child-live, deep-child}
 use Rattle.scene_core.proofs.Measures.{deep-some, deep-suc}
 use Rattle.scene_core.proofs.Roots.{rooted-live}
 use Rattle.scene_core.proofs.Tops.{under-child, window-among}
-use Rattle.scene_core.proofs.ShotSteps.{number-low, under-shown, put-own, put-child, put-all}
-use Rattle.scene_core.proofs.shots.+put_shown.Goals as goal
+use Rattle.view_shots.proofs.ShotSteps.{number-low, under-shown, put-own, put-child, put-all}
+use Rattle.view_shots.proofs.shots.+put_shown.Goals as goal
 
 pub put_spot-requires-clause-key : goal.put_spot-requires-clause-key
 put_spot-requires-clause-key t c =

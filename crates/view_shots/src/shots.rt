@@ -5,14 +5,12 @@ ghost use Rattle.widget_model.specs.Relatives.{parent_id};
 ghost use Rattle.widget_model.specs.Widgets.{IsLive, rows_of, place_at};
 ghost use Rattle.scene_model.specs.Placing.{place_in};
 ghost use Rattle.scene_core.specs.Children.{row_for, IsDeep};
-ghost use Rattle.scene_core.specs.Shots.{IsSpotBy, IsShotBy};
-ghost use Rattle.scene_core.specs.Spots.{AreSpots, ArePut};
+ghost use Rattle.view_shots.specs.Shots.{IsSpotBy, IsShotBy};
+ghost use Rattle.view_shots.specs.Spots.{AreSpots, ArePut};
 ghost use Rattle.scene_core.specs.View.{IsView, KeepsPlaces, IsUnderOpen, scene_of};
 
-use crate::children::child_keys;
-use crate::least::most_levels;
-use crate::view::View;
 use geom_core::{Rect, meet};
+use scene_core::{View, child_keys, most_levels};
 use shot_core::{Shot, Spot};
 use tree_core::{Id, Tree};
 

@@ -28,8 +28,8 @@ use Rattle.shot_core.specs.declared.spot.Spot.{Spot}
 use Rattle.scene_core.specs.Children.{row_for, AreChildren}
 use Rattle.scene_core.specs.View.{AreWindows, IsUnderOpen, scene_from}
 use Rattle.scene_core.specs.Laid.{IsBelow}
-use Rattle.scene_core.specs.Shots.{place_by, shows_by, is_shown_id, IsSpotBy, IsShotBy}
-use Rattle.scene_core.specs.Spots.{IsShownSpot, AreSpots, Keeps, HasBelow, ArePut, ArePartlyPut, AreShot}
+use Rattle.view_shots.specs.Shots.{place_by, shows_by, is_shown_id, IsSpotBy, IsShotBy}
+use Rattle.view_shots.specs.Spots.{IsShownSpot, AreSpots, Keeps, HasBelow, ArePut, ArePartlyPut, AreShot}
 use Rattle.scene_core.proofs.Numbered.{live-there}
 use Rattle.scene_core.proofs.LeastSteps.{child-live}
 use Rattle.scene_core.proofs.Tops.{window-alone, root-window, root-child, shows-window, shows-child, IsOpenWindow}

@@ -3,8 +3,8 @@ use Rattle.scene_core.specs.View.{scene_of}
 use Rattle.scene_core.proofs.LeastSteps.{child-live}
 use Rattle.scene_core.proofs.Roots.{rooted-live}
 use Rattle.scene_core.proofs.Tops.{kept-place, under-child}
-use Rattle.scene_core.proofs.ShotSteps.{child-spot}
-use Rattle.scene_core.proofs.shots.child_spot.Goals as goal
+use Rattle.view_shots.proofs.ShotSteps.{child-spot}
+use Rattle.view_shots.proofs.shots.child_spot.Goals as goal
 
 pub kept_place-place-requires-clause-kept : goal.kept_place-place-requires-clause-kept
 kept_place-place-requires-clause-kept c =

@@ -1,6 +1,6 @@
-use Rattle.scene_core.specs.Spots.{ArePartlyPut}
+use Rattle.view_shots.specs.Spots.{ArePartlyPut}
 use Rattle.scene_core.specs.View.{scene_of}
-use Rattle.scene_core.proofs.shots.+put_shown.Given as goal
+use Rattle.view_shots.proofs.shots.+put_shown.Given as goal
 
 abbrev pub decreases-put_shown : goal.decreases-put_shown
 decreases-put_shown l = l.most
