@@ -172,7 +172,7 @@ MovesNothing-beaten rows =
       asks = λ i row there. record {
         size = ap (λ (r : Row). own_size row.kind (map row_beaten rows) r) (row_beaten-is row) ∙ own_size-film rows row row.kind;
         rules = λ axis. ap (λ (r : Row). rules_of axis r) (row_beaten-is row) ∙ rules-film axis row;
-        offset = λ axis. ap (λ (r : Row). offset_of axis (map row_beaten rows) r) (row_beaten-is row) ∙ offset-film axis rows row;
+        offset = λ axis frame. ap (λ (r : Row). offset_of axis (map row_beaten rows) r) (row_beaten-is row) ∙ offset-film axis rows row;
         span = λ axis. ap (λ (r : Row). window_span axis r) (row_beaten-is row);
       };
     }

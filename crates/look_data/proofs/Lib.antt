@@ -1,4 +1,6 @@
 pub mod OneNumber
 pub mod LookSteps
 pub mod KeptLemmas
+pub mod LooksLemmas
+pub mod LinkedNumbers
 pub mod OpenSteps

@@ -1,11 +1,10 @@
--- The looks that are kept of a client's shown widgets, by number, and which of them differ later. A widget is shown
--- where its root is an open window.
-use Rattle.std.specs.Prelude.{ℕ, ◌≡◌, ◌-◌, Bool, true, false, not, ◌&&◌, List, Option, Some, None, if◌then◌else◌, slice_index_or}
+-- The look that is kept of a shown widget, by its number, and whether it differs later. A widget is shown where its root
+-- is an open window.
+use Rattle.std.specs.Prelude.{ℕ, Bool, false, not, List, Option, Some, None, if◌then◌else◌}
 use Rattle.std.specs.Option.{option_map, option_map_or}
 use Rattle.look_core.specs.Seen.{Seen}
 use Rattle.look_core.specs.Same.{same_look}
 use Rattle.stack_core.specs.Stack.{holds_key}
-use Rattle.widget_model.specs.Nodes.{first_number, is_number_of}
 use Rattle.widget_model.specs.Widgets.{Widgets, row_at}
 use Rattle.widget_model.specs.Relatives.{root_id}
 use Rattle.scene_model.specs.Scene.{Scene}
@@ -31,11 +30,3 @@ abbrev pub differ : Option Seen → Option Seen → Bool
 differ None after = false
 differ (Some before) None = false
 differ (Some before) (Some after) = not (same_look before after)
-
--- The list has what is kept of each of the client's numbers, from its first one on.
-pub record AreKeptOf (client : ℕ) (view : View) (looks : List (Option Seen)) : Type 0 where
-  pub each : (id : ℕ) → is_number_of client id ≡ true → slice_index_or looks (id - first_number client) None ≡ kept_in view id
-
--- whether the number is one of the client's whose kept look differs from what would be kept of it now
-abbrev pub is_changed : ℕ → List (Option Seen) → View → ℕ → Bool
-is_changed client looks view id = is_number_of client id && differ (slice_index_or looks (id - first_number client) None) (kept_in view id)

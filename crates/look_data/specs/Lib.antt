@@ -1,3 +1,4 @@
 pub mod Data
 pub mod Kept
-pub mod Told
+pub mod Watched
+pub mod Looks

@@ -55,6 +55,13 @@ pub enum LookData {
     NoFilm,
 }
 
+impl Default for LookData {
+    /// What lies in an unused place of a list of fixed capacity.
+    fn default() -> Self {
+        LookData::NoFilm
+    }
+}
+
 impl LookData {
     /// Whether both are of one kind and equal in all that is kept of them: then widgets of one size and, for a film,
     /// with the same shown bytes show the same pixels. See docs/GUIDE.md, "Looks".

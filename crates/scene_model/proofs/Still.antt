@@ -104,24 +104,24 @@ record Hung (rows : List Row) (parent row : Row) : Type 0 where
   j : ℕ
   above : slice_get rows j ≡ Some parent
 
-child_span-same : (change : Row → Row) (rows : List Row) (axis : Axis) (parent row : Row) (span : Span) → MovesNothing change rows → Hung rows parent row → (kind : Kind) → child_span kind axis (map change rows) (change parent) span (change row) ≡ child_span kind axis rows parent span row
+child_span-same : (change : Row → Row) (rows : List Row) (axis : Axis) (parent row : Row) (span : Span) → MovesNothing change rows → Hung rows parent row → (kind : Kind) → parent.kind ≡ kind → child_span kind axis (map change rows) (change parent) span (change row) ≡ child_span kind axis rows parent span row
 unfolding grid_span
-child_span-same change rows axis parent row span still hung Window = ap (λ (cell : Cell). inset cell.pad (content axis span)) (cell_of-same change rows row still)
-child_span-same change rows axis parent row span still hung Grid =
+child_span-same change rows axis parent row span still hung Window is = ap (λ (cell : Cell). inset cell.pad (content axis span)) (cell_of-same change rows row still)
+child_span-same change rows axis parent row span still hung Grid is =
     ap (λ (cell : Cell). inset cell.pad (track_span (track_lengths (needs_of (least_of (map change rows) axis) axis (map change rows) (change parent)) (rules_of axis (change parent)) span.len) span (track_in axis cell))) (cell_of-same change rows row still)
     ∙ ap₂ (λ (needs : List Need) (rules : List (ℕ × ℕ)). inset (cell_of row).pad (track_span (track_lengths needs rules span.len) span (track_in axis (cell_of row))))
     (needs-same change rows parent (least_of (map change rows) axis) (least_of rows axis) axis still (λ j other at. least_of-same change rows axis j other still at))
     ((still.asks hung.j parent hung.above).rules axis)
-child_span-same change rows axis parent row span still hung Frame =
+child_span-same change rows axis parent row span still hung Frame is =
     ap (λ (cell : Cell). framed cell.pad (offset_of axis (map change rows) (change parent)) (least_of (map change rows) axis (change row)) span) (cell_of-same change rows row still)
-    ∙ ap₂ (λ (offset : ℤ) (least : ℕ). framed (cell_of row).pad offset least span) ((still.asks hung.j parent hung.above).offset axis) (least_of-same change rows axis hung.i row still hung.there)
-child_span-same change rows axis parent row span still hung Button = refl
-child_span-same change rows axis parent row span still hung Label = refl
-child_span-same change rows axis parent row span still hung Entry = refl
-child_span-same change rows axis parent row span still hung Scale = refl
-child_span-same change rows axis parent row span still hung Scrollbar = refl
-child_span-same change rows axis parent row span still hung Variable = refl
-child_span-same change rows axis parent row span still hung VScreen = refl
+    ∙ ap₂ (λ (offset : ℤ) (least : ℕ). framed (cell_of row).pad offset least span) ((still.asks hung.j parent hung.above).offset axis is) (least_of-same change rows axis hung.i row still hung.there)
+child_span-same change rows axis parent row span still hung Button is = refl
+child_span-same change rows axis parent row span still hung Label is = refl
+child_span-same change rows axis parent row span still hung Entry is = refl
+child_span-same change rows axis parent row span still hung Scale is = refl
+child_span-same change rows axis parent row span still hung Scrollbar is = refl
+child_span-same change rows axis parent row span still hung Variable is = refl
+child_span-same change rows axis parent row span still hung VScreen is = refl
 
 span_in-same : (most : ℕ) (change : Row → Row) (rows : List Row) (axis : Axis) (i : ℕ) (row : Row) → MovesNothing change rows → slice_get rows i ≡ Some row → span_in most (map change rows) axis (change row) ≡ span_in most rows axis row
 span_in-same zero change rows axis i row still there = refl
@@ -147,7 +147,7 @@ span_in-same (suc most) change rows axis i row still there =
         let at = above parent found in
         ap (λ (kind : Kind). child_span kind axis (map change rows) (change parent) (span_in most (map change rows) axis (change parent)) (change row)) (still.kind parent)
         ∙ ap (λ (span : Span). child_span parent.kind axis (map change rows) (change parent) span (change row)) (rest at.0 parent at.1)
-        ∙ child_span-same change rows axis parent row (span_in most rows axis parent) still (record { i = i; there = there; j = at.0; above = at.1 }) parent.kind
+        ∙ child_span-same change rows axis parent row (span_in most rows axis parent) still (record { i = i; there = there; j = at.0; above = at.1 }) parent.kind refl
 
 pub still_places : StillPlaces
 unfolding place_in span_along

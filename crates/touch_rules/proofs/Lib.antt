@@ -1,7 +1,12 @@
 pub mod LooksDiffer
+pub mod SameLooks
 pub mod OthersLooks
+pub mod UnwatchedLooks
+pub mod WatchedLooks
+pub mod KeyNumbers
+pub mod CommandNumbers
 pub mod ShownFilms
 pub mod ShownAnew
-pub mod OwnLooks
 pub mod StepLooks
+pub mod InputLooks
 pub mod AnewLemmas

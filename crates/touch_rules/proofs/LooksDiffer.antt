@@ -1,5 +1,6 @@
 -- Two looks differ where they do without their films' bytes, or the films that the widgets show do.
 use Rattle.std.proofs.Common.{◌≡◌, Bool, true, false, ◌&&◌, ◌||◌, not, Option, Some, None, refl, sym}
+use Rattle.std.proofs.Math.Bool.{or-false}
 use Rattle.std.proofs.lemmas.Bool.{true≢false}
 use Rattle.std.specs.Option.{option_map_or}
 use Rattle.std.specs.Str.{bytes_eq}
@@ -16,10 +17,6 @@ use Rattle.scene_model.specs.Scene.{Scene}
 use Rattle.scene_model.specs.LookOf.{look_by, look_of}
 use Rattle.desk_model.specs.Screens.{is_screen}
 use Rattle.touch_rules.specs.Films.{looks_alike, shown_film}
-
-pub or_false : (b : Bool) → (b || false) ≡ b
-or_false true = refl
-or_false false = refl
 
 sides : (w h b : Bool) → not (w && (h && b)) ≡ (not (w && (h && true)) || not (w && (h && b)))
 sides true true true = refl
@@ -58,7 +55,7 @@ unfolding same_look
 looks-differ VScreen VScreen s s' a b = screens a.film b.film
 looks-differ VScreen k s s' a b = screen-other a.film k s' b refl
 looks-differ j VScreen s s' a b = other-screen b.film j s a refl
-looks-differ j k s s' a b = sym (or_false (not (same_look (look_by j s a) (look_by k s' b))))
+looks-differ j k s s' a b = sym (or-false (not (same_look (look_by j s a) (look_by k s' b))))
 
 pub differs-but_bytes : (s s' : Scene) (a b : Row) → not (same_look (look_of s a) (look_of s' b)) ≡ (not (same_look (but_bytes (look_of s a)) (but_bytes (look_of s' b))) || not (looks_alike (shown_film a) (shown_film b)))
 unfolding look_of

@@ -1,5 +1,6 @@
 -- What leaves the films that widgets show, and what changes that of one VScreen.
 use Rattle.std.proofs.Common.{◌≡◌, ℕ, Bool, true, false, cond, ◌&&◌, not, nat_eq, List, [], ◌∷◌, ◌++◌, Option, Some, None, refl, sym, ap, ◌∙◌}
+use Rattle.std.proofs.Math.Bool.{and-false}
 use Rattle.std.proofs.lemmas.Bool.{true≢false, eqb-true, eq-eqb, and_parts, and_from}
 use Rattle.std.proofs.lemmas.Slice.Eq.{bytes_eq-Decides}
 use Rattle.std.specs.List.{find}
@@ -98,12 +99,8 @@ alike-own (Some film) =
 pub alike-same : (one two : Option FilmState) → two ≡ one → not (looks_alike one two) ≡ false
 alike-same one two same = ap (λ (film : Option FilmState). not (looks_alike one film)) same ∙ ap not (alike-own one)
 
-and_false : (b : Bool) → (b && false) ≡ false
-and_false true = refl
-and_false false = refl
-
 pub ShowsAnew-none : (client : ℕ) (old new : List Row) → KeepFilms old new → ShowsAnew client None old new
-ShowsAnew-none client old new keeps = record { each = λ owner name before after found found'. alike-same (shown_film before) (shown_film after) (keeps.each owner name before after found found') ∙ sym (and_false (nat_eq client owner)) }
+ShowsAnew-none client old new keeps = record { each = λ owner name before after found found'. alike-same (shown_film before) (shown_film after) (keeps.each owner name before after found found') ∙ sym (and-false (nat_eq client owner)) }
 
 -- the named row's film is changed, and looks different where the test says so
 pub ShowsAnew-named : (rows : List Row) (client : ℕ) (name : List ℕ) (change : Row → Row) (test : Bool) → LeavesNames change
@@ -140,8 +137,8 @@ ShowsAnew-named rows client name change test leaves looks = record { each = each
             at : (test b : Bool) → (nat_eq client owner && bytes_eq name other) ≡ b → (b ≡ true → t ≡ test) → (b ≡ false → t ≡ false) → t ≡ (nat_eq client owner && option_map_or (λ one. bytes_eq one other) (cond test (Some name) None) false)
             at true true it named stays = named refl ∙ sym it
             at true false it named stays = stays refl ∙ sym it
-            at false true it named stays = named refl ∙ sym (and_false (nat_eq client owner))
-            at false false it named stays = stays refl ∙ sym (and_false (nat_eq client owner))
+            at false true it named stays = named refl ∙ sym (and-false (nat_eq client owner))
+            at false false it named stays = stays refl ∙ sym (and-false (nat_eq client owner))
 
         by : (b : Bool) → has_name client name before ≡ b → not (looks_alike (shown_film before) (shown_film after)) ≡ (nat_eq client owner && option_map_or (λ one. bytes_eq one other) (cond test (Some name) None) false)
         by true e =

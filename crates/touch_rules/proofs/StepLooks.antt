@@ -1,5 +1,6 @@
 -- What is kept before a command and told after it is what it touched.
-use Rattle.std.proofs.Common.{◌≡◌, ◌-◌, ℕ, get_or, Bool, true, false, cond, ◌&&◌, ◌||◌, not, nat_eq, List, Option, Some, None, refl, sym, ap, ◌∙◌}
+use Rattle.std.proofs.Common.{◌≡◌, ℕ, Bool, true, false, cond, ◌&&◌, ◌||◌, not, nat_eq, List, Option, Some, None, refl, sym, ap, subst, ◌∙◌}
+use Rattle.std.proofs.Math.Bool.{and-false}
 use Rattle.std.proofs.lemmas.Bool.{eqb-true, eq-eqb, and_parts, and_from}
 use Rattle.std.proofs.lemmas.Slice.Eq.{bytes_eq-Decides}
 use Rattle.std.specs.List.{list_any}
@@ -12,29 +13,32 @@ use Rattle.cmd_words.specs.declared.replies.Reply.TheVariants.{Refused}
 use Rattle.widget_model.specs.Rows.{Row}
 use Rattle.widget_model.specs.Keys.{key_of}
 use Rattle.widget_model.specs.Named.{row_named}
-use Rattle.widget_model.specs.Nodes.{id_named, first_number, is_number_of}
+use Rattle.widget_model.specs.Nodes.{id_named}
 use Rattle.widget_model.specs.Widgets.{Widgets, nodes, rows_of, row_at}
 use Rattle.widget_model.specs.Forest.{IsWidgets}
 use Rattle.widget_model.proofs.Naming.{row_named-found, row_named-parts, id_named-row}
-use Rattle.tree_core.proofs.Listed.{row_named-row}
 use Rattle.scene_model.specs.Scene.{Scene}
 use Rattle.desk_model.specs.Desk.{Desk}
 use Rattle.desk_model.specs.Commands.{step}
-use Rattle.look_data.specs.Kept.{is_shown_at, kept_look, differ}
+use Rattle.desk_model.specs.Scope.{command_scope}
+use Rattle.desk_model.specs.Seen.{scene_of}
+use Rattle.look_data.specs.Kept.{is_shown_at}
+use Rattle.look_data.specs.Watched.{AreWatched, has_changed}
+use Rattle.tree_core.specs.declared.pointer.Pointer.{Pointer}
 use Rattle.touch_rules.specs.Touched.{Numbered, is_shown, TellsLooks}
 use Rattle.touch_rules.specs.Films.{looks_alike, shown_film, shown_anew, unless_refused}
-use Rattle.touch_rules.specs.Laws.{IsNumbered, IsOwnEvent, kept_of, is_number, is_seen_anew}
-use Rattle.touch_rules.specs.Telling.{number_anew, where_shown, is_told, StepsTellLooks}
+use Rattle.touch_rules.specs.Laws.{IsNumbered, KeepsKeys, is_number}
+use Rattle.touch_rules.specs.Telling.{number_anew, where_shown, is_told, number_named, command_numbers, ShowsDesk, StepsTellLooks}
+use Rattle.touch_rules.proofs.CommandNumbers.{watches-command}
+use Rattle.touch_rules.proofs.SameLooks.{named-row}
+use Rattle.desk_model.proofs.Scopes.{commands_keep_to_their_scope}
 use Rattle.touch_rules.proofs.ShownAnew.{commands_show_anew}
-use Rattle.touch_rules.proofs.OwnLooks.{own_looks_are_enough}
-
-and_false : (b : Bool) → (b && false) ≡ false
-and_false true = refl
-and_false false = refl
+use Rattle.touch_rules.proofs.UnwatchedLooks.{stays-between}
+use Rattle.touch_rules.proofs.WatchedLooks.{watched_looks_are_enough}
 
 -- a name and the number that has it name one widget
 number-name : (widgets : Widgets) (client id : ℕ) (row : Row) (anew : Option (List ℕ)) → IsWidgets widgets → row_at widgets.entries id ≡ Some row → (nat_eq client row.client && option_map_or (λ one. bytes_eq one row.name) anew false) ≡ is_number (option_and_then (id_named (nodes widgets.entries) client) anew) id
-number-name widgets client id row None valid there = and_false (nat_eq client row.client)
+number-name widgets client id row None valid there = and-false (nat_eq client row.client)
 number-name widgets client id row (Some name) valid there = by (nat_eq client row.client && bytes_eq name row.name) refl
   where
     by : (b : Bool) → (nat_eq client row.client && bytes_eq name row.name) ≡ b → b ≡ is_number (id_named (nodes widgets.entries) client name) id
@@ -79,55 +83,54 @@ shown-then shown reply o id after =
     by None = refl
     by (Some n) = one n (shown n) refl (nat_eq id n) refl
 
-kept-same : (own : Bool) (a b after : Option Seen) → (own ≡ true → a ≡ b) → (own && differ a after) ≡ (own && differ b after)
-kept-same true a b after same = ap (λ (o : Option Seen). differ o after) (same refl)
-kept-same false a b after same = refl
-
 pub steps_tell_looks : StepsTellLooks
-steps_tell_looks desk client command payload short before after looks touched valid valid' event kept rows rows' told =
-    own_looks_are_enough client (unless_refused reply (number_anew before.widgets client command payload)) before after touched valid valid' event (record { each = shows }) tells
+steps_tell_looks desk client command payload short before after pointer looks touched valid valid' keys shows watched scene told =
+    watched_looks_are_enough (command_scope client command desk.pointer) (command_numbers before.widgets client command pointer) (number_named before.widgets client command) (unless_refused reply (number_anew before.widgets client command payload)) before after looks touched
+    valid valid' keys
+    (stays-between (command_scope client command desk.pointer) desk next before.scene after.scene shows.scene scene (commands_keep_to_their_scope desk client command payload short))
+    (watches-command desk client command pointer before valid shows)
+    (record { each = films })
+    watched
+    (λ id. told id ∙ ap (λ (b : Bool). has_changed looks after.widgets after.windows after.scene id || b) (shown-then (is_shown_at before.widgets before.windows) reply (number_anew before.widgets client command payload) id (is_shown after id)))
   where
     reply : Reply
     reply = (step desk client command payload short).0
 
+    next : Desk
+    next = (step desk client command payload short).1
+
     anew : Option (List ℕ)
     anew = shown_anew (rows_of before.widgets) client command payload
 
-    found : (numbered : Numbered) (rows : List Row) (id : ℕ) (row : Row) → IsNumbered numbered → numbered.scene.rows ≡ rows → row_at numbered.widgets.entries id ≡ Some row → row_named rows row.client row.name ≡ Some row
-    found numbered rows id row valid is there =
-        ap (λ (rs : List Row). row_named rs row.client row.name) (sym is ∙ valid.rows)
-        ∙ row_named-row numbered.widgets.entries id row valid.widgets.forest.own_numbers valid.widgets.forest.own_names there
+    rows : before.scene.rows ≡ desk.rows
+    rows = ap (λ (s : Scene). s.rows) shows.scene
 
-    shows : (id : ℕ) (a b : Row) → row_at before.widgets.entries id ≡ Some a → row_at after.widgets.entries id ≡ Some b → not (looks_alike (shown_film a) (shown_film b)) ≡ is_number (unless_refused reply (number_anew before.widgets client command payload)) id
-    shows id a b at_a at_b =
-        let key : key_of a ≡ key_of b = event.keys id a b at_a at_b in
-        let there : row_named (step desk client command payload short).1.rows a.client a.name ≡ Some b = ap (λ (k : ℕ × List ℕ). row_named (step desk client command payload short).1.rows k.0 k.1) key ∙ found after (step desk client command payload short).1.rows id b valid' rows' at_b in
+    found : (numbered : Numbered) (rows : List Row) (id : ℕ) (row : Row) → IsNumbered numbered → numbered.scene.rows ≡ rows → row_at numbered.widgets.entries id ≡ Some row → row_named rows row.client row.name ≡ Some row
+    found numbered rows id row valid is there = ap (λ (rs : List Row). row_named rs row.client row.name) (sym is) ∙ named-row numbered id row valid there
+
+    films : (id : ℕ) (a b : Row) → row_at before.widgets.entries id ≡ Some a → row_at after.widgets.entries id ≡ Some b → not (looks_alike (shown_film a) (shown_film b)) ≡ is_number (unless_refused reply (number_anew before.widgets client command payload)) id
+    films id a b at_a at_b =
+        let key : key_of a ≡ key_of b = keys.each id a b at_a at_b in
+        let there : row_named next.rows a.client a.name ≡ Some b = ap (λ (k : ℕ × List ℕ). row_named next.rows k.0 k.1) key ∙ found after next.rows id b valid' (ap (λ (s : Scene). s.rows) scene) at_b in
         (commands_show_anew desk client command payload short).each a.client a.name a b (found before desk.rows id a valid rows at_a) there
         ∙ ap (λ (rs : List Row). nat_eq client a.client && option_map_or (λ one. bytes_eq one a.name) (unless_refused reply (shown_anew rs client command payload)) false) (sym rows ∙ valid.rows)
         ∙ number-name before.widgets client id a (unless_refused reply anew) valid.widgets at_a
         ∙ ap (λ (o : Option ℕ). is_number o id) (refused-then reply (id_named (nodes before.widgets.entries) client) anew)
 
-    tells : (id : ℕ) → list_any (nat_eq id) touched ≡ ((is_number_of client id && differ (kept_of before id) (kept_of after id)) || is_seen_anew (unless_refused reply (number_anew before.widgets client command payload)) before after id)
-    tells id =
-        told id
-        ∙ ap (λ (b : Bool). b || (is_number (unless_refused reply (where_shown before.widgets before.windows (number_anew before.widgets client command payload))) id && is_shown after id)) (kept-same (is_number_of client id) _ (kept_of before id) (kept_of after id) (kept.each id))
-        ∙ ap (λ (b : Bool). (is_number_of client id && differ (kept_of before id) (kept_of after id)) || b) (shown-then (is_shown_at before.widgets before.windows) reply (number_anew before.widgets client command payload) id (is_shown after id))
-
 -- What a step's calls say of it, each in the words of its clause: the looks kept before it and the VScreen that was asked
 -- for then, by the scene `s`, and what was told after it, by the scene `s'`.
-pub told-step : (desk : Desk) (client : ℕ) (command : Command) (payload : List ℕ) (short : Bool) (before after : Numbered) (reply : Reply) (next : Desk) (looks : List (Option Seen)) (anew : Option ℕ) (s s' : Scene) (touched : List ℕ)
-    → IsNumbered before → IsNumbered after → IsOwnEvent client before after
-    → (reply, next) ≡ step desk client command payload short → before.scene.rows ≡ desk.rows → after.scene.rows ≡ next.rows → s ≡ before.scene → s' ≡ after.scene
-    → ((id : ℕ) → is_number_of client id ≡ true → get_or looks (id - first_number client) None ≡ kept_look before.widgets before.windows s id)
+pub told-step : (desk : Desk) (client : ℕ) (command : Command) (payload : List ℕ) (short : Bool) (before after : Numbered) (pointer : Pointer) (reply : Reply) (next : Desk) (looks : List (ℕ × Seen)) (anew : Option ℕ) (s s' : Scene) (touched : List ℕ)
+    → IsNumbered before → IsNumbered after → KeepsKeys before after → ShowsDesk desk pointer before
+    → (reply, next) ≡ step desk client command payload short → after.scene ≡ scene_of next → s ≡ before.scene → s' ≡ after.scene
+    → AreWatched (command_numbers before.widgets client command pointer) (number_named before.widgets client command) before.widgets before.windows s looks
     → anew ≡ where_shown before.widgets before.windows (number_anew before.widgets client command payload)
-    → ((id : ℕ) → list_any (nat_eq id) touched ≡ is_told client looks (unless_refused reply anew) after.widgets after.windows s' id)
+    → ((id : ℕ) → list_any (nat_eq id) touched ≡ is_told looks (unless_refused reply anew) after.widgets after.windows s' id)
     → TellsLooks before after touched
-told-step desk client command payload short before after reply next looks anew s s' touched valid valid' event stepped rows rows' scene scene' kept asked told =
-    steps_tell_looks desk client command payload short before after looks touched valid valid' event
-    (record { each = λ id own. kept id own ∙ ap (λ (t : Scene). kept_look before.widgets before.windows t id) scene })
-    rows
-    (rows' ∙ ap (λ (done : Reply × Desk). done.1.rows) stepped)
+told-step desk client command payload short before after pointer reply next looks anew s s' touched valid valid' keys shows stepped shown scene scene' watched asked told =
+    steps_tell_looks desk client command payload short before after pointer looks touched valid valid' keys shows
+    (subst (λ (t : Scene). AreWatched (command_numbers before.widgets client command pointer) (number_named before.widgets client command) before.widgets before.windows t looks) scene watched)
+    (shown ∙ ap (λ (done : Reply × Desk). scene_of done.1) stepped)
     (λ id. told id
-    ∙ ap (λ (t : Scene). is_told client looks (unless_refused reply anew) after.widgets after.windows t id) scene'
-    ∙ ap (λ (o : Option ℕ). is_told client looks (unless_refused reply o) after.widgets after.windows after.scene id) asked
-    ∙ ap (λ (done : Reply × Desk). is_told client looks (unless_refused done.0 (where_shown before.widgets before.windows (number_anew before.widgets client command payload))) after.widgets after.windows after.scene id) stepped)
+    ∙ ap (λ (t : Scene). is_told looks (unless_refused reply anew) after.widgets after.windows t id) scene'
+    ∙ ap (λ (o : Option ℕ). is_told looks (unless_refused reply o) after.widgets after.windows after.scene id) asked
+    ∙ ap (λ (done : Reply × Desk). is_told looks (unless_refused done.0 (where_shown before.widgets before.windows (number_anew before.widgets client command payload))) after.widgets after.windows after.scene id) stepped)

@@ -1,18 +1,18 @@
--- What an event touches: where it leaves the rows of all clients but some, and the pointer's hold on their widgets, only
--- the looks of those some can differ, so it is enough to compare those, and what a VScreen shows that it shows anew.
+-- What an event touches: where it keeps to its scope, only the looks of the widgets in it, and of those that are linked to
+-- a Variable in it, can differ, so it is enough to compare those, and what a VScreen shows that it shows anew.
 use Rattle.std.specs.Prelude.{ℕ, ◌≡◌, ◌≤◌, Bool, true, false, not, ◌&&◌, ◌||◌, nat_eq, List, [], Some, None, Option}
 use Rattle.std.specs.List.{list_any}
 use Rattle.std.specs.Option.{option_map_or}
 use Rattle.look_core.specs.Seen.{Seen}
 use Rattle.widget_model.specs.Rows.{Row}
-use Rattle.widget_model.specs.Keys.{key_of, same_key}
-use Rattle.widget_model.specs.Named.{own_rows, rows_of_others}
+use Rattle.widget_model.specs.Keys.{key_of}
+use Rattle.widget_model.specs.Named.{rows_of_others}
 use Rattle.widget_model.specs.Nodes.{is_number_of}
 use Rattle.widget_model.specs.Widgets.{rows_of, row_at}
 use Rattle.widget_model.specs.Forest.{IsWidgets}
-use Rattle.scene_model.specs.LookOf.{grabs}
 use Rattle.desk_model.specs.OwnPart.{LeavesPointer}
-use Rattle.look_data.specs.Kept.{kept_look, differ}
+use Rattle.desk_model.specs.Scope.{Scope, StaysBut, is_among}
+use Rattle.look_data.specs.Watched.{AreWatched, has_changed}
 use Rattle.touch_rules.specs.Touched.{Numbered, is_shown, TellsLooks}
 use Rattle.touch_rules.specs.Films.{looks_alike, shown_film}
 
@@ -29,25 +29,16 @@ pub record IsOwnEvent (client : ℕ) (before after : Numbered) : Type 0 where
   pub rows : rows_of_others client after.scene.rows ≡ rows_of_others client before.scene.rows
   pub pointer : LeavesPointer client before.scene.pointer after.scene.pointer
 
--- whether the client is one of these
-abbrev pub is_one_of : List ℕ → ℕ → Bool
-is_one_of clients client = list_any (nat_eq client) clients
+-- A number that names a widget before and after names one key.
+pub record KeepsKeys (before after : Numbered) : Type 0 where
+  pub each : (id : ℕ) (a b : Row) → row_at before.widgets.entries id ≡ Some a → row_at after.widgets.entries id ≡ Some b → key_of a ≡ key_of b
 
--- whether the number is one of these clients' numbers
-abbrev pub is_number_among : List ℕ → ℕ → Bool
-is_number_among clients id = list_any (λ client. is_number_of client id) clients
-
--- An event of these clients: a number that names a widget before and after names one key, the rows of every other client
--- stay, and so do the grab of a widget of theirs, and the focus.
-pub record IsEventOf (clients : List ℕ) (before after : Numbered) : Type 0 where
-  pub keys : (id : ℕ) (a b : Row) → row_at before.widgets.entries id ≡ Some a → row_at after.widgets.entries id ≡ Some b → key_of a ≡ key_of b
-  pub rows : (client : ℕ) → is_one_of clients client ≡ false → own_rows client after.scene.rows ≡ own_rows client before.scene.rows
-  pub held : (key : ℕ × List ℕ) → is_one_of clients key.0 ≡ false → grabs after.scene.pointer.grab key ≡ grabs before.scene.pointer.grab key
-  pub focus : (key : ℕ × List ℕ) → is_one_of clients key.0 ≡ false → option_map_or (same_key key) after.scene.pointer.focus false ≡ option_map_or (same_key key) before.scene.pointer.focus false
-
--- what is kept of the numbered widget's look
-abbrev pub kept_of : Numbered → ℕ → Option Seen
-kept_of numbered id = kept_look numbered.widgets numbered.windows numbered.scene id
+-- Of the widgets that are there before the event, the numbers in the list have all whose rows or hold the event may change,
+-- and the Variable is the only one whose value it may change.
+pub record WatchesScope (scope : Scope) (named : List ℕ) (variable : Option ℕ) (before : Numbered) : Type 0 where
+  pub rows : (id : ℕ) (row : Row) → row_at before.widgets.entries id ≡ Some row → is_among scope.rows (key_of row) ≡ true → list_any (nat_eq id) named ≡ true
+  pub held : (id : ℕ) (row : Row) → row_at before.widgets.entries id ≡ Some row → is_among scope.held (key_of row) ≡ true → list_any (nat_eq id) named ≡ true
+  pub values : (id : ℕ) (row : Row) → row_at before.widgets.entries id ≡ Some row → is_among scope.values (key_of row) ≡ true → variable ≡ Some id
 
 -- whether it is that number, where there is one
 abbrev pub is_number : Option ℕ → ℕ → Bool
@@ -62,18 +53,13 @@ pub record ShowsNumberAnew (anew : Option ℕ) (before after : Numbered) : Type 
 abbrev pub is_seen_anew : Option ℕ → Numbered → Numbered → ℕ → Bool
 is_seen_anew anew before after id = is_number anew id && (is_shown before id && is_shown after id)
 
--- Then the client's numbers whose kept looks differ, and that of the VScreen, are exactly the touched ones.
-abbrev pub OwnLooksAreEnough : Type 0
-OwnLooksAreEnough =
-    (client : ℕ) (anew : Option ℕ) (before after : Numbered) (touched : List ℕ) → IsNumbered before → IsNumbered after → IsOwnEvent client before after → ShowsNumberAnew anew before after
-    → ((id : ℕ) → list_any (nat_eq id) touched ≡ ((is_number_of client id && differ (kept_of before id) (kept_of after id)) || is_seen_anew anew before after id))
-    → TellsLooks before after touched
-
--- Where no film looks different, the numbers of these clients whose kept looks differ are exactly the touched ones.
-abbrev pub SomeLooksAreEnough : Type 0
-SomeLooksAreEnough =
-    (clients : List ℕ) (before after : Numbered) (touched : List ℕ) → IsNumbered before → IsNumbered after → IsEventOf clients before after → ShowsNumberAnew None before after
-    → ((id : ℕ) → list_any (nat_eq id) touched ≡ (is_number_among clients id && differ (kept_of before id) (kept_of after id)))
+-- After an event that keeps to its scope it is enough to compare the watched looks, and to add the VScreen that it shows
+-- anew.
+abbrev pub WatchedLooksAreEnough : Type 0
+WatchedLooksAreEnough =
+    (scope : Scope) (named : List ℕ) (variable anew : Option ℕ) (before after : Numbered) (looks : List (ℕ × Seen)) (touched : List ℕ) → IsNumbered before → IsNumbered after → KeepsKeys before after
+    → StaysBut scope before.scene after.scene → WatchesScope scope named variable before → ShowsNumberAnew anew before after → AreWatched named variable before.widgets before.windows before.scene looks
+    → ((id : ℕ) → list_any (nat_eq id) touched ≡ (has_changed looks after.widgets after.windows after.scene id || is_seen_anew anew before after id))
     → TellsLooks before after touched
 
 -- Where no number of the client is live after it, nothing is touched.

@@ -1,8 +1,8 @@
 //! Laws over the definitions. Each function does nothing; its contract is the law.
 
 ghost use Rattle.touch_rules.specs.Films.{CommandsShowAnew};
-ghost use Rattle.touch_rules.specs.Laws.{OwnLooksAreEnough, SomeLooksAreEnough, LeavingTouchesNothing, StayingTouchesNothing};
-ghost use Rattle.touch_rules.specs.Telling.{StepsTellLooks};
+ghost use Rattle.touch_rules.specs.Laws.{WatchedLooksAreEnough, LeavingTouchesNothing, StayingTouchesNothing};
+ghost use Rattle.touch_rules.specs.Telling.{StepsTellLooks, InputsTellLooks};
 
 /// A command that is done changes what one VScreen shows at most, the one that the definitions name; a refused one
 /// changes what none shows.
@@ -10,16 +10,10 @@ pub fn commands_show_anew()
     ensures { CommandsShowAnew }
 {}
 
-/// After an event of one client it is enough to compare that client's looks, and what the VScreen shows that the event
-/// shows anew.
-pub fn own_looks_are_enough()
-    ensures { OwnLooksAreEnough }
-{}
-
-/// After an event that leaves all films, and the rows of all clients but some with the pointer's hold on their widgets,
-/// it is enough to compare the looks of those some.
-pub fn some_looks_are_enough()
-    ensures { SomeLooksAreEnough }
+/// After an event that keeps to its scope it is enough to compare the watched looks, and what the VScreen shows that the
+/// event shows anew.
+pub fn watched_looks_are_enough()
+    ensures { WatchedLooksAreEnough }
 {}
 
 /// A client that leaves touches no look.
@@ -35,4 +29,9 @@ pub fn staying_touches_nothing()
 /// What is kept before a client's command, and told after it, is exactly what it touched.
 pub fn steps_tell_looks()
     ensures { StepsTellLooks }
+{}
+
+/// The same of an input.
+pub fn inputs_tell_looks()
+    ensures { InputsTellLooks }
 {}

@@ -3,8 +3,10 @@
 #![tactic(auto)]
 
 mod anew;
+mod keeping;
 pub mod laws;
 mod telling;
 
 pub use anew::shown_anew;
+pub use keeping::keep_before;
 pub use telling::tell_touched;

@@ -1,4 +1,4 @@
-use Rattle.touch_rules.proofs.OwnLooks.{leaving_touches_nothing}
+use Rattle.touch_rules.proofs.OthersLooks.{leaving_touches_nothing}
 use Rattle.touch_rules.proofs.laws.leaving_touches_nothing.Goals as goal
 
 pub returns : goal.returns

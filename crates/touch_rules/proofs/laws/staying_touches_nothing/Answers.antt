@@ -1,4 +1,4 @@
-use Rattle.touch_rules.proofs.OwnLooks.{staying_touches_nothing}
+use Rattle.touch_rules.proofs.OthersLooks.{staying_touches_nothing}
 use Rattle.touch_rules.proofs.laws.staying_touches_nothing.Goals as goal
 
 pub returns : goal.returns
