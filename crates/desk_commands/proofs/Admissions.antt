@@ -1,14 +1,14 @@
 -- Admissions by number as by name: the others' ones, their shares, and that there is room for one more.
-use Rattle.std.proofs.Common.{◌≡◌, ◌≢◌, ℕ, zero, suc, ◌+◌, ◌<◌, ◌≤◌, Bool, true, false, cond, not, ◌&&◌, ◌||◌, ◌==◌, nat_eq, nat_lt, List, [], ◌∷◌, ◌++◌, map, length, Option, Some, None, is_some, AllPairs, refl, sym, ap, ap₂, ◌∙◌, arith}
-use Rattle.std.proofs.lemmas.Bool.{true≢false, and_parts, and_from, eqb-true, eq-eqb, ne_eqb, or_from, or_parts}
+use Rattle.std.proofs.Common.{◌≡◌, ◌≢◌, ℕ, suc, ◌+◌, ◌<◌, Bool, true, false, cond, not, ◌||◌, ◌==◌, nat_eq, nat_lt, List, [], ◌∷◌, ◌++◌, length, Option, Some, None, is_some, AllPairs, refl, sym, ap, ◌∙◌, arith}
+use Rattle.std.proofs.lemmas.Bool.{true≢false, and_parts, and_from, eqb-true, eq-eqb, ne_eqb, or_from}
 use Rattle.std.proofs.lemmas.List.Sums.{sum_by-cons}
-use Rattle.std.specs.List.{list_all, list_any, filter, sum_by}
+use Rattle.std.specs.List.{list_all, filter}
 use Rattle.std.specs.Option.{option_map, option_map_or}
 use Rattle.kind_core.specs.declared.kinds.Kind.{Kind}
 use Rattle.kind_core.specs.declared.kinds.Kind.TheVariants.{VScreen}
 use Rattle.admit_core.specs.Roster.{RosterState, IsRoster, has_key, others, total}
 use Rattle.widget_model.specs.Rows.{Row}
-use Rattle.widget_model.specs.Nodes.{Node, node_of, node_at}
+use Rattle.widget_model.specs.Nodes.{Node, node_of}
 use Rattle.widget_model.specs.Widgets.{Widgets, nodes, row_at}
 use Rattle.widget_model.specs.Forest.{HaveOwnNames}
 use Rattle.widget_model.specs.Trees.{is_admitted}
@@ -18,7 +18,6 @@ use Rattle.desk_commands.specs.Parts.{admission_at, admissions_at, names_admitte
 use Rattle.desk_commands.specs.Lookup.{IsFound}
 use Rattle.desk_commands.proofs.WindowSteps.{same_title}
 use Rattle.desk_commands.proofs.KindRoom.{names_kind, room_for_one}
-use Rattle.desk_commands.proofs.Rosters.{admitted-node}
 use Rattle.desk_model.specs.Screens.{is_screen}
 use Rattle.stack_core.specs.Stack.{holds_key, AreDistinct}
 use Rattle.std.specs.Prelude.{slice_index_or, slice_get, IfSome, IsSome}

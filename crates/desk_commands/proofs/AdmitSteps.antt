@@ -1,9 +1,8 @@
 -- What `mode`, `frame`, `admit` and `leave` do, where nothing is refused or the last refusal holds.
-use Rattle.std.proofs.Common.{◌≡◌, ◌+◌, ◌-◌, ◌<◌, ◌≤◌, ℕ, ℤ, pos, unsigned_abs, Bool, true, false, cond, not, nat_lt, nat_le, nat_eq, List, [], ◌∷◌, ◌++◌, length, Option, Some, None, Result, Ok, Err, is_some, refl, sym, ap, ap₂, ◌∙◌, subst, arith}
-use Rattle.std.proofs.lemmas.Bool.{true≢false, eq-eqb, leb-true, leb-false, le-leb, lt-ltb, ltb-true, false_from_ne_true}
+use Rattle.std.proofs.Common.{◌≡◌, ◌+◌, ◌-◌, ◌<◌, ℕ, ℤ, unsigned_abs, Bool, true, false, cond, nat_lt, nat_le, List, [], ◌∷◌, ◌++◌, length, Option, Some, None, Result, Ok, Err, is_some, refl, sym, ap, ap₂, ◌∙◌, subst, arith}
+use Rattle.std.proofs.lemmas.Bool.{eq-eqb, leb-true, leb-false, lt-ltb, ltb-true, false_from_ne_true}
 use Rattle.std.specs.List.{list_all}
-use Rattle.std.specs.Option.{option_map, option_map_or, option_and_then}
-use Rattle.kind_core.specs.declared.kinds.Kind.{Kind}
+use Rattle.std.specs.Option.{option_map_or, option_and_then}
 use Rattle.kind_core.specs.declared.kinds.Kind.TheVariants.{VScreen}
 use Rattle.cmd_words.specs.declared.replies.Reply.{Reply}
 use Rattle.cmd_words.specs.declared.replies.Reply.TheVariants.{Done, Refused}
@@ -18,14 +17,13 @@ use Rattle.widget_model.specs.Rows.{Row}
 use Rattle.widget_model.specs.Nodes.{Node, node_at, id_named}
 use Rattle.widget_model.specs.Named.{row_named, with_named}
 use Rattle.widget_model.specs.Trees.{is_admitted}
-use Rattle.widget_model.specs.Widgets.{Widgets, nodes, rows_of, row_at, edited}
+use Rattle.widget_model.specs.Widgets.{Widgets, nodes, rows_of, edited}
 use Rattle.widget_model.specs.Forest.{IsWidgets}
 use Rattle.widget_model.proofs.Naming.{rows-with_row}
 use Rattle.tree_core.proofs.ForestLemmas.{nodes-with_row, live-with_row}
 use Rattle.desk_model.specs.Desk.{Desk, Admission}
-use Rattle.desk_model.specs.Refusals.{when, first_refusal, outcome}
-use Rattle.desk_model.specs.PlaceOptions.{unless_within}
-use Rattle.desk_model.specs.Screens.{is_screen, with_film_changed, framed, frame_refusal, step_frame, shares_of, other_admissions, roster_limit, share_wanted, unless_share_fits, admission_of, admit_refusal, admit_effect, step_admit, leave_effect, step_leave}
+use Rattle.desk_model.specs.Refusals.{when, first_refusal}
+use Rattle.desk_model.specs.Screens.{with_film_changed, frame_refusal, shares_of, other_admissions, share_wanted, unless_share_fits, admission_of, admit_refusal, step_admit, step_leave}
 use Rattle.desk_commands.specs.Parts.{admission_at, admissions_at, is_live_entry, AreListed, ListsAdmitted, HasLimitOf}
 use Rattle.desk_commands.specs.Effects.{with_admissions, DidListed}
 use Rattle.desk_commands.specs.Lookup.{IsFound}

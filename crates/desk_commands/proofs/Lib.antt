@@ -2,8 +2,12 @@ pub mod Counting
 pub mod Effects
 pub mod Rosters
 pub mod Wholes
+pub mod Frames
 pub mod Unmoved
 mod NewStays
+mod DropStays
+mod LeftAsked
+pub mod SetStays
 pub mod StillCommands
 pub mod LinkSteps
 pub mod Edits

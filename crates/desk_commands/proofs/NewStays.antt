@@ -1,6 +1,6 @@
 -- A new widget that is no Window moves nothing: it hangs in no other, and none hangs in it or is linked to it.
-use Rattle.std.proofs.Common.{◌≡◌, ℕ, zero, suc, Bool, true, false, cond, List, [], ◌∷◌, ◌++◌, slice_get, append-nil, Option, Some, None, is_some, refl, sym, ap, ap₂, ◌∙◌, subst}
-use Rattle.std.proofs.lemmas.Bool.{true≢false, false≢true, and_from}
+use Rattle.std.proofs.Common.{◌≡◌, ℕ, zero, suc, Bool, true, false, cond, List, [], ◌∷◌, ◌++◌, slice_get, append-nil, Option, Some, None, is_some, refl, sym, ap, ap₂, ◌∙◌}
+use Rattle.std.proofs.lemmas.Bool.{false≢true, and_from}
 use Rattle.std.proofs.lemmas.List.Elements.{filter-append}
 use Rattle.std.specs.Cmp.{nat_eq_equiv}
 use Rattle.std.specs.Cmp.Lexicographic.{nat_list_eq_equiv}
@@ -21,10 +21,11 @@ use Rattle.scene_model.specs.Placing.{place_in}
 use Rattle.scene_model.specs.DuePlaces.{due_place}
 use Rattle.scene_model.specs.WindowRows.{is_in_window, window_rows, AreHung}
 use Rattle.scene_model.proofs.WindowRows.{places_stay}
-use Rattle.scene_model.proofs.Parents.{key_of-found, row_of-own}
+use Rattle.scene_model.proofs.Parents.{row_of-own}
 use Rattle.scene_core.proofs.Finds.{same_key-true}
 use Rattle.desk_model.specs.DeskFacts.{links_right}
-use Rattle.desk_commands.specs.Stays.{due_of, MoveNothing}
+use Rattle.desk_model.specs.InPlace.{due_of}
+use Rattle.desk_commands.specs.Stays.{MoveNothing}
 use Rattle.desk_commands.proofs.InWindows.{root_in-alone}
 
 find-there : {X : Type 0} (p : X → Bool) (xs : List X) (x y : X) → find p xs ≡ Some y → find p (xs ++ x ∷ []) ≡ Some y
@@ -43,11 +44,11 @@ find-last p (z ∷ zs) x none = by (find-last p zs x) (p z) none
     by rest true h = absurd (cc)
     by rest false h = rest h
 
-filter-alike : {X : Type 0} (p q : X → Bool) → ((x : X) → p x ≡ q x) → (xs : List X) → filter p xs ≡ filter q xs
+pub filter-alike : {X : Type 0} (p q : X → Bool) → ((x : X) → p x ≡ q x) → (xs : List X) → filter p xs ≡ filter q xs
 filter-alike p q same [] = refl
 filter-alike p q same (x ∷ xs) = ap₂ (λ (b : Bool) (ys : List _). cond b (x ∷ ys) ys) (same x) (filter-alike p q same xs)
 
-filter-from : {X : Type 0} (p : X → Bool) (xs : List X) (i : ℕ) (x : X) → slice_get (filter p xs) i ≡ Some x → (j : ℕ) × (slice_get xs j ≡ Some x)
+pub filter-from : {X : Type 0} (p : X → Bool) (xs : List X) (i : ℕ) (x : X) → slice_get (filter p xs) i ≡ Some x → (j : ℕ) × (slice_get xs j ≡ Some x)
 filter-from p [] i x there = absurd (cc)
 filter-from {X} p (y ∷ ys) i x there = by (λ k at. filter-from p ys k x at) (p y) i there
   where
@@ -56,7 +57,7 @@ filter-from {X} p (y ∷ ys) i x there = by (λ k at. filter-from p ys k x at) (
     by rest true (suc k) at = let r = rest k at in (suc r.0, r.1)
     by rest false k at = let r = rest k at in (suc r.0, r.1)
 
-filter-to : {X : Type 0} (p : X → Bool) (xs : List X) (j : ℕ) (x : X) → slice_get xs j ≡ Some x → p x ≡ true → (i : ℕ) × (slice_get (filter p xs) i ≡ Some x)
+pub filter-to : {X : Type 0} (p : X → Bool) (xs : List X) (j : ℕ) (x : X) → slice_get xs j ≡ Some x → p x ≡ true → (i : ℕ) × (slice_get (filter p xs) i ≡ Some x)
 filter-to p [] j x there passes = absurd (cc)
 filter-to p (y ∷ ys) zero x there passes =
     let same : y ≡ x = cc in

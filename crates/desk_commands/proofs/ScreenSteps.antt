@@ -1,18 +1,16 @@
 -- The steps of `mode`, `frame`, `admit` and `leave`, by what is found.
-use Rattle.std.proofs.Common.{◌≡◌, ◌+◌, ◌-◌, ℕ, ℤ, Bool, true, false, not, nat_lt, List, [], ◌∷◌, Option, Some, None, is_none, refl, sym, ap, ◌∙◌}
+use Rattle.std.proofs.Common.{◌≡◌, ℕ, ℤ, Bool, false, not, List, [], ◌∷◌, Option, refl, ap}
 use Rattle.std.specs.Prelude.{pos}
 use Rattle.std.specs.Option.{option_map_or, option_and_then}
-use Rattle.cmd_words.specs.declared.replies.Reply.{Reply}
 use Rattle.cmd_words.specs.declared.replies.Refusal.{Refusal}
 use Rattle.cmd_words.specs.declared.replies.Refusal.TheVariants.{Memory, Admitted, NotAdmitted}
-use Rattle.vscreen_core.specs.FilmState.{FilmState}
 use Rattle.widget_model.specs.Rows.{Row}
 use Rattle.widget_model.specs.Named.{row_named}
 use Rattle.widget_model.specs.Trees.{is_admitted}
 use Rattle.desk_model.specs.Desk.{Desk}
 use Rattle.desk_model.specs.Refusals.{when, first_refusal, outcome, unless_there, unless_kind}
 use Rattle.desk_model.specs.PlaceOptions.{unless_within}
-use Rattle.desk_model.specs.Screens.{is_screen, film_named, unless_film, mode_refusal, mode_effect, step_mode, unless_share_fits, share_wanted, admit_refusal, admit_effect, step_admit, leave_refusal, leave_effect, step_leave, unless_size_fits, frame_refusal, frame_effect, step_frame}
+use Rattle.desk_model.specs.Screens.{is_screen, unless_film, mode_refusal, mode_effect, step_mode, unless_share_fits, share_wanted, admit_refusal, admit_effect, step_admit, leave_effect, step_leave, unless_size_fits, frame_refusal, frame_effect, step_frame}
 
 pub mode_refusal-by : (desk : Desk) (client : ℕ) (name : List ℕ) (w h : ℤ) (short : Bool) (row : Option Row) → row_named desk.rows client name ≡ row → mode_refusal desk client name w h short ≡ first_refusal (unless_there row ∷ unless_kind is_screen row ∷ unless_within (pos 1) (pos 256) w ∷ unless_within (pos 1) (pos 256) h ∷ when (option_map_or is_admitted row false) Admitted ∷ when short Memory ∷ [])
 mode_refusal-by desk client name w h short row is = rw is refl

@@ -1,139 +1,42 @@
--- Commands that move nothing: they open a window, change what an event is bound to, or set what layout doesn't read.
-use Rattle.std.proofs.Common.{◌≡◌, ◌+◌, ◌*◌, ℕ, ℤ, pos, Bool, true, false, cond, int_lt, nat_eq, nat_lt, unsigned_abs, length, get_or, List, [], ◌∷◌, map, slice_get, Option, Some, None, is_some, refl, sym, ap, ap₂, ◌∙◌, subst}
-use Rattle.std.proofs.lemmas.Bool.{true≢false, or_parts}
-use Rattle.std.proofs.lemmas.List.{get_or-set_other}
-use Rattle.std.specs.List.{list_any}
-use Rattle.std.specs.Option.{option_map, option_map_or, option_and_then}
+-- Commands that move nothing: they make or take away a widget that hangs nowhere, open a window, change what an event is
+-- bound to, or set what layout needs no other room for.
+use Rattle.std.proofs.Common.{◌≡◌, ℕ, ℤ, Bool, true, false, cond, ◌||◌, nat_eq, nat_lt, unsigned_abs, length, List, [], ◌∷◌, map, slice_get, Option, Some, None, is_some, refl, sym, ap, ◌∙◌}
+use Rattle.std.proofs.lemmas.Bool.{true≢false}
+use Rattle.std.specs.Option.{option_map, option_map_or}
 use Rattle.kind_core.specs.declared.kinds.Kind.{Kind}
-use Rattle.kind_core.specs.declared.kinds.Kind.TheVariants.{Window, Grid, Frame, Button, Label, Entry, Scale, Scrollbar, Variable, VScreen}
 use Rattle.kind_core.specs.declared.kinds.Attr.{Attr}
-use Rattle.kind_core.specs.declared.kinds.Attr.TheVariants.{X, Y, W, H, Title, Text, Caret, Cols, Value, Max, Real, View, Vert}
+use Rattle.kind_core.specs.declared.kinds.Attr.TheVariants.{Text, Value}
 use Rattle.kind_core.specs.declared.kinds.EventKind.{EventKind}
 use Rattle.kind_core.specs.declared.values.Value as value
-use Rattle.kind_core.specs.Effective.{label_text, frame_offset}
 use Rattle.vscreen_core.specs.FilmState.{FilmState, pixels_in}
 use Rattle.vscreen_core.specs.Changes.{committed, begun, settled}
 use Rattle.cmd_words.specs.declared.commands.Command.{Command}
 use Rattle.cmd_words.specs.declared.commands.Command.TheVariants.{New, Set, Get, Place, Lift, ColumnConfig, RowConfig, Link, Unlink, Bind, Unbind, OpenWindow, CloseWindow, TopWindow, Mode, Admit, Leave, SendFrame, DropWidget, Poll}
 use Rattle.cmd_words.specs.declared.replies.Reply.{Reply}
 use Rattle.cmd_words.specs.declared.replies.Refusal.{Refusal}
-use Rattle.widget_model.specs.Rows.{Row, all_attrs, attr_of, attr_slot, with_attr, with_binding, new_row}
-use Rattle.widget_model.specs.Kinds.{is_variable_kind, is_window_kind}
-use Rattle.widget_model.specs.Named.{has_name, row_named, with_named, is_kind_of}
-use Rattle.widget_model.proofs.Naming.{has_name-parts, with_named-absent}
-use Rattle.widget_model.proofs.Hanging.{LeavesNames, changed, row_named-map, row_named-own, all_at, find-element}
-use Rattle.scene_model.specs.declared.axis.Axis.{Axis}
-use Rattle.scene_model.specs.declared.axis.Axis.TheVariants.{Across, Down}
-use Rattle.scene_model.specs.declared.axis.Span.{Span}
-use Rattle.scene_model.specs.Values.{number_in, text_in, number_of, text_of, linked_value, offset_of}
-use Rattle.scene_model.specs.Tracks.{rules_of}
-use Rattle.scene_model.specs.Least.{bar_size, own_size}
-use Rattle.scene_model.specs.Placing.{window_span}
-use Rattle.scene_model.specs.Still.{AsksTheSame, MovesNothing}
-use Rattle.desk_model.specs.Desk.{Desk}
-use Rattle.desk_model.specs.DeskFacts.{IsDesk, links_right}
-use Rattle.desk_model.specs.AttrOptions.{with_attrs}
+use Rattle.widget_model.specs.Rows.{Row, attr_of, with_binding, new_row}
+use Rattle.widget_model.specs.Kinds.{is_window_kind}
+use Rattle.widget_model.specs.Named.{row_named, with_named}
+use Rattle.widget_model.specs.Trees.{is_used}
+use Rattle.widget_model.proofs.Hanging.{changed}
+use Rattle.scene_model.specs.Values.{number_of, text_of, linked_value}
+use Rattle.desk_model.specs.Desk.{Desk, is_open}
+use Rattle.desk_model.specs.DeskFacts.{IsDesk}
 use Rattle.scene_model.specs.WindowRows.{AreHung}
-use Rattle.desk_model.specs.WidgetCommands.{step_new, new_refusal, new_effect, step_set, set_refusal, set_effect}
-use Rattle.cmd_words.specs.declared.replies.Refusal.TheVariants.{NameTaken}
+use Rattle.desk_model.specs.WidgetCommands.{step_new, new_refusal, new_effect, step_set, set_refusal, set_effect, step_get, get_refusal, get_effect, step_drop, drop_refusal, drop_effect}
+use Rattle.cmd_words.specs.declared.replies.Refusal.TheVariants.{NameTaken, NoSuchName, InUse}
 use Rattle.desk_commands.proofs.NewStays.{unmoved-more}
-use Rattle.desk_model.specs.Refusals.{outcome, first_refusal, when}
+use Rattle.desk_model.specs.Refusals.{outcome, first_refusal, when, unless_there}
 use Rattle.desk_model.specs.Bindings.{step_bind, bind_refusal, bind_effect}
 use Rattle.desk_model.specs.Windows.{step_open, open_refusal, open_effect, unless_open, close_effect, step_close, top_effect, step_top}
 use Rattle.desk_model.specs.Screens.{with_film_changed, framed, admit_refusal, admit_effect, step_admit, leave_refusal, leave_effect, step_leave, frame_refusal, frame_effect, step_frame}
 use Rattle.desk_model.specs.Polling.{step_poll}
 use Rattle.desk_model.specs.Commands.{row_of}
-use Rattle.desk_commands.specs.Stays.{MoveNothing, is_asked, may_move}
-use Rattle.desk_commands.proofs.AttrChanges.{same_but_values}
+use Rattle.desk_commands.specs.Stays.{MoveNothing, may_move}
+use Rattle.desk_commands.proofs.LeftAsked.{film_size, letters_in, LeavesAsked, linked-kept, moves-nothing}
+use Rattle.desk_commands.proofs.SetStays.{of-changed, set-unmoved}
+use Rattle.desk_commands.proofs.DropStays.{unmoved-less}
 use Rattle.desk_commands.proofs.Unmoved.{unmoved-same, unmoved-map}
-
--- the size of a film
-abbrev film_size : FilmState → ℕ × ℕ
-film_size film = (film.width, film.height)
-
--- A change that leaves all that layout reads of each row.
-record LeavesAsked (change : Row → Row) (rows : List Row) : Type 0 where
-  client : (row : Row) → (change row).client ≡ row.client
-  name : (row : Row) → (change row).name ≡ row.name
-  kind : (row : Row) → (change row).kind ≡ row.kind
-  attached : (row : Row) → (change row).attached ≡ row.attached
-  column_rules : (row : Row) → (change row).column_rules ≡ row.column_rules
-  row_rules : (row : Row) → (change row).row_rules ≡ row.row_rules
-  film : (row : Row) → option_map film_size (change row).film ≡ option_map film_size row.film
-  attrs : (i : ℕ) (row : Row) → slice_get rows i ≡ Some row → (attr : Attr) → is_asked row.kind attr ≡ true → attr_of (change row) attr ≡ attr_of row attr
-  linked : (i : ℕ) (row : Row) → slice_get rows i ≡ Some row → linked_value (map change rows) (change row) ≡ linked_value rows row
-
--- the value of the linked row, where that keeps its own
-linked-kept : (change : Row → Row) (rows : List Row) (row : Row) → LeavesNames change → (change row).client ≡ row.client → (change row).link ≡ row.link
-    → ((name : List ℕ) (other : Row) → row.link ≡ Some name → row_named rows row.client name ≡ Some other → number_of Value (change other) ≡ number_of Value other)
-    → linked_value (map change rows) (change row) ≡ linked_value rows row
-unfolding linked_value
-linked-kept change rows row leaves client link values =
-    ap₂ (λ (owner : ℕ) (to : Option (List ℕ)). option_map (number_of Value) (option_and_then (row_named (map change rows) owner) to)) client link
-    ∙ by row.link refl
-  where
-    one : (name : List ℕ) → row.link ≡ Some name → (o : Option Row) → row_named rows row.client name ≡ o → option_map (number_of Value) (option_map change o) ≡ option_map (number_of Value) o
-    one name q None p = refl
-    one name q (Some other) p = ap Some (values name other q p)
-
-    by : (o : Option (List ℕ)) → row.link ≡ o → option_map (number_of Value) (option_and_then (row_named (map change rows) row.client) o) ≡ option_map (number_of Value) (option_and_then (row_named rows row.client) o)
-    by None q = refl
-    by (Some name) q = ap (option_map (number_of Value)) (row_named-map rows change row.client name leaves) ∙ one name q (row_named rows row.client name) refl
-
-module _ (change : Row → Row) (rows : List Row) (leaves : LeavesAsked change rows) (i : ℕ) (row : Row) (there : slice_get rows i ≡ Some row) where
-  number-same : (attr : Attr) → is_asked row.kind attr ≡ true → number_of attr (change row) ≡ number_of attr row
-  number-same attr asked = ap number_in (leaves.attrs i row there attr asked)
-
-  text-same : is_asked row.kind Text ≡ true → text_of Text (change row) ≡ text_of Text row
-  text-same asked = ap text_in (leaves.attrs i row there Text asked)
-
-  size-same : (kind : Kind) → row.kind ≡ kind → own_size kind (map change rows) (change row) ≡ own_size kind rows row
-  size-same Label q = ap₂ (λ (text : List ℕ) (linked : Option ℤ). (6 * length (label_text text linked) + 4, 12)) (text-same (ap (λ (k : Kind). is_asked k Text) q)) (leaves.linked i row there)
-  size-same Button q = ap (λ (text : List ℕ). (6 * length text + 8, 16)) (text-same (ap (λ (k : Kind). is_asked k Text) q))
-  size-same Entry q = ap (λ (n : ℤ). (6 * unsigned_abs n + 4, 12)) (number-same Cols refl)
-  size-same Scale q = ap (λ (n : ℤ). bar_size (int_lt (pos 0) n)) (number-same Vert refl)
-  size-same Scrollbar q = ap (λ (n : ℤ). bar_size (int_lt (pos 0) n)) (number-same Vert refl)
-  size-same VScreen q = or_none (change row).film ∙ ap (λ (o : Option (ℕ × ℕ)). option_map_or (λ (size : ℕ × ℕ). size) o (16, 16)) (leaves.film row) ∙ sym (or_none row.film)
-    where
-      or_none : (o : Option FilmState) → option_map_or (λ (f : FilmState). (f.width, f.height)) o (16, 16) ≡ option_map_or (λ (size : ℕ × ℕ). size) (option_map film_size o) (16, 16)
-      or_none None = refl
-      or_none (Some film) = refl
-  size-same Frame q = refl
-  size-same Window q = ap₂ (λ (w h : ℤ). (unsigned_abs w, unsigned_abs h)) (number-same W refl) (number-same H refl)
-  size-same Grid q = refl
-  size-same Variable q = refl
-
-  rules-same : (axis : Axis) → rules_of axis (change row) ≡ rules_of axis row
-  rules-same Across = leaves.column_rules row
-  rules-same Down = leaves.row_rules row
-
-  offset-same : (axis : Axis) → offset_of axis (map change rows) (change row) ≡ offset_of axis rows row
-  offset-same Across = number-same X refl
-  offset-same Down = ap₂ frame_offset (leaves.linked i row there) (number-same Y refl)
-
-  span-same : (axis : Axis) → window_span axis (change row) ≡ window_span axis row
-  span-same Across = ap₂ (λ (x w : ℤ). let s : Span = record { from = x; len = unsigned_abs w } in s) (number-same X refl) (number-same W refl)
-  span-same Down = ap₂ (λ (y h : ℤ). let s : Span = record { from = y; len = unsigned_abs h } in s) (number-same Y refl) (number-same H refl)
-
-  asks-same : AsksTheSame rows (map change rows) row (change row)
-  asks-same = record { size = size-same row.kind refl; rules = rules-same; offset = offset-same; span = span-same }
-
-moves-nothing : (change : Row → Row) (rows : List Row) → LeavesAsked change rows → MovesNothing change rows
-moves-nothing change rows leaves = record {
-  client = leaves.client;
-  name = leaves.name;
-  kind = leaves.kind;
-  attached = leaves.attached;
-  asks = asks-same change rows leaves;
-}
-
--- what a change of the named row leaves of each row
-of-changed : {X : Type 0} (f : Row → X) (client : ℕ) (name : List ℕ) (change : Row → Row) → ((row : Row) → f (change row) ≡ f row) → (row : Row) → f (changed client name change row) ≡ f row
-of-changed f client name change same row = by (has_name client name row)
-  where
-    by : (b : Bool) → f (cond b (change row) row) ≡ f row
-    by true = same row
-    by false = refl
 
 -- a binding is nothing that layout reads
 bound-leaves : (rows : List Row) (client : ℕ) (name : List ℕ) (event : EventKind) (tag : Option (List ℕ)) → LeavesAsked (changed client name (with_binding event tag)) rows
@@ -145,14 +48,22 @@ bound-leaves rows client name event tag = record {
   column_rules = of-changed (λ (r : Row). r.column_rules) client name (with_binding event tag) (λ row. refl);
   row_rules = of-changed (λ (r : Row). r.row_rules) client name (with_binding event tag) (λ row. refl);
   film = of-changed (λ (r : Row). option_map film_size r.film) client name (with_binding event tag) (λ row. refl);
-  attrs = λ i row there attr asked. of-changed (λ (r : Row). attr_of r attr) client name (with_binding event tag) (λ other. refl) row;
-  linked = λ i row there.
-      linked-kept (changed client name (with_binding event tag)) rows row
-      (record { client = of-changed (λ (r : Row). r.client) client name (with_binding event tag) (λ other. refl); name = of-changed (λ (r : Row). r.name) client name (with_binding event tag) (λ other. refl) })
-      (of-changed (λ (r : Row). r.client) client name (with_binding event tag) (λ other. refl) row)
-      (of-changed (λ (r : Row). r.link) client name (with_binding event tag) (λ other. refl) row)
-      (λ to other q p. of-changed (λ (r : Row). number_of Value r) client name (with_binding event tag) (λ third. refl) other);
+  measures = λ i row there attr measure. of-changed (λ (r : Row). attr_of r attr) client name (with_binding event tag) (λ other. refl) row;
+  texts = λ i row there asked. of-changed (λ (r : Row). length (text_of Text r)) client name (with_binding event tag) (λ other. refl) row;
+  letters = λ i row there. ap letters_in (linked i row there);
+  framed = λ i row there frame. linked i row there;
 }
+  where
+    next : Row → Row
+    next = changed client name (with_binding event tag)
+
+    linked : (i : ℕ) (row : Row) → slice_get rows i ≡ Some row → linked_value (map next rows) (next row) ≡ linked_value rows row
+    linked i row there =
+        linked-kept next rows row
+        (record { client = of-changed (λ (r : Row). r.client) client name (with_binding event tag) (λ other. refl); name = of-changed (λ (r : Row). r.name) client name (with_binding event tag) (λ other. refl) })
+        (of-changed (λ (r : Row). r.client) client name (with_binding event tag) (λ other. refl) row)
+        (of-changed (λ (r : Row). r.link) client name (with_binding event tag) (λ other. refl) row)
+        (λ to other q p. of-changed (λ (r : Row). number_of Value r) client name (with_binding event tag) (λ third. refl) other)
 
 -- nor is what a film of its size shows
 filmed-leaves : (rows : List Row) (client : ℕ) (name : List ℕ) (change : FilmState → FilmState) → ((film : FilmState) → film_size (change film) ≡ film_size film) → LeavesAsked (changed client name (with_film_changed change)) rows
@@ -164,96 +75,26 @@ filmed-leaves rows client name change same = record {
   column_rules = of-changed (λ (r : Row). r.column_rules) client name (with_film_changed change) (λ row. refl);
   row_rules = of-changed (λ (r : Row). r.row_rules) client name (with_film_changed change) (λ row. refl);
   film = of-changed (λ (r : Row). option_map film_size r.film) client name (with_film_changed change) (λ row. size row.film);
-  attrs = λ i row there attr asked. of-changed (λ (r : Row). attr_of r attr) client name (with_film_changed change) (λ other. refl) row;
-  linked = λ i row there.
-      linked-kept (changed client name (with_film_changed change)) rows row
-      (record { client = of-changed (λ (r : Row). r.client) client name (with_film_changed change) (λ other. refl); name = of-changed (λ (r : Row). r.name) client name (with_film_changed change) (λ other. refl) })
-      (of-changed (λ (r : Row). r.client) client name (with_film_changed change) (λ other. refl) row)
-      (of-changed (λ (r : Row). r.link) client name (with_film_changed change) (λ other. refl) row)
-      (λ to other q p. of-changed (λ (r : Row). number_of Value r) client name (with_film_changed change) (λ third. refl) other);
+  measures = λ i row there attr measure. of-changed (λ (r : Row). attr_of r attr) client name (with_film_changed change) (λ other. refl) row;
+  texts = λ i row there asked. of-changed (λ (r : Row). length (text_of Text r)) client name (with_film_changed change) (λ other. refl) row;
+  letters = λ i row there. ap letters_in (linked i row there);
+  framed = λ i row there frame. linked i row there;
 }
   where
     size : (o : Option FilmState) → option_map film_size (option_map change o) ≡ option_map film_size o
     size None = refl
     size (Some film) = ap Some (same film)
 
--- each slot is one attribute's
-slot-attr : (attr : Attr) → get_or all_attrs (attr_slot attr) X ≡ attr
-slot-attr X = refl
-slot-attr Y = refl
-slot-attr W = refl
-slot-attr H = refl
-slot-attr Title = refl
-slot-attr Text = refl
-slot-attr Caret = refl
-slot-attr Cols = refl
-slot-attr Value = refl
-slot-attr Max = refl
-slot-attr Real = refl
-slot-attr View = refl
-slot-attr Vert = refl
+    next : Row → Row
+    next = changed client name (with_film_changed change)
 
--- options that layout doesn't read leave what it does
-attr-left : (kind : Kind) (options : List (Attr × value.Value)) (row : Row) (attr : Attr) → list_any (λ (option : Attr × value.Value). is_asked kind option.0) options ≡ false → is_asked kind attr ≡ true → attr_of (with_attrs options row) attr ≡ attr_of row attr
-attr-left kind [] row attr none asked = refl
-attr-left kind (option ∷ options) row attr none asked =
-    let parts = or_parts (is_asked kind option.0) (list_any (λ (o : Attr × value.Value). is_asked kind o.0) options) none in
-    let apart : attr_slot attr ≡ attr_slot option.0 → ⊥ =
-    λ e. let same : attr ≡ option.0 = sym (slot-attr attr) ∙ ap (λ (k : ℕ). get_or all_attrs k X) e ∙ slot-attr option.0 in
-    true≢false (sym asked ∙ ap (is_asked kind) same ∙ parts.0) in
-    attr-left kind options (with_attr option.0 option.1 row) attr parts.1 asked ∙ get_or-set_other row.values (attr_slot option.0) (attr_slot attr) (Some option.1) None apart
-
--- `set` of such options
-module _ (desk : Desk) (client : ℕ) (name : List ℕ) (options : List (Attr × value.Value)) (kept : IsDesk desk) where
-  abbrev change : Row → Row
-  change = changed client name (with_attrs options)
-
-  kept-by : {X : Type 0} (f : Row → X) → ((row : Row) (values : List (Option value.Value)) → f (record row { values = values }) ≡ f row) → (row : Row) → f (change row) ≡ f row
-  kept-by f same = of-changed f client name (with_attrs options) (λ row. ap f (same_but_values options row) ∙ same row (with_attrs options row).values)
-
-  names : LeavesNames change
-  names = record { client = kept-by (λ (r : Row). r.client) (λ row values. refl); name = kept-by (λ (r : Row). r.name) (λ row values. refl) }
-
-  module _ (row : Row) (found : row_named desk.rows client name ≡ Some row) (none : list_any (λ (option : Attr × value.Value). is_asked row.kind option.0) options ≡ false) where
-    attrs-left : (i : ℕ) (other : Row) → slice_get desk.rows i ≡ Some other → (attr : Attr) → is_asked other.kind attr ≡ true → attr_of (change other) attr ≡ attr_of other attr
-    attrs-left i other there attr asked = by (has_name client name other) refl
-      where
-        by : (b : Bool) → has_name client name other ≡ b → attr_of (cond b (with_attrs options other) other) attr ≡ attr_of other attr
-        by false q = refl
-        by true q =
-            let parts = has_name-parts client name other q in
-            let own : row_named desk.rows client name ≡ Some other = ap₂ (row_named desk.rows) (sym parts.0) (sym parts.1) ∙ row_named-own desk.rows i other kept.names there in
-            let both : Some row ≡ Some other = sym found ∙ own in
-            let same : row ≡ other = cc in
-            attr-left other.kind options other attr (ap (λ (r : Row). list_any (λ (option : Attr × value.Value). is_asked r.kind option.0) options) (sym same) ∙ none) asked
-
-    -- a linked row is a Variable, of which the value is read
-    variable-left : (i : ℕ) (other : Row) → slice_get desk.rows i ≡ Some other → (to : List ℕ) (led : Row) → other.link ≡ Some to → row_named desk.rows other.client to ≡ Some led → number_of Value (change led) ≡ number_of Value led
-    variable-left i other there to led q p =
-        let right = all_at (links_right desk.rows) desk.rows i other kept.linked there in
-        let is : is_variable_kind led.kind ≡ true =
-        sym (ap (λ (o : Option Row). option_map_or (λ (r : Row). is_variable_kind r.kind) o false) p)
-        ∙ sym (ap (λ (o : Option (List ℕ)). option_map_or (λ (n : List ℕ). is_kind_of is_variable_kind (row_named desk.rows other.client n)) o true) q)
-        ∙ right in
-        let at = find-element (has_name other.client to) desk.rows led p in
-        ap number_in (attrs-left at.0 led at.1 Value is)
-
-    set-leaves : LeavesAsked change desk.rows
-    set-leaves = record {
-      client = names.client;
-      name = names.name;
-      kind = kept-by (λ (r : Row). r.kind) (λ row values. refl);
-      attached = kept-by (λ (r : Row). r.attached) (λ row values. refl);
-      column_rules = kept-by (λ (r : Row). r.column_rules) (λ row values. refl);
-      row_rules = kept-by (λ (r : Row). r.row_rules) (λ row values. refl);
-      film = kept-by (λ (r : Row). option_map film_size r.film) (λ row values. refl);
-      attrs = attrs-left;
-      linked = λ i other there. linked-kept change desk.rows other names (names.client other) (kept-by (λ (r : Row). r.link) (λ r values. refl) other) (variable-left i other there);
-    }
-
-  set-unmoved : (o : Option Row) → row_named desk.rows client name ≡ o → option_map_or (λ (row : Row). list_any (λ (option : Attr × value.Value). is_asked row.kind option.0) options) o false ≡ false → MoveNothing desk.rows (with_named client name (with_attrs options) desk.rows)
-  set-unmoved None found none = subst (λ (rows : List Row). MoveNothing desk.rows rows) (sym (with_named-absent desk.rows client name (with_attrs options) found)) (unmoved-same desk.rows)
-  set-unmoved (Some row) found none = unmoved-map change desk.rows (moves-nothing change desk.rows (set-leaves row found none))
+    linked : (i : ℕ) (row : Row) → slice_get rows i ≡ Some row → linked_value (map next rows) (next row) ≡ linked_value rows row
+    linked i row there =
+        linked-kept next rows row
+        (record { client = of-changed (λ (r : Row). r.client) client name (with_film_changed change) (λ other. refl); name = of-changed (λ (r : Row). r.name) client name (with_film_changed change) (λ other. refl) })
+        (of-changed (λ (r : Row). r.client) client name (with_film_changed change) (λ other. refl) row)
+        (of-changed (λ (r : Row). r.link) client name (with_film_changed change) (λ other. refl) row)
+        (λ to other q p. of-changed (λ (r : Row). number_of Value r) client name (with_film_changed change) (λ third. refl) other)
 
 -- a refusal leaves the rows
 unmoved-outcome : (desk : Desk) (refusal : Option Refusal) (effect : Reply × Desk) → MoveNothing desk.rows effect.1.rows → MoveNothing desk.rows (outcome desk refusal effect).1.rows
@@ -281,7 +122,7 @@ unmoved-top desk client name = unmoved-outcome desk (unless_open desk client nam
 unmoved-set : (desk : Desk) (client : ℕ) (name : List ℕ) (options : List (Attr × value.Value)) → IsDesk desk → may_move desk.rows client (Set name options) ≡ false → MoveNothing desk.rows (step_set desk client name options).1.rows
 unfolding step_set
 unmoved-set desk client name options kept still =
-    unmoved-outcome desk (set_refusal desk client name options) (set_effect desk client name options) (set-unmoved desk client name options kept (row_named desk.rows client name) refl still)
+    unmoved-outcome desk (set_refusal desk client name options) (set_effect desk client name options) (set-unmoved desk.rows client name options kept.names kept.linked (row_named desk.rows client name) refl still)
 
 named-none : (o : Option Row) (refusals : List (Option Refusal)) → first_refusal (when (is_some o) NameTaken ∷ refusals) ≡ None → o ≡ None
 named-none None refusals h = refl
@@ -334,6 +175,34 @@ unmoved-frame : (desk : Desk) (client : ℕ) (name frame : List ℕ) → MoveNot
 unfolding step_frame
 unmoved-frame desk client name frame = unmoved-outcome desk (frame_refusal desk client name frame) (frame_effect desk client name frame) (unmoved-film desk client name (framed frame) (framed-size frame))
 
+unmoved-get : (desk : Desk) (client : ℕ) (name : List ℕ) (attr : Attr) → MoveNothing desk.rows (step_get desk client name attr).1.rows
+unfolding step_get
+unmoved-get desk client name attr = unmoved-outcome desk (get_refusal desk client name attr) (get_effect desk client name attr) (unmoved-same desk.rows)
+
+-- a widget that is taken away isn't used
+dropped-unused : (rows : List Row) (o : Option Row) (opened : Bool) (row : Row) → o ≡ Some row → first_refusal (unless_there o ∷ when (option_map_or (is_used rows) o false || opened) InUse ∷ []) ≡ None → is_used rows row ≡ false
+dropped-unused rows o opened row there none = by (is_used rows row) refl
+  where
+    by : (b : Bool) → is_used rows row ≡ b → b ≡ false
+    by false q = refl
+    by true q =
+        let refused : Some InUse ≡ None =
+        sym (ap (λ (b : Bool). first_refusal (unless_there (Some row) ∷ when (b || opened) InUse ∷ [])) q)
+        ∙ sym (ap (λ (p : Option Row). first_refusal (unless_there p ∷ when (option_map_or (is_used rows) p false || opened) InUse ∷ [])) there)
+        ∙ none in
+        absurd (cc)
+
+unmoved-drop : (desk : Desk) (client : ℕ) (name : List ℕ) → IsDesk desk → AreHung (step_drop desk client name).1.rows → MoveNothing desk.rows (step_drop desk client name).1.rows
+unfolding step_drop
+unmoved-drop desk client name kept hung = by (drop_refusal desk client name) refl hung (row_named desk.rows client name) refl
+  where
+    by : (refusal : Option Refusal) → drop_refusal desk client name ≡ refusal → AreHung (outcome desk refusal (drop_effect desk client name)).1.rows → (o : Option Row) → row_named desk.rows client name ≡ o → MoveNothing desk.rows (outcome desk refusal (drop_effect desk client name)).1.rows
+    by (Some refusal) q after o p = unmoved-same desk.rows
+    by None q after None p =
+        let refused : Some NoSuchName ≡ None = sym (ap (λ (o : Option Row). first_refusal (unless_there o ∷ when (option_map_or (is_used desk.rows) o false || is_open desk client name) InUse ∷ [])) p) ∙ q in
+        absurd (cc)
+    by None q after (Some row) p = unmoved-less desk.rows client name row p (dropped-unused desk.rows (row_named desk.rows client name) (is_open desk client name) row p q) (record { names = kept.names; planted = kept.planted }) after
+
 unmoved-poll : (desk : Desk) (client : ℕ) → MoveNothing desk.rows (step_poll desk client).1.rows
 unfolding step_poll
 unmoved-poll desk client = unmoved-same desk.rows
@@ -342,7 +211,7 @@ unmoved-poll desk client = unmoved-same desk.rows
 pub unmoved-command : (command : Command) (payload : List ℕ) (desk : Desk) (client : ℕ) (short : Bool) → IsDesk desk → AreHung (row_of command payload desk client short).1.rows → may_move desk.rows client command ≡ false → MoveNothing desk.rows (row_of command payload desk client short).1.rows
 unmoved-command (New name kind) payload desk client short kept hung still = unmoved-new desk client name kind short kept still hung
 unmoved-command (Set name options) payload desk client short kept hung still = unmoved-set desk client name options kept still
-unmoved-command (Get name attr) payload desk client short kept hung still = absurd (true≢false still)
+unmoved-command (Get name attr) payload desk client short kept hung still = unmoved-get desk client name attr
 unmoved-command (Place parent child options) payload desk client short kept hung still = absurd (true≢false still)
 unmoved-command (Lift parent child) payload desk client short kept hung still = absurd (true≢false still)
 unmoved-command (ColumnConfig name index options) payload desk client short kept hung still = absurd (true≢false still)
@@ -358,5 +227,5 @@ unmoved-command (Mode name w h) payload desk client short kept hung still = absu
 unmoved-command (Admit name period) payload desk client short kept hung still = unmoved-admit desk client name period
 unmoved-command (Leave name) payload desk client short kept hung still = unmoved-leave desk client name
 unmoved-command (SendFrame name size) payload desk client short kept hung still = unmoved-frame desk client name payload
-unmoved-command (DropWidget name) payload desk client short kept hung still = absurd (true≢false still)
+unmoved-command (DropWidget name) payload desk client short kept hung still = unmoved-drop desk client name kept hung
 unmoved-command Poll payload desk client short kept hung still = unmoved-poll desk client

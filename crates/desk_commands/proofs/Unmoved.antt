@@ -19,7 +19,8 @@ use Rattle.scene_model.proofs.Still.{still_places}
 use Rattle.scene_model.proofs.Parents.{key_of-found}
 use Rattle.desk_layout.specs.Placed.{HaveDuePlaces}
 use Rattle.desk_layout.specs.Numbers.{KeepsNumbers}
-use Rattle.desk_commands.specs.Stays.{due_of, MoveNothing}
+use Rattle.desk_model.specs.InPlace.{due_of}
+use Rattle.desk_commands.specs.Stays.{MoveNothing}
 use Rattle.desk_layout.proofs.KeyNumbers.{number-named}
 
 -- the same rows

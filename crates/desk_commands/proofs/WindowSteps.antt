@@ -1,8 +1,7 @@
 -- Windows that are open: by number as by name, and there is always room for one more.
-use Rattle.std.proofs.Common.{◌≡◌, ℕ, zero, suc, ◌+◌, ◌*◌, ◌≤◌, ◌<◌, Bool, true, false, cond, ◌&&◌, ◌||◌, nat_eq, nat_le, nat_lt, List, [], ◌∷◌, length, drop, slice_get, Option, Some, None, is_some, refl, sym, ap, ap₂, ◌∙◌, subst, arith, add-one}
-use Rattle.std.proofs.lemmas.Bool.{true≢false, eqb-true, eq-eqb, ne_eqb, eqb-false, leb-true, ltb-true, le-leb, lt-ltb, and_parts, and_from, and_right, or_right, false_from_ne_true}
-use Rattle.std.proofs.lemmas.List.Sums.{sum_by-cons}
-use Rattle.std.specs.List.{list_all, list_any, count_by}
+use Rattle.std.proofs.Common.{◌≡◌, ℕ, zero, suc, ◌+◌, ◌<◌, Bool, true, false, ◌||◌, nat_eq, List, [], ◌∷◌, length, drop, slice_get, Option, Some, None, is_some, refl, sym, ap, ap₂, ◌∙◌, subst, add-one}
+use Rattle.std.proofs.lemmas.Bool.{true≢false, eq-eqb, ne_eqb, and_parts, and_from}
+use Rattle.std.specs.List.{list_all, list_any}
 use Rattle.std.specs.Option.{option_map, option_map_or}
 use Rattle.kind_core.specs.declared.kinds.Kind.{Kind}
 use Rattle.kind_core.specs.declared.kinds.Kind.TheVariants.{Window}
@@ -13,17 +12,16 @@ use Rattle.cmd_words.specs.declared.replies.Refusal.{Refusal}
 use Rattle.cmd_words.specs.declared.replies.Refusal.TheVariants.{AlreadyOpen}
 use Rattle.stack_core.specs.Stack.{holds_key, IsStack}
 use Rattle.widget_model.specs.Rows.{Row}
-use Rattle.widget_model.specs.Nodes.{Node, node_of, id_named, node_at, count_of}
+use Rattle.widget_model.specs.Nodes.{Node, node_of, id_named, node_at}
 use Rattle.widget_model.specs.Kinds.{counts_with, is_window_kind}
 use Rattle.widget_model.specs.Named.{has_name, row_named}
 use Rattle.widget_model.specs.Widgets.{Widgets, nodes, row_at}
-use Rattle.widget_model.specs.Clients.{is_joined, is_client}
 use Rattle.widget_model.specs.Forest.{HaveOwnNames}
 use Rattle.desk_model.specs.Desk.{Desk, is_window, is_open}
 use Rattle.desk_model.specs.Refusals.{when, first_refusal, outcome, unless_there, unless_kind}
 use Rattle.desk_model.specs.Windows.{open_effect, step_open}
 use Rattle.widget_model.proofs.Naming.{has_name-parts, has_name-own, id_named-row}
-use Rattle.tree_core.proofs.ForestLemmas.{node_at-nodes, joined_in_range}
+use Rattle.tree_core.proofs.ForestLemmas.{node_at-nodes}
 use Rattle.desk_commands.specs.Parts.{title_at, windows_at, desk_of, names_window, AreParts}
 use Rattle.desk_commands.specs.Effects.{DidAll}
 use Rattle.desk_commands.specs.Lookup.{IsFound}

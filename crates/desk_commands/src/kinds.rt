@@ -6,7 +6,7 @@ ghost use Rattle.widget_model.specs.Kinds.{can_link, is_variable_kind};
 ghost use Rattle.desk_model.specs.Screens.{is_screen};
 ghost use Rattle.desk_model.specs.Tracks.{is_grid};
 ghost use Rattle.desk_model.specs.PlaceOptions.{last_cell};
-ghost use Rattle.desk_commands.specs.Stays.{is_entry};
+ghost use Rattle.desk_commands.specs.Stays.{is_entry, is_frame};
 
 use kind_core::Kind;
 
@@ -15,6 +15,13 @@ pub(crate) fn is_entry(kind: Kind) -> bool
     ensures { result ≡ is_entry kind }
 {
     matches!(kind, Kind::Entry)
+}
+
+/// Whether the kind is Frame, whose offset a Variable can be.
+pub(crate) fn is_frame(kind: Kind) -> bool
+    ensures { result ≡ is_frame kind }
+{
+    matches!(kind, Kind::Frame)
 }
 
 /// Whether the kind is Grid, which has tracks.

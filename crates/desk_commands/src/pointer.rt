@@ -11,7 +11,6 @@ ghost use Rattle.desk_model.specs.LetGo.{is_in_window, grab_left, focus_left, le
 ghost use Rattle.desk_commands.specs.Parts.{Stage, AreParts, desk_of, stage_of};
 ghost use Rattle.desk_commands.specs.Pointer.{IsGrabLive, HoldsLive};
 
-use crate::windows::is_open;
 use stack_core::Stack;
 use tree_core::{Grab, Id, Pointer, Tree};
 
@@ -21,7 +20,7 @@ fn is_in_window(tree: &Tree, windows: &Stack, id: Id) -> bool
     requires live { IsSome (row_at tree.now.entries id.key) }
     ensures { (stage : Stage) → IfSome (key_at tree.now.entries id.key) (λ key. result ≡ is_in_window (desk_of stage tree.now windows.now) key) }
 {
-    is_open(windows, tree.root(id).key)
+    windows.holds(tree.root(id).key)
 }
 
 /// What stays of a grab.

@@ -15,7 +15,6 @@ ghost use Rattle.desk_commands.specs.Lookup.{values_given};
 
 use crate::answer::Answer;
 use crate::lookup::find;
-use crate::windows::is_open;
 use arrayvec::ArrayVec;
 use cmd_words::{Refusal, Reply};
 use kind_core::{Attr, AttrRefusal, Kind, Name, Value, check};
@@ -171,7 +170,7 @@ pub(crate) fn drop_widget(tree: &mut Tree, windows: &Stack, client: u32, name: &
         Some(found) => found,
         None => return Answer::refused(Refusal::NoSuchName),
     };
-    if is_open(windows, found.id.key) {
+    if windows.holds(found.id.key) {
         return Answer::refused(Refusal::InUse);
     }
     match tree.remove(found.id) {

@@ -18,23 +18,6 @@ use kind_core::{Attr, Name, Value};
 use stack_core::Stack;
 use tree_core::{Id, Tree};
 
-/// Whether the window with that number is open.
-pub(crate) fn is_open(windows: &Stack, key: u32) -> bool
-    ensures { result ≡ holds_key windows.now key }
-{
-    for i in 0..windows.len() {
-        match windows.at(i) {
-            Some(other) => {
-                if other == key {
-                    return true;
-                }
-            }
-            None => {}
-        }
-    }
-    false
-}
-
 /// `w.open()`
 pub(crate) fn open_window(tree: &Tree, windows: &mut Stack, client: u32, name: &Name) -> Answer
     requires { AreParts tree.now.clients tree.now windows.old }
@@ -48,7 +31,7 @@ pub(crate) fn open_window(tree: &Tree, windows: &mut Stack, client: u32, name: &
     if !is_window(found.kind) {
         return Answer::refused(Refusal::WrongKind);
     }
-    if is_open(windows, found.id.key) {
+    if windows.holds(found.id.key) {
         return Answer::refused(Refusal::AlreadyOpen);
     }
     match windows.push_top(found.id.key) {

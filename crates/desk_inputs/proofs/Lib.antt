@@ -4,3 +4,5 @@ pub mod RaisedWindows
 pub mod AskedPlaces
 pub mod CarriedDesks
 pub mod FedParts
+mod EntryTexts
+pub mod StillInputs

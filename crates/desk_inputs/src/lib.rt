@@ -3,11 +3,13 @@
 #![tactic(auto)]
 
 mod asking;
+mod moving;
 mod posting;
 mod raising;
 mod values;
 
 pub use asking::asked;
+pub use moving::effects_move;
 pub use posting::posted_of;
 pub use raising::raise;
 pub use values::set_values;

@@ -1,9 +1,9 @@
-use Rattle.std.proofs.Common.{◌≡◌, ℕ, ℤ, Bool, unsigned_abs, Some, None, true, false, refl, sym, ap, ap₂, ◌∙◌, subst, to_z, of_z, w32}
+use Rattle.std.proofs.Common.{◌≡◌, ℕ, ℤ, Bool, unsigned_abs, Some, None, false, refl, ap, ap₂, ◌∙◌, subst, to_z, of_z, w32}
 use Rattle.std.proofs.lemmas.Int.{to_z-of_z}
 use Rattle.std.specs.Option.{option_map_or}
 use Rattle.kind_core.specs.declared.kinds.Kind.TheVariants.{VScreen}
 use Rattle.cmd_words.specs.declared.replies.Reply.{Reply}
-use Rattle.cmd_words.specs.declared.replies.Reply.TheVariants.{Done, Refused}
+use Rattle.cmd_words.specs.declared.replies.Reply.TheVariants.{Done}
 use Rattle.cmd_words.specs.declared.replies.Refusal.TheVariants.{Memory}
 use Rattle.vscreen_core.specs.FilmState.{FilmState, blank_film}
 use Rattle.widget_model.specs.Rows.{Row, with_film}

@@ -1,4 +1,4 @@
-use Rattle.std.proofs.Common.{◌≡◌, Bool, not, Some, None, true, false, refl, sym, ap, ◌∙◌}
+use Rattle.std.proofs.Common.{◌≡◌, Bool, not, Some, None, true, false, refl, sym, ◌∙◌}
 use Rattle.std.proofs.lemmas.Bool.{true≢false}
 use Rattle.kind_core.specs.declared.kinds.Kind.TheVariants.{VScreen}
 use Rattle.cmd_words.specs.declared.replies.Reply.TheVariants.{Done}

@@ -17,12 +17,12 @@ returns-in-None-clause-did c =
     refused_all (λ desk. step_drop desk c.args.client c.args.name.now) c.args.tree.now c.args.windows.now _ told.NoSuchName c.requires c.refused.ensures.reply
     (λ stage. step_drop-by (desk_of stage c.args.tree.now c.args.windows.now) c.args.client c.args.name.now None (is_open (desk_of stage c.args.tree.now c.args.windows.now) c.args.client c.args.name.now) c.in-None.ensures.found refl)
 
-pub returns-then-is_open-clause-did : goal.returns-then-is_open-clause-did
-returns-then-is_open-clause-did c =
+pub returns-then-holds-clause-did : goal.returns-then-holds-clause-did
+returns-then-holds-clause-did c =
     let found = c.in-Some.ensures.found in
-    let opened = is_open-holds_key c.args.tree.now c.args.client c.args.name.now c.in-Some.found.id.key c.in-Some.found.kind c.args.windows.now c.requires.tree.forest.own_names found c.requires.windows ∙ sym c.if-is_open.ensures in
+    let opened = is_open-holds_key c.args.tree.now c.args.client c.args.name.now c.in-Some.found.id.key c.in-Some.found.kind c.args.windows.now c.requires.tree.forest.own_names found c.requires.windows ∙ sym c.if-holds.ensures.found in
     let both : (is_used (rows_of c.args.tree.now) found.row || true) ≡ true = or_right _ _ refl in
-    refused_all (λ desk. step_drop desk c.args.client c.args.name.now) c.args.tree.now c.args.windows.now _ told.InUse c.requires c.refused-then-is_open.ensures.reply
+    refused_all (λ desk. step_drop desk c.args.client c.args.name.now) c.args.tree.now c.args.windows.now _ told.InUse c.requires c.refused-then-holds.ensures.reply
     (λ stage. step_drop-by (desk_of stage c.args.tree.now c.args.windows.now) c.args.client c.args.name.now (Some found.row) true found.named opened ∙ rw both refl)
 
 pub returns-in-Ok-clause-did : goal.returns-in-Ok-clause-did
@@ -30,7 +30,7 @@ returns-in-Ok-clause-did c =
     let found = c.in-Some.ensures.found in
     let some : Some (is_used (rows_of c.args.tree.now) found.row) ≡ Some false = ap (option_map (is_used (rows_of c.args.tree.now))) (sym found.there) ∙ c.in-Ok.ensures.answer in
     let unused : is_used (rows_of c.args.tree.now) found.row ≡ false = cc in
-    dropped_all c.args.tree.now c.remove.new.self c.args.client c.args.name.now c.in-Some.found.id.key c.in-Some.found.kind c.args.windows.now c.done.result.reply c.requires found (sym c.if-is_open.ensures) unused c.in-Ok.ensures.ok c.in-Ok.ensures.valid c.done.ensures.reply
+    dropped_all c.args.tree.now c.remove.new.self c.args.client c.args.name.now c.in-Some.found.id.key c.in-Some.found.kind c.args.windows.now c.done.result.reply c.requires found (sym c.if-holds.ensures.found) unused c.in-Ok.ensures.ok c.in-Ok.ensures.valid c.done.ensures.reply
 
 pub returns-in-Ok-clause-tells : goal.returns-in-Ok-clause-tells
 returns-in-Ok-clause-tells c =
@@ -41,7 +41,7 @@ returns-in-Err-clause-did c =
     let found = c.in-Some.ensures.found in
     let some : Some (is_used (rows_of c.args.tree.now) found.row) ≡ Some true = ap (option_map (is_used (rows_of c.args.tree.now))) (sym found.there) ∙ c.in-Err.ensures.answer in
     let used : is_used (rows_of c.args.tree.now) found.row ≡ true = cc in
-    let shut = is_open-holds_key c.args.tree.now c.args.client c.args.name.now c.in-Some.found.id.key c.in-Some.found.kind c.args.windows.now c.requires.tree.forest.own_names found c.requires.windows ∙ sym c.if-is_open.ensures in
+    let shut = is_open-holds_key c.args.tree.now c.args.client c.args.name.now c.in-Some.found.id.key c.in-Some.found.kind c.args.windows.now c.requires.tree.forest.own_names found c.requires.windows ∙ sym c.if-holds.ensures.found in
     let P : Widgets → Type 0 = λ w. DidAll (λ desk. step_drop desk c.args.client c.args.name.now) c.args.tree.now w c.args.windows.now c.args.windows.now c.refused-in-Err.result.reply in
     subst P (sym c.in-Err.ensures.err)
     (refused_all (λ desk. step_drop desk c.args.client c.args.name.now) c.args.tree.now c.args.windows.now _ told.InUse c.requires c.refused-in-Err.ensures.reply

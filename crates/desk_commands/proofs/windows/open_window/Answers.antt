@@ -19,21 +19,21 @@ returns-then-not-is_window-clause-did c =
     refused_all (λ desk. step_open desk c.args.client c.args.name.now) c.args.tree.now c.args.windows.now c.refused-then-not-is_window.result.reply WrongKind c.requires c.refused-then-not-is_window.ensures.reply
     (λ stage. step_open-by (desk_of stage c.args.tree.now c.args.windows.now) c.args.client c.args.name.now (Some found.row) (is_open (desk_of stage c.args.tree.now c.args.windows.now) c.args.client c.args.name.now) found.named refl ∙ rw wrong refl)
 
-pub returns-then-is_open-clause-did : goal.returns-then-is_open-clause-did
-returns-then-is_open-clause-did c =
+pub returns-then-holds-clause-did : goal.returns-then-holds-clause-did
+returns-then-holds-clause-did c =
     let found = c.in-Some.ensures.found in
     let right : is_window_kind found.row.kind ≡ true = ap is_window_kind found.has ∙ sym c.if-not-is_window.ensures in
-    let opened = is_open-holds_key c.args.tree.now c.args.client c.args.name.now c.in-Some.found.id.key c.in-Some.found.kind c.args.windows.now c.requires.tree.forest.own_names found c.requires.windows ∙ sym c.if-is_open.ensures in
-    refused_all (λ desk. step_open desk c.args.client c.args.name.now) c.args.tree.now c.args.windows.now c.refused-then-is_open.result.reply AlreadyOpen c.requires c.refused-then-is_open.ensures.reply
+    let opened = is_open-holds_key c.args.tree.now c.args.client c.args.name.now c.in-Some.found.id.key c.in-Some.found.kind c.args.windows.now c.requires.tree.forest.own_names found c.requires.windows ∙ sym c.if-holds.ensures.found in
+    refused_all (λ desk. step_open desk c.args.client c.args.name.now) c.args.tree.now c.args.windows.now c.refused-then-holds.result.reply AlreadyOpen c.requires c.refused-then-holds.ensures.reply
     (λ stage. step_open-by (desk_of stage c.args.tree.now c.args.windows.now) c.args.client c.args.name.now (Some found.row) true found.named opened ∙ rw right refl)
 
 pub unreachable-requires : goal.unreachable-requires
 unreachable-requires c =
     let window = found-window c.args.tree.now c.args.client c.args.name.now c.in-Some.found.id.key c.in-Some.found.kind c.in-Some.ensures.found (sym c.if-not-is_window.ensures) in
-    let room = room_to_open c.args.tree.now.clients c.args.tree.now c.args.windows.now c.in-Some.found.id.key c.requires window (sym c.if-is_open.ensures) in
+    let room = room_to_open c.args.tree.now.clients c.args.tree.now c.args.windows.now c.in-Some.found.id.key c.requires window (sym c.if-holds.ensures.found) in
     let full : length c.args.windows.now ≡ 128 = c.in-Err.ensures.full.0 refl in
     omega arith
 
 pub returns-clause-did : goal.returns-clause-did
 returns-clause-did c =
-    opened_all c.args.tree.now c.args.client c.args.name.now c.in-Some.found.id.key c.in-Some.found.kind c.args.windows.now c.push_top.new.self c.done.result.reply c.requires c.in-Some.ensures.found (sym c.if-not-is_window.ensures) (sym c.if-is_open.ensures) c.in-Ok.ensures.ok c.in-Ok.ensures.valid c.done.ensures.reply
+    opened_all c.args.tree.now c.args.client c.args.name.now c.in-Some.found.id.key c.in-Some.found.kind c.args.windows.now c.push_top.new.self c.done.result.reply c.requires c.in-Some.ensures.found (sym c.if-not-is_window.ensures) (sym c.if-holds.ensures.found) c.in-Ok.ensures.ok c.in-Ok.ensures.valid c.done.ensures.reply
