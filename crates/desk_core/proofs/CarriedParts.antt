@@ -1,6 +1,6 @@
 -- What is carried out of an input on the parts of a desk, and what they keep together after it.
-use Rattle.std.proofs.Common.{◌≡◌, ℕ, Bool, true, false, nat_eq, List, [], ◌∷◌, None, refl, sym, ap, ap₂, ◌∙◌, subst}
-use Rattle.std.proofs.lemmas.Bool.{true≢false, eqb-true, eq-eqb}
+use Rattle.std.proofs.Common.{◌≡◌, ℕ, Bool, true, false, ◌||◌, nat_eq, List, [], ◌∷◌, Option, None, refl, sym, ap, ap₂, ◌∙◌, subst}
+use Rattle.std.proofs.lemmas.Bool.{true≢false, eqb-true, eq-eqb, or_parts}
 use Rattle.std.specs.Prelude.{map}
 use Rattle.std.specs.List.{fold}
 use Rattle.std.specs.Option.{option_map}
@@ -8,7 +8,8 @@ use Rattle.kind_core.specs.declared.shapes.Shape.{Shape}
 use Rattle.admit_core.specs.Roster.{RosterState}
 use Rattle.widget_model.specs.Rows.{Row}
 use Rattle.widget_model.specs.Nodes.{Node}
-use Rattle.widget_model.specs.Widgets.{Widgets, nodes, rows_of}
+use Rattle.geom_core.specs.declared.rectangle.Rect.{Rect}
+use Rattle.widget_model.specs.Widgets.{Widgets, nodes, rows_of, place_at}
 use Rattle.widget_model.specs.Forest.{IsWidgets}
 use Rattle.tree_core.specs.declared.pointer.Pointer.{Pointer}
 use Rattle.input_core.specs.declared.effects.Effects.{Effects}
@@ -20,10 +21,13 @@ use Rattle.desk_layout.specs.Placed.{HaveDuePlaces}
 use Rattle.desk_commands.specs.Parts.{desk_of, stage_of, windows_at, AreParts}
 use Rattle.desk_commands.specs.Pointer.{HoldsLive}
 use Rattle.desk_commands.specs.Effects.{TellsAll}
+use Rattle.desk_commands.specs.Stays.{MoveNothing, effects_move}
+use Rattle.desk_commands.proofs.Unmoved.{unmoved-due}
 use Rattle.desk_inputs.specs.Carried.{HasRows}
 use Rattle.desk_inputs.specs.Raised.{windows_after}
 use Rattle.desk_inputs.proofs.CarriedDesks.{carried-desk}
-use Rattle.desk_inputs.proofs.FedParts.{parts-kept}
+use Rattle.desk_inputs.proofs.FedParts.{parts-kept, numbers-kept}
+use Rattle.desk_core.specs.declared.carried.Carried.{Carried}
 use Rattle.desk_core.specs.Feeding.{ChangesPlaces, IsCarried}
 
 -- lists of keys that aren't unequal are equal
@@ -83,27 +87,38 @@ module _ (effects : Effects) (w given laid : Widgets) (keys keys' : List ℕ) (r
       let P : Widgets → Type 0 = λ v. IsWidgets v → AreParts v.clients v keys' in
       subst P (sym is.same) (λ tree. record { clients = refl; tree = tree; stack = kept.stack; windows = kept.windows }) is.valid
 
+  same-windows : raised ≡ false → windows_at (nodes laid.entries) keys' ≡ windows_at (nodes w.entries) keys
+  same-windows none =
+      ap (λ (ns : List (ℕ × Node)). windows_at ns keys') laid_nodes
+      ∙ windows_stable (windows_at (nodes w.entries) keys') (windows_at (nodes w.entries) keys) (λ n. true≢false (sym (tells.1 (λ same. n same.1)) ∙ none))
+
   unchanged-by : (raised ≡ false) × GivesNone effects → (rows_of laid ≡ rows_of w) × (windows_at (nodes laid.entries) keys' ≡ windows_at (nodes w.entries) keys)
   unchanged-by both =
-      let none = both.1 in (
-        laid_rows ∙ rows-none w.entries effects (rows_of w) none.0 none.1.0 none.1.1.0 none.1.1.1,
-        ap (λ (ns : List (ℕ × Node)). windows_at ns keys') laid_nodes
-            ∙ windows_stable (windows_at (nodes w.entries) keys') (windows_at (nodes w.entries) keys) (λ n. true≢false (sym (tells.1 (λ same. n same.1)) ∙ both.0)),
-      )
+      let none = both.1 in
+      (laid_rows ∙ rows-none w.entries effects (rows_of w) none.0 none.1.0 none.1.1.0 none.1.1.1, same-windows both.0)
 
-  pub carried-all : (changed : Bool) → HaveDuePlaces laid → HoldsLive laid.entries after → (changed ≡ false → (raised ≡ false) × GivesNone effects)
-      → ((shape : Shape) (roster : RosterState) (rings : List Ring) → desk_of (stage_of shape roster rings laid after) laid keys' ≡ let_go (desk_of (stage_of shape roster rings laid effects.pointer) laid keys'))
-      → IsCarried effects w laid keys keys' rings rings' after changed
-  carried-all changed due live none left = record {
-    rows = laid_rows;
-    same_nodes = laid_nodes;
-    clients = laid_clients;
-    parts = laid-parts;
-    placed = due;
-    held = live;
-    desk = λ shape roster old.
-        left shape roster rings'
-        ∙ ap (λ (v : Widgets). let_go (desk_of (stage_of shape roster rings' v effects.pointer) v keys')) is.same
-        ∙ ap let_go (carried-desk shape roster rings rings' w given old keys keys' effects has windows posted);
-    unchanged = λ told. unchanged-by (none told);
-  }
+  module _ (gives moves : Bool) (none : gives ≡ false → GivesNone effects) (still : moves ≡ effects_move (rows_of w) (effects_seen w.entries effects)) where
+    pub carried-all : (told : Carried) → told.changed ≡ (raised || gives) → told.moved ≡ (raised || moves) → HaveDuePlaces laid → HoldsLive laid.entries after
+        → ((shape : Shape) (roster : RosterState) (rings : List Ring) → desk_of (stage_of shape roster rings laid after) laid keys' ≡ let_go (desk_of (stage_of shape roster rings laid effects.pointer) laid keys'))
+        → IsCarried effects w laid keys keys' rings rings' after told
+    carried-all told changed moved due live left = record {
+      rows = laid_rows;
+      same_nodes = laid_nodes;
+      clients = laid_clients;
+      parts = laid-parts;
+      placed = due;
+      held = live;
+      desk = λ shape roster old.
+          left shape roster rings'
+          ∙ ap (λ (v : Widgets). let_go (desk_of (stage_of shape roster rings' v effects.pointer) v keys')) is.same
+          ∙ ap let_go (carried-desk shape roster rings rings' w given old keys keys' effects has windows posted);
+      unchanged = λ h. let parts = or_parts raised gives (sym changed ∙ h) in unchanged-by (parts.0, none parts.1);
+      unmoved = λ h. let parts = or_parts raised moves (sym moved ∙ h) in (sym still ∙ parts.1, same-windows parts.0);
+    }
+
+-- where the values move nothing, the places stay due
+pub given-due : (w given : Widgets) (effects : Effects) → IsWidgets w → IsWidgets given → HasRows w given (rows_after (effects_seen w.entries effects) (rows_of w)) → HaveDuePlaces w → MoveNothing (rows_of w) (rows_after (effects_seen w.entries effects) (rows_of w)) → HaveDuePlaces given
+given-due w given effects sound valid has due moves =
+    unmoved-due w given sound valid due (numbers-kept w given (rows_after (effects_seen w.entries effects) (rows_of w)) sound has)
+    (λ id row there. ap (λ (places : List (Option Rect)). place_at (record w { places = places }) id) has.places)
+    (subst (λ (rs : List Row). MoveNothing (rows_of w) rs) (sym has.rows) moves)

@@ -1,28 +1,20 @@
--- What an input makes of the parts of a desk: the desk of its step, parts that keep what they kept, and the touched looks.
-use Rattle.std.proofs.Common.{◌≡◌, ◌≤◌, ◌<◌, ℕ, Bool, true, false, ◌&&◌, nat_eq, nat_lt, List, [], ◌∷◌, Option, Some, None, is_some, refl, sym, ap, ◌∙◌, subst, arith}
-use Rattle.std.proofs.lemmas.Bool.{true≢false, and_parts, and_from, lt-ltb}
+-- What an input makes of the parts of a desk: the desk of its step, parts that keep what they kept, and what stays in
+-- place.
+use Rattle.std.proofs.Common.{◌≡◌, ◌≤◌, ◌<◌, ℕ, true, false, List, [], ◌∷◌, map, Option, Some, None, is_some, refl, sym, ap, ◌∙◌, subst, arith}
+use Rattle.std.proofs.lemmas.Bool.{and_parts, and_from}
 use Rattle.std.specs.Prelude.{IfSome}
-use Rattle.std.specs.List.{list_all, list_any}
+use Rattle.std.specs.List.{list_all}
 use Rattle.std.specs.Option.{option_map}
 use Rattle.kind_core.specs.declared.shapes.Shape.{Shape}
-use Rattle.kind_core.specs.declared.kinds.Kind.{Kind}
-use Rattle.vscreen_core.specs.FilmState.{FilmState}
 use Rattle.admit_core.specs.Roster.{RosterState}
 use Rattle.cmd_words.specs.declared.inputs.Input.{Input}
-use Rattle.look_core.specs.Seen.{Seen}
-use Rattle.look_data.specs.Kept.{differ}
 use Rattle.widget_model.specs.Rows.{Row}
-use Rattle.widget_model.specs.Keys.{key_of}
-use Rattle.widget_model.specs.Named.{row_named}
 use Rattle.widget_model.specs.Nodes.{Node, node_at}
 use Rattle.widget_model.specs.Widgets.{Widgets, IsLive, nodes, rows_of, row_at}
-use Rattle.widget_model.specs.Forest.{IsWidgets}
 use Rattle.tree_core.specs.declared.id.Id.{Id}
 use Rattle.tree_core.specs.declared.pointer.Grab.{Grab}
 use Rattle.tree_core.specs.declared.pointer.Grab.TheVariants.{Nothing, Widget, Drag}
 use Rattle.tree_core.specs.declared.pointer.Pointer.{Pointer}
-use Rattle.tree_core.proofs.Listed.{row_named-row}
-use Rattle.tree_core.proofs.TreeKept.{row-owned}
 use Rattle.scene_model.specs.Scene.{Scene}
 use Rattle.scene_core.specs.View.{scene_from}
 use Rattle.desk_model.specs.Desk.{Desk, Ring, is_open}
@@ -30,10 +22,9 @@ use Rattle.desk_model.specs.InputEffects as model
 use Rattle.desk_model.specs.InputFacts.{TakesValues}
 use Rattle.desk_model.specs.DeskFacts.{IsDesk}
 use Rattle.desk_model.specs.LetGo.{let_go}
-use Rattle.desk_model.specs.Feeding.{hit_of, held_place, rows_after, carried_out, effects_on, step_feed}
+use Rattle.desk_model.specs.Feeding.{hit_of, held_place, carried_out, effects_on, step_feed}
 use Rattle.desk_model.proofs.KeptInputs.{AreTaken-input, inputs_keep}
 use Rattle.desk_model.proofs.PointedInputs.{IsOnScreen, stays-on-screen}
-use Rattle.desk_model.proofs.FedRows.{fed_row, fed_row-same, row_named-fed}
 use Rattle.input_core.specs.declared.effects.Effects.{Effects}
 use Rattle.input_core.specs.Live as input
 use Rattle.input_core.specs.Seen.{key_seen, effects_seen}
@@ -46,14 +37,19 @@ use Rattle.desk_inputs.specs.Asked.{effects_in}
 use Rattle.desk_inputs.specs.Raised.{is_open_at}
 use Rattle.desk_inputs.proofs.CarriedDesks.{effects_in-desk, fed-desk}
 use Rattle.desk_inputs.proofs.GivenValues.{live-kept}
-use Rattle.touch_rules.specs.Films.{shown_film}
-use Rattle.touch_rules.specs.Laws.{kept_of}
-use Rattle.touch_rules.proofs.ShownFilms.{alike-same}
-use Rattle.touch_rules.proofs.OwnLooks.{all_looks_are_enough, kept-none}
-use Rattle.desk_core.specs.View.{DeskView}
-use Rattle.desk_core.specs.Touching.{numbered_of, TellsTouched}
 use Rattle.desk_core.specs.Kept.{IsKept}
-use Rattle.desk_core.specs.Feeding.{IsCarried}
+use Rattle.desk_model.specs.Seen as seen
+use Rattle.desk_model.specs.Scope.{effects_scope}
+use Rattle.desk_model.specs.InPlace.{hung_of, StaysInPlace}
+use Rattle.desk_commands.specs.Stays.{MoveNothing}
+use Rattle.touch_rules.specs.Laws.{WatchesScope}
+use Rattle.desk_core.specs.declared.carried.Carried.{Carried}
+use Rattle.desk_core.specs.Watching.{effects_numbers, value_number}
+use Rattle.desk_core.specs.Feeding.{StillUnlessMoving, IsCarried}
+use Rattle.desk_model.proofs.InPlace.{inputs_leave_hung}
+use Rattle.desk_inputs.proofs.StillInputs.{unmoved-input}
+use Rattle.desk_core.proofs.StillDesks.{stays-in-place}
+use Rattle.desk_core.proofs.WatchedScopes.{watches-scope}
 use Rattle.desk_core.proofs.Views.{view-scene}
 use Rattle.desk_core.proofs.Rosters.{lists-admitted}
 
@@ -107,7 +103,17 @@ module _ (shape : Shape) (pointer : Pointer) (rings : List Ring) (w : Widgets) (
       subst (λ (e : model.Effects). IsOnScreen shape.width shape.height e.pointer) (sym asks)
       (stays-on-screen unfed.rows unfed.pointer (hit_of unfed) (held_place unfed) shape.width shape.height event wide high (record { across = kept.across; down = kept.down }))
 
-  module _ (after : Pointer) (rings' : List Ring) (w' : Widgets) (keys' : List ℕ) (changed : Bool) (is : IsCarried effects w w' keys keys' rings rings' after changed) where
+  -- values that are said to move nothing move nothing
+  pub fed-still : StillUnlessMoving (rows_of w) (effects_seen w.entries effects)
+  fed-still = subst (StillUnlessMoving (rows_of w)) (sym asks) (unmoved-input unfed event kept.desk)
+
+  -- all that the input may change is watched
+  pub fed-watches : input.AreLive w effects → WatchesScope (effects_scope unfed.pointer (effects_on unfed event)) (effects_numbers pointer effects) (value_number effects) (record { widgets = w; windows = keys; scene = seen.scene_of unfed })
+  fed-watches live =
+      let W : model.Effects → Type 0 = λ e. WatchesScope (effects_scope unfed.pointer e) (effects_numbers pointer effects) (value_number effects) (record { widgets = w; windows = keys; scene = seen.scene_of unfed }) in
+      subst W asks (watches-scope w kept.parts.tree pointer effects keys (seen.scene_of unfed) live)
+
+  module _ (after : Pointer) (rings' : List Ring) (w' : Widgets) (keys' : List ℕ) (told : Carried) (is : IsCarried effects w w' keys keys' rings rings' after told) where
     abbrev fed : Desk
     fed = desk_of (stage_of shape roster rings' w' after) w' keys'
 
@@ -141,45 +147,10 @@ module _ (shape : Shape) (pointer : Pointer) (rings : List Ring) (w : Widgets) (
           down = subst (λ (y : ℕ). y < shape.height) (sym at_y) on_screen.down;
         }
 
--- the looks of all clients are told
-module _ (old new : DeskView) (effects : Effects) (before : IsWidgets old.widgets) (after : IsWidgets new.widgets)
-    (rows : rows_of new.widgets ≡ rows_after (effects_seen old.widgets.entries effects) (rows_of old.widgets))
-    (numbers : KeepsNumbers old.widgets.entries new.widgets.entries)
-    (told : (id : ℕ) → list_any (nat_eq id) new.touched ≡ (nat_lt id 2048 && differ (kept_of (numbered_of old) id) (kept_of (numbered_of new) id))) where
-  abbrev seen_effects : model.Effects
-  seen_effects = effects_seen old.widgets.entries effects
-
-  film-stays : (id : ℕ) (a b : Row) → row_at old.widgets.entries id ≡ Some a → row_at new.widgets.entries id ≡ Some b → shown_film b ≡ shown_film a
-  film-stays id a b at_a at_b =
-      let keys = numbers.keys id (key_of a) (key_of b) (ap (option_map key_of) at_a) (ap (option_map key_of) at_b) in
-      let was : row_named (rows_of old.widgets) a.client a.name ≡ Some a = row_named-row old.widgets.entries id a before.forest.own_numbers before.forest.own_names at_a in
-      let now : row_named (rows_of new.widgets) b.client b.name ≡ Some b = row_named-row new.widgets.entries id b after.forest.own_numbers after.forest.own_names at_b in
-      let both : Some b ≡ Some (fed_row seen_effects a) =
-      sym now
-      ∙ ap (λ (key : ℕ × List ℕ). row_named (rows_of new.widgets) key.0 key.1) (sym keys)
-      ∙ ap (λ (rs : List Row). row_named rs a.client a.name) rows
-      ∙ row_named-fed seen_effects (rows_of old.widgets) a.client a.name
-      ∙ ap (option_map (fed_row seen_effects)) was in
-      let same : b ≡ fed_row seen_effects a = cc in
-      let stays = fed_row-same seen_effects a in
-      ap shown_film same ∙ ap (λ (k : Kind). shown_film (record (fed_row seen_effects a) { kind = k })) stays.kind
-      ∙ ap (λ (f : Option FilmState). shown_film (record a { film = f })) stays.film
-
-  none-above : (id : ℕ) → nat_lt id 2048 ≡ false → row_at old.widgets.entries id ≡ None
-  none-above id above = by (row_at old.widgets.entries id) refl
-    where
-      by : (o : Option Row) → row_at old.widgets.entries id ≡ o → row_at old.widgets.entries id ≡ None
-      by None there = there
-      by (Some row) there =
-          let own = row-owned old.widgets.clients old.widgets.entries id row before.forest there in
-          absurd (true≢false (sym (lt-ltb id 2048 (omega (arith, own.to, own.high))) ∙ above))
-
-  pub fed-touched : TellsTouched old new
-  fed-touched =
-      all_looks_are_enough (numbered_of old) (numbered_of new) new.touched
-      (record { each = λ id a b at_a at_b. alike-same (shown_film a) (shown_film b) (film-stays id a b at_a at_b) })
-      (λ id. told id ∙ by id (nat_lt id 2048) refl)
-    where
-      by : (id : ℕ) (below : Bool) → nat_lt id 2048 ≡ below → (below && differ (kept_of (numbered_of old) id) (kept_of (numbered_of new) id)) ≡ differ (kept_of (numbered_of old) id) (kept_of (numbered_of new) id)
-      by id true e = refl
-      by id false e = sym (ap (λ (look : Option Seen). differ look (kept_of (numbered_of new) id)) (kept-none (numbered_of old) id (none-above id e)))
+    pub fed-in-place : told.moved ≡ false → StaysInPlace unfed fed
+    fed-in-place none =
+        let unmoved = is.unmoved none in
+        stays-in-place unfed fed
+        (ap (map hung_of) is.rows ∙ inputs_leave_hung (effects_seen w.entries effects) (rows_of w))
+        unmoved.1
+        (subst (λ (rs : List Row). MoveNothing (rows_of w) rs) (sym is.rows) (fed-still unmoved.0))

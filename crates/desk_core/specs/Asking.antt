@@ -12,8 +12,9 @@ abbrev pub only_asks : Command → Bool
 only_asks (Get name attr) = true
 only_asks _ = false
 
--- the command's row gives that reply, and the desk as it was
+-- the command only asks: its row gives that reply, and the desk as it was
 pub record IsAnswer (rows : List Row) (client : ℕ) (command : Command) (reply : Reply) : Type 0 where
+  pub asks : only_asks command ≡ true
   pub answers : (payload : List ℕ) (short : Bool) (desk : Desk) → desk.rows ≡ rows → (reply, desk) ≡ row_of command payload desk client short
 
 -- the desk, its numbers and its kept places stay as they were

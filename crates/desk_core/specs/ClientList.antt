@@ -2,6 +2,7 @@
 -- is there twice.
 use Rattle.std.specs.Prelude.{ℕ, ◌≡◌, true, List, map}
 use Rattle.std.specs.List.{list_all}
+use Rattle.bind_core.specs.Ring.{new_ring}
 use Rattle.widget_model.specs.Clients.{is_client}
 use Rattle.desk_model.specs.Desk.{Ring}
 use Rattle.desk_model.specs.DeskFacts.{AreConnectedOnce}
@@ -17,6 +18,10 @@ rings_of members = map ring_of_member members
 -- the clients of these rings, in their order
 abbrev pub clients_of : List Ring → List ℕ
 clients_of rings = map (λ ring. ring.client) rings
+
+-- the ring of a client that comes
+abbrev pub ring_for : ℕ → Ring
+ring_for client = record { client = client; events = new_ring }
 
 pub record IsJoined (clients : List ℕ) : Type 0 where
   pub range : list_all is_client clients ≡ true

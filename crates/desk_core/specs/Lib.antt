@@ -4,3 +4,4 @@ pub mod Touching
 pub mod Kept
 pub mod Asking
 pub mod Feeding
+pub mod Watching

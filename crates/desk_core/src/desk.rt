@@ -1,4 +1,4 @@
-ghost use Rattle.std.specs.Prelude.{◌≡◌, ◌<◌, ◌≤◌, ◌↔◌, IsSome, IfSome, Some, true, false, [], length, slice_get, All, map};
+ghost use Rattle.std.specs.Prelude.{◌≡◌, ◌<◌, ◌≤◌, ◌↔◌, ◌&&◌, IsSome, IfSome, Some, true, false, not, [], length, slice_get, All, map};
 ghost use Rattle.std.specs.Bool.{OnTrue};
 ghost use Rattle.std.specs.Option.{option_map};
 ghost use Rattle.desk_model.specs.Desk.{opening_desk};
@@ -15,7 +15,8 @@ ghost use Rattle.desk_commands.specs.Beating.{bands_named, bands_keyed};
 ghost use Rattle.desk_model.specs.OwnPart.{LeavesOthers};
 ghost use Rattle.desk_layout.specs.Numbers.{KeepsNumbers};
 ghost use Rattle.desk_layout.specs.Placed.{HaveDuePlaces};
-ghost use Rattle.desk_core.specs.View.{StaysUnlessChanged, TellsChange};
+ghost use Rattle.desk_core.specs.View.{StaysUnlessChanged, StaysUnlessMoved, TellsChange, is_refused};
+ghost use Rattle.desk_commands.specs.Stays.{moves};
 ghost use Rattle.desk_core.specs.Asking.{only_asks, StaysAsItWas};
 ghost use Rattle.desk_core.specs.Touching.{TellsTouched};
 ghost use Rattle.desk_model.specs.Seen as seen;
@@ -24,14 +25,17 @@ ghost use Rattle.desk_model.specs.Refusals.{is_memory};
 
 use crate::asking::answer_to;
 use crate::clients::Clients;
-use crate::feeding::{asked_on, carry_telling};
+use crate::feeding::{asked_on, carry_out};
+use crate::joining::join;
 use crate::polling::poll_reply;
-use crate::touching::{forget, keep_looks, screen_anew, tell_looks};
+use crate::touching::{forget, view_of};
+use crate::watching::keep_watched;
 use admit_core::Roster;
 use arrayvec::ArrayVec;
-use bind_core::Ring;
 use cmd_words::{Command, Input, Refusal, Reply};
-use desk_commands::{beat, close_windows, dismiss, is_poll, let_go, may_move, obey, place_of};
+use desk_commands::{
+    beat, close_windows, dismiss, is_poll, let_go, may_move, moves, obey, place_of,
+};
 use desk_layout::settle;
 use scene_core::View;
 use scene_model::Shape;
@@ -39,13 +43,24 @@ use shot_core::Touched;
 use stack_core::Stack;
 use std::alloc::Global;
 use std::marker::Model;
+use touch_rules::{keep_before, shown_anew, tell_touched};
 use tree_core::{Grab, Id, Pointer, Tree};
 use vscreen_core::Band;
 
+/// Whether something may have moved: the command may move something, and the reply doesn't refuse it.
+fn has_moved(reply: &Reply, moves: bool) -> bool
+    ensures { result ≡ (not (is_refused reply.now) && moves) }
+{
+    match reply {
+        Reply::Refused(_) => false,
+        _ => moves,
+    }
+}
+
 /// The desk: the connected clients, their widgets, the order of the open windows and the pointer. It answers each
 /// client's command, and keeps the places of the widgets. Contracts see the record `DeskView`: the desk of desk_model,
-/// whether the last call changed it, the numbered widgets with their places, the numbers of the open windows, and those
-/// whose look the last call touched. See docs/MACHINE.md, "The desk".
+/// whether the last call changed it and moved something, the numbered widgets with their places, the numbers of the open
+/// windows, and those whose look the last call touched. See docs/MACHINE.md, "The desk".
 pub struct Desk {
     shape: Shape,
     pointer: Pointer,
@@ -55,6 +70,7 @@ pub struct Desk {
     windows: Stack,
     roster: Roster,
     changed: bool,
+    moved: bool,
     touched: Touched,
 }
 
@@ -65,7 +81,7 @@ impl Model for Desk {
 
     ghost Value = { DeskView };
 
-    ghost view = { λ d. record { desk = desk_of (stage_of d.shape d.roster d.clients d.tree d.pointer) d.tree d.windows; changed = d.changed; widgets = d.tree; windows = d.windows; touched = d.touched.looks.items } };
+    ghost view = { λ d. record { desk = desk_of (stage_of d.shape d.roster d.clients d.tree d.pointer) d.tree d.windows; changed = d.changed; moved = d.moved; widgets = d.tree; windows = d.windows; touched = d.touched.looks.items } };
 
     ghost invariant = { λ d. IsKept d.shape d.pointer d.clients d.tree d.windows d.roster };
 }
@@ -81,6 +97,7 @@ impl Drop for Desk {
             windows: _,
             roster: _,
             changed: _,
+            moved: _,
             touched: Touched { looks: _ },
         } = self;
     }
@@ -93,6 +110,7 @@ impl Desk {
         ensures opening { result.desk ≡ opening_desk shape }
         ensures valid { IsDesk result.desk }
         ensures changed { result.changed ≡ false }
+        ensures unmoved { result.moved ≡ false }
         ensures untouched { result.touched ≡ [] }
     {
         let pointer = Pointer {
@@ -111,6 +129,7 @@ impl Desk {
             windows: Stack::new(),
             roster: Roster::new(shape.budget - shape.spare),
             changed: false,
+            moved: false,
             touched: Touched {
                 looks: ArrayVec::new(),
             },
@@ -127,28 +146,20 @@ impl Desk {
         ensures valid { IsDesk self.new.desk }
         ensures changed { TellsChange self.old self.new }
         ensures unchanged { self.new.changed ≡ false }
+        ensures still { StaysUnlessMoved self.old self.new }
+        ensures unmoved { self.new.moved ≡ false }
         ensures numbered { KeepsNumbers self.old.widgets.entries self.new.widgets.entries }
         ensures touched { TellsTouched self.old self.new }
     {
         self.changed = false;
+        self.moved = false;
         forget(&mut self.touched);
         if self.clients.has(client) {
             return Reply::Refused(Refusal::Connected);
         }
-        let events = match Ring::new(self.alloc) {
-            Ok(events) => events,
-            Err(_) => return Reply::Refused(Refusal::Memory),
-        };
-        match self.clients.join(client, events) {
+        match join(&mut self.clients, &mut self.tree, self.alloc, client) {
             Ok(()) => {}
             Err(_) => return Reply::Refused(Refusal::Memory),
-        }
-        match self.tree.join_client(client) {
-            Ok(()) => {}
-            Err(_) => {
-                self.clients.leave(client);
-                return Reply::Refused(Refusal::Memory);
-            }
         }
         Reply::Done
     }
@@ -161,29 +172,21 @@ impl Desk {
         ensures valid { IsDesk self.new.desk }
         ensures changed { TellsChange self.old self.new }
         ensures unchanged { self.new.changed ≡ false }
+        ensures still { StaysUnlessMoved self.old self.new }
+        ensures unmoved { self.new.moved ≡ false }
         ensures numbered { KeepsNumbers self.old.widgets.entries self.new.widgets.entries }
         ensures touched { TellsTouched self.old self.new }
     {
         self.changed = false;
+        self.moved = false;
         forget(&mut self.touched);
         let client = match self.clients.free() {
             Some(client) => client,
             None => return Reply::Refused(Refusal::Full { limit: 16 }),
         };
-        let events = match Ring::new(self.alloc) {
-            Ok(events) => events,
-            Err(_) => return Reply::Refused(Refusal::Memory),
-        };
-        match self.clients.join(client, events) {
+        match join(&mut self.clients, &mut self.tree, self.alloc, client) {
             Ok(()) => {}
             Err(_) => return Reply::Refused(Refusal::Memory),
-        }
-        match self.tree.join_client(client) {
-            Ok(()) => {}
-            Err(_) => {
-                self.clients.leave(client);
-                return Reply::Refused(Refusal::Memory);
-            }
         }
         Reply::Number(client as i32)
     }
@@ -202,9 +205,12 @@ impl Desk {
         ensures valid { IsDesk self.new.desk }
         ensures numbered { KeepsNumbers self.old.widgets.entries self.new.widgets.entries }
         ensures touched { TellsTouched self.old self.new }
+        ensures still { StaysUnlessMoved self.old self.new }
+        ensures told { self.new.moved ≡ (not (is_refused result) && moves self.old.desk.rows client command.now) }
         ensures asking { OnTrue (only_asks command.now) (StaysAsItWas self.old self.new) }
     {
         self.changed = false;
+        self.moved = false;
         forget(&mut self.touched);
         if !self.clients.has(client) {
             return Reply::Refused(Refusal::NotConnected);
@@ -216,17 +222,11 @@ impl Desk {
         if is_poll(command) {
             return poll_reply(self.clients.poll(client));
         }
-        let moves = may_move(&self.tree, client, command);
-        let before = keep_looks(&self.tree, &self.windows, &self.pointer, self.shape, client);
-        let anew = screen_anew(
-            &self.tree,
-            &self.windows,
-            &self.pointer,
-            self.shape,
-            client,
-            command,
-            payload,
-        );
+        let lays = may_move(&self.tree, client, command);
+        let moves = moves(&self.tree, client, command);
+        let shown = view_of(&self.tree, &self.windows, &self.pointer, self.shape);
+        let before = keep_before(&shown, client, command);
+        let anew = shown_anew(&shown, client, command, payload);
         let answer = obey(
             self.alloc,
             &mut self.tree,
@@ -236,20 +236,12 @@ impl Desk {
             command,
             payload,
         );
-        settle(&mut self.tree, client, answer.changed, moves);
+        settle(&mut self.tree, client, answer.changed, lays);
         let_go(&self.tree, &self.windows, &mut self.pointer);
-        tell_looks(
-            &before,
-            anew,
-            &answer.reply,
-            &self.tree,
-            &self.windows,
-            &self.pointer,
-            self.shape,
-            client,
-            &mut self.touched,
-        );
+        let shows = view_of(&self.tree, &self.windows, &self.pointer, self.shape);
+        tell_touched(&shows, &before, anew, &answer.reply, &mut self.touched);
         self.changed = answer.changed;
+        self.moved = has_moved(&answer.reply, moves);
         answer.reply
     }
 
@@ -261,11 +253,13 @@ impl Desk {
         ensures step { (result, self.new.desk) ≡ step_bye self.old.desk client }
         ensures others { LeavesOthers client self.old.desk self.new.desk }
         ensures changed { TellsChange self.old self.new }
+        ensures still { StaysUnlessMoved self.old self.new }
         ensures valid { IsDesk self.new.desk }
         ensures numbered { KeepsNumbers self.old.widgets.entries self.new.widgets.entries }
         ensures touched { TellsTouched self.old self.new }
     {
         self.changed = false;
+        self.moved = false;
         forget(&mut self.touched);
         if !self.clients.has(client) {
             return Reply::Refused(Refusal::NotConnected);
@@ -278,6 +272,7 @@ impl Desk {
         self.tree.drop_client(client);
         self.clients.leave(client);
         self.changed = count > 0;
+        self.moved = true;
         Reply::Done
     }
 
@@ -288,19 +283,23 @@ impl Desk {
         ensures valid { IsDesk self.new.desk }
         ensures numbered { KeepsNumbers self.old.widgets.entries self.new.widgets.entries }
         ensures unchanged { StaysUnlessChanged self.old self.new }
+        ensures still { StaysUnlessMoved self.old self.new }
         ensures touched { TellsTouched self.old self.new }
     {
         let effects = asked_on(&self.tree, &self.windows, &self.pointer, self.shape, input);
-        self.changed = carry_telling(
+        let shown = view_of(&self.tree, &self.windows, &self.pointer, self.shape);
+        let before = keep_watched(&shown, &effects);
+        let carried = carry_out(
             &mut self.tree,
             &mut self.windows,
             &mut self.pointer,
             &mut self.clients,
-            self.shape,
             &effects,
-            16,
-            &mut self.touched,
         );
+        let shows = view_of(&self.tree, &self.windows, &self.pointer, self.shape);
+        before.tell_changed(&shows, &mut self.touched);
+        self.changed = carried.changed;
+        self.moved = carried.moved;
     }
 
     /// Takes the desk to its beat: the film of each admitted VScreen draws its band and goes on to its next phase.
@@ -316,9 +315,11 @@ impl Desk {
         ensures places { self.new.widgets.places ≡ self.old.widgets.places }
         ensures windows { self.new.windows ≡ self.old.windows }
         ensures unchanged { self.new.changed ≡ false }
+        ensures unmoved { self.new.moved ≡ false }
         ensures untouched { self.new.touched ≡ [] }
     {
         self.changed = false;
+        self.moved = false;
         forget(&mut self.touched);
         beat(&mut self.tree, &self.roster)
     }
@@ -334,13 +335,7 @@ impl Desk {
         ensures kept { KeepsPlaces self.now.widgets self.now.windows }
         ensures view { IsView result }
     {
-        View {
-            tree: &self.tree,
-            stack: &self.windows,
-            pointer: &self.pointer,
-            width: self.shape.width,
-            height: self.shape.height,
-        }
+        view_of(&self.tree, &self.windows, &self.pointer, self.shape)
     }
 
     /// The place of the open window with that index, counted from 0 at the top: x, y, width and height in
@@ -364,6 +359,16 @@ impl Desk {
         ensures { result ≡ self.now.changed }
     {
         self.changed
+    }
+
+    /// Whether the last call of `connect`, `hello`, `step`, `feed` or `bye` may have changed what is where on the screen; false
+    /// before the first and after a `beat`. Where it is false, no widget came, went, hangs elsewhere or has another place, and
+    /// no window opened, closed or rose, so what the screen shows is where it was. See docs/MACHINE.md, "The reach of a
+    /// change".
+    pub fn moved(&self) -> bool
+        ensures { result ≡ self.now.moved }
+    {
+        self.moved
     }
 
     /// The numbers of the widgets that were shown before the last call of `connect`, `hello`, `step`, `feed` or `bye`, are

@@ -1,8 +1,7 @@
 //! What an input asks for, carried out on the parts of the desk.
 
-ghost use Rattle.std.specs.Prelude.{◌≡◌, ◌≤◌, ◌<◌, ◌*◌, ◌||◌, ◌&&◌, ℕ, Bool, true, false, None, IfSome, length, map, nat_eq, nat_lt};
-ghost use Rattle.std.specs.List.{All, fold, list_any};
-ghost use Rattle.std.specs.Option.{option_map};
+ghost use Rattle.std.specs.Prelude.{◌≡◌, ◌<◌, ◌||◌, ℕ, Bool, true, false, None, IfSome, map};
+ghost use Rattle.std.specs.List.{All, fold};
 ghost use Rattle.desk_commands.specs.Parts.{AreParts};
 ghost use Rattle.desk_inputs.specs.Asked.{GrabIsUnderWindow, effects_in};
 ghost use Rattle.desk_inputs.specs.Raised.{is_open_at};
@@ -11,24 +10,22 @@ ghost use Rattle.desk_model.specs.Feeding.{with_post};
 ghost use Rattle.desk_model.specs.InputFacts.{TakesValues};
 ghost use Rattle.input_core.specs.Live.{AreLive, HoldsLive};
 ghost use Rattle.input_core.specs.Seen.{key_seen, post_seen, effects_seen};
-ghost use Rattle.look_data.specs.Kept.{differ, kept_look};
 ghost use Rattle.scene_core.specs.View.{scene_from};
 ghost use Rattle.scene_model.specs.Shapes.{IsShape};
 ghost use Rattle.widget_model.specs.Forest.{IsWidgets};
 ghost use Rattle.widget_model.specs.Widgets.{IsLive, rows_of};
-ghost use Rattle.desk_core.specs.Feeding.{is_named, is_asked, HavePlacesBut, ChangesPlaces, IsCarried};
+ghost use Rattle.desk_core.specs.Feeding.{is_named, is_asked, HavePlacesBut, ChangesPlaces, StillUnlessMoving, IsCarried};
 
+use crate::asked::{moved, numbered, written};
+use crate::carried::{Carried, told_by};
 use crate::clients::Clients;
-use crate::touching::{forget, keep_looks, tell_more};
+use crate::touching::view_of;
 use cmd_words::Input;
 use desk_commands::let_go;
-use desk_inputs::{asked, posted_of, raise, set_values};
+use desk_inputs::{asked, effects_move, posted_of, raise, set_values};
 use desk_layout::settle;
 use input_core::{Effects, Post};
-use kind_core::Text;
-use scene_core::View;
 use scene_model::Shape;
-use shot_core::Touched;
 use stack_core::Stack;
 use tree_core::{Id, Pointer, Tree};
 
@@ -50,14 +47,7 @@ pub(crate) fn asked_on(
     ensures effects { effects_seen tree.now.entries result ≡ effects_in (scene_from tree.now windows.now pointer.now shape.width shape.height) input }
     ensures live { AreLive tree.now result }
 {
-    let view = View {
-        tree,
-        stack: windows,
-        pointer,
-        width: shape.width,
-        height: shape.height,
-    };
-    asked(&view, input)
+    asked(&view_of(tree, windows, pointer, shape), input)
 }
 
 /// Tells the event to the client of its widget, where it is bound.
@@ -97,36 +87,6 @@ fn lay_named(tree: &mut Tree, named: Option<Id>)
     }
 }
 
-/// The widget to whose attribute a number is given.
-fn numbered(asked: Option<(Id, i32)>) -> Option<Id>
-    ensures { result ≡ option_map (λ set. set.0) asked }
-{
-    match asked {
-        Some((id, _)) => Some(id),
-        None => None,
-    }
-}
-
-/// The Entry to which a text is given.
-fn written(asked: Option<(Id, Text)>) -> Option<Id>
-    ensures { result ≡ option_map (λ set. set.0) asked }
-{
-    match asked {
-        Some((id, _)) => Some(id),
-        None => None,
-    }
-}
-
-/// The Window that is moved.
-fn moved(asked: Option<(Id, i32, i32)>) -> Option<Id>
-    ensures { result ≡ option_map (λ set. set.0) asked }
-{
-    match asked {
-        Some((id, _, _)) => Some(id),
-        None => None,
-    }
-}
-
 /// Lays out the widgets of each client to one of whose widgets a value is given.
 fn lay_asked(tree: &mut Tree, effects: &Effects)
     requires valid { IsWidgets tree.old }
@@ -153,69 +113,46 @@ fn gives_values(effects: &Effects) -> bool
         || effects.moved.is_some()
 }
 
+/// Lays out the widgets that may have moved.
+fn lay_moved(tree: &mut Tree, effects: &Effects, moves: bool)
+    requires valid { IsWidgets tree.old }
+    requires value { IfSome effects.now.value (λ set. IsLive tree.old set.0.key) }
+    requires text { IfSome effects.now.text (λ set. IsLive tree.old set.0.key) }
+    requires caret { IfSome effects.now.caret (λ set. IsLive tree.old set.0.key) }
+    requires moved { IfSome effects.now.moved (λ set. IsLive tree.old set.0.key) }
+    requires due { HavePlacesBut (is_asked tree.old.entries effects.now) tree.old }
+    requires still { moves ≡ false → HaveDuePlaces tree.old }
+    ensures changed { ChangesPlaces tree.old tree.new }
+    ensures due { HaveDuePlaces tree.new }
+{
+    if moves {
+        lay_asked(tree, effects);
+    }
+}
+
 /// Carries out what an input asks for: the events are posted, the window is raised, the values are given, the widgets
-/// that may have moved are laid out, and the pointer is the asked one, which lets go then. Answers false only where
-/// neither the rows nor the open windows have changed.
-fn carry_out(
+/// that may have moved are laid out, and the pointer is the asked one, which lets go then.
+pub(crate) fn carry_out(
     tree: &mut Tree,
     windows: &mut Stack,
     pointer: &mut Pointer,
     clients: &mut Clients,
     effects: &Effects,
-) -> bool
+) -> Carried
     requires parts { AreParts tree.old.clients tree.old windows.old }
     requires placed { HaveDuePlaces tree.old }
     requires live { AreLive tree.old effects.now }
     requires taken { TakesValues (rows_of tree.old) (effects_seen tree.old.entries effects.now) }
     requires opened { IfSome effects.now.raise (λ id. is_open_at tree.old windows.old (key_seen tree.old.entries id) ≡ true) }
+    requires still { StillUnlessMoving (rows_of tree.old) (effects_seen tree.old.entries effects.now) }
     ensures { IsCarried effects.now tree.old tree.new windows.old windows.new clients.old clients.new pointer.new result }
 {
+    let moves = effects_move(tree, effects);
     post_all(tree, clients, effects.posts.as_slice());
     let raised = raise(tree, windows, effects.raise);
     set_values(tree, effects);
-    lay_asked(tree, effects);
+    lay_moved(tree, effects, moves);
     *pointer = effects.pointer;
     let_go(tree, windows, pointer);
-    raised || gives_values(effects)
-}
-
-/// The same, and tells which looks it changed of the clients up to that one: those of each are kept before it and
-/// compared after it.
-pub(crate) fn carry_telling(
-    tree: &mut Tree,
-    windows: &mut Stack,
-    pointer: &mut Pointer,
-    clients: &mut Clients,
-    shape: Shape,
-    effects: &Effects,
-    client: u32,
-    touched: &mut Touched,
-) -> bool
-    requires parts { AreParts tree.old.clients tree.old windows.old }
-    requires placed { HaveDuePlaces tree.old }
-    requires live { AreLive tree.old effects.now }
-    requires taken { TakesValues (rows_of tree.old) (effects_seen tree.old.entries effects.now) }
-    requires opened { IfSome effects.now.raise (λ id. is_open_at tree.old windows.old (key_seen tree.old.entries id) ≡ true) }
-    requires some { client ≤ 16 }
-    ensures carried { IsCarried effects.now tree.old tree.new windows.old windows.new clients.old clients.new pointer.new result }
-    ensures told { (id : ℕ) → list_any (nat_eq id) touched.new.looks.items ≡ (nat_lt id (128 * client) && differ (kept_look tree.old windows.old (scene_from tree.old windows.old pointer.old shape.width shape.height) id) (kept_look tree.new windows.new (scene_from tree.new windows.new pointer.new shape.width shape.height) id)) }
-    ensures few { length touched.new.looks.items ≤ 128 * client }
-{
-    if client == 0 {
-        forget(touched);
-        return carry_out(tree, windows, pointer, clients, effects);
-    }
-    let before = keep_looks(tree, windows, pointer, shape, client);
-    let changed = carry_telling(
-        tree,
-        windows,
-        pointer,
-        clients,
-        shape,
-        effects,
-        client - 1,
-        touched,
-    );
-    tell_more(&before, tree, windows, pointer, shape, client, touched);
-    changed
+    told_by(raised, gives_values(effects), moves)
 }

@@ -2,7 +2,9 @@
 //! law. docs/MACHINE.md reads them in prose.
 
 ghost use Rattle.desk_model.specs.OwnPart.{CommandsLeaveOthers, ConnectsLeaveOthers, HellosLeaveOthers, ByesLeaveOthers, AnswersDependOnOwnPart, ConnectsDependOnOwnPart, ByesDependOnOwnPart};
-ghost use Rattle.desk_model.specs.DeskLaws.{OpeningIsADesk, ConnectsKeepDesks, HellosKeepDesks, ByesKeepDesks, CommandsKeepDesks, RefusedConnectsChangeNothing, RefusedHellosChangeNothing, RefusedByesChangeNothing, RefusedCommandsChangeNothing};
+ghost use Rattle.desk_model.specs.DeskLaws.{OpeningIsADesk, ConnectsKeepDesks, HellosKeepDesks, ByesKeepDesks, CommandsKeepDesks, InputsKeepDesks, BeatsKeepDesks, RefusedConnectsChangeNothing, RefusedHellosChangeNothing, RefusedByesChangeNothing, RefusedCommandsChangeNothing};
+ghost use Rattle.desk_model.specs.Scope.{CommandsKeepToTheirScope, InputsKeepToTheirScope};
+ghost use Rattle.desk_model.specs.InPlace.{CommandsLeaveHung, InputsLeaveHung};
 
 /// What holds of a desk holds at opening.
 pub fn the_opening_desk_is_a_desk()
@@ -27,6 +29,16 @@ pub fn a_bye_keeps_what_holds()
 /// Each command does the same, whatever it is and however it is answered.
 pub fn a_command_keeps_what_holds()
     ensures { CommandsKeepDesks }
+{}
+
+/// Each input does the same, whatever it is.
+pub fn inputs_keep_desks()
+    ensures { InputsKeepDesks }
+{}
+
+/// Each beat does the same.
+pub fn a_beat_keeps_what_holds()
+    ensures { BeatsKeepDesks }
 {}
 
 /// A refused connect leaves a desk of which all that holds of a desk holds as it was, the pointer's grab and focus too.
@@ -85,4 +97,26 @@ pub fn connects_depend_on_the_own_part()
 /// Two such desks answer the client's bye alike.
 pub fn byes_depend_on_the_own_part()
     ensures { ByesDependOnOwnPart }
+{}
+
+/// A command changes no widget but the one that it names, and lets go at most of what the pointer holds.
+pub fn commands_keep_to_their_scope()
+    ensures { CommandsKeepToTheirScope }
+{}
+
+/// An input changes no widget but those to which it gives values, and grabs, lets go of and gives the focus to none but
+/// what the pointer holds before it or asks for.
+pub fn inputs_keep_to_their_scope()
+    ensures { InputsKeepToTheirScope }
+{}
+
+/// A command that isn't one of those that make, hang, drop, open, close or raise leaves every widget where it hangs and the
+/// open windows as they are.
+pub fn commands_leave_hung()
+    ensures { CommandsLeaveHung }
+{}
+
+/// The values that an input gives leave every widget where it hangs.
+pub fn inputs_leave_hung()
+    ensures { InputsLeaveHung }
 {}

@@ -1,5 +1,5 @@
 use Rattle.std.proofs.Common.{◌≡◌, ◌↔◌, IsTrue, nat_lt, true, false, sym, ap, ◌∙◌, subst, arith}
-use Rattle.std.proofs.lemmas.Bool.{ltb-true, lt-ltb}
+use Rattle.std.proofs.lemmas.Bool.{true≢false, ltb-true, lt-ltb}
 use Rattle.cmd_words.specs.declared.replies.Reply.{Reply}
 use Rattle.widget_model.specs.Kinds.{any_kind}
 use Rattle.widget_model.specs.Named.{rows_counted}
@@ -16,7 +16,8 @@ use Rattle.desk_core.specs.ClientList.{clients_of}
 use Rattle.desk_core.proofs.ByeChanges.{tells_bye}
 use Rattle.desk_core.proofs.CallSteps.{bye-absent}
 use Rattle.desk_core.proofs.Departures.{stage_without}
-use Rattle.desk_core.proofs.Calls.{connected-joined, closed-parts, gone-desk, gone-step, gone-kept}
+use Rattle.desk_core.proofs.Calls.{connected-joined}
+use Rattle.desk_core.proofs.Goings.{closed-parts, gone-desk, gone-step, gone-kept}
 use Rattle.widget_model.specs.Widgets.{Widgets}
 use Rattle.desk_layout.specs.Numbers.{KeepsNumbers}
 use Rattle.desk_layout.proofs.KeyNumbers.{numbers-same}
@@ -27,6 +28,7 @@ use Rattle.widget_model.specs.Rows.{Row}
 use Rattle.widget_model.specs.Widgets.{rows_of}
 use Rattle.widget_model.specs.Forest.{IsWidgets}
 use Rattle.desk_model.specs.Seen as seen
+use Rattle.desk_core.proofs.StillDesks.{stays-same}
 use Rattle.desk_core.proofs.TouchedLooks.{stayed-touched, left-touched}
 use Rattle.desk_core.proofs.desk.Desk.bye.Goals as goal
 
@@ -99,7 +101,7 @@ returns-clause-numbered c =
 pub returns-then-not-has-clause-touched : goal.returns-then-not-has-clause-touched
 returns-then-not-has-clause-touched c =
     let i = c.self.inside in
-    let new : DeskView = record { desk = desk_of (stage_of i.shape i.roster i.clients i.tree i.pointer) i.tree i.windows; changed = false; widgets = i.tree; windows = i.windows; touched = c.forget.new.touched.looks.items } in
+    let new : DeskView = record { desk = desk_of (stage_of i.shape i.roster i.clients i.tree i.pointer) i.tree i.windows; changed = false; moved = false; widgets = i.tree; windows = i.windows; touched = c.forget.new.touched.looks.items } in
     stayed-touched c.args.self.now new (ap (λ (s : DeskView). s.widgets.entries) c.self.view_is) (ap (λ (s : DeskView). seen.scene_of s.desk) c.self.view_is) c.forget.ensures
 
 pub returns-clause-touched : goal.returns-clause-touched
@@ -107,7 +109,7 @@ returns-clause-touched c =
     let i = c.self.inside in
     let tree = c.drop_client.new.self in
     let windows = c.close_windows.new.windows in
-    let new : DeskView = record { desk = desk_of (stage_of i.shape c.dismiss.new.roster c.leave.new.self tree c.let_go.new.pointer) tree windows; changed = nat_lt 0 c.count-count.result; widgets = tree; windows = windows; touched = c.forget.new.touched.looks.items } in
+    let new : DeskView = record { desk = desk_of (stage_of i.shape c.dismiss.new.roster c.leave.new.self tree c.let_go.new.pointer) tree windows; changed = nat_lt 0 c.count-count.result; moved = true; widgets = tree; windows = windows; touched = c.forget.new.touched.looks.items } in
     let kept = invariant_of-self-2 c in
     let W : DeskView → Type 0 = λ s. IsWidgets s.widgets in
     let R : DeskView → Type 0 = λ s. s.desk.rows ≡ rows_of s.widgets in
@@ -126,3 +128,11 @@ returns-clause-touched c =
 
 pub dismiss-requires : goal.dismiss-requires
 dismiss-requires c = record { valid = c.self.invariant.listed.valid; live = admitted-live c.self.inside.tree.entries c.self.inside.roster.entries c.self.invariant.listed.admitted }
+
+pub returns-then-not-has-clause-still : goal.returns-then-not-has-clause-still
+returns-then-not-has-clause-still c = λ none.
+    let i = c.self.inside in
+    stays-same c.args.self.now.desk (desk_of (stage_of i.shape i.roster i.clients i.tree i.pointer) i.tree i.windows) (ap (λ (s : DeskView). s.desk.rows) c.self.view_is) (ap (λ (s : DeskView). s.desk.windows) c.self.view_is)
+
+pub returns-clause-still : goal.returns-clause-still
+returns-clause-still c = λ none. absurd (true≢false none)

@@ -2,32 +2,32 @@ use Rattle.std.proofs.Common.{◌≡◌, ◌↔◌, ◌&&◌, Bool, IsTrue, true
 use Rattle.widget_model.specs.Widgets.{Widgets, nodes, rows_of}
 use Rattle.desk_model.specs.Polling.{poll_reply}
 use Rattle.desk_model.specs.Commands.{step}
-use Rattle.desk_model.specs.Desk.{Desk}
+use Rattle.desk_model.specs.Desk.{Desk, is_connected}
 use Rattle.desk_model.specs.DeskFacts.{IsDesk}
 use Rattle.desk_model.specs.Refusals.{is_memory}
 use Rattle.desk_model.proofs.OwnPart.{commands_leave_others}
 use Rattle.desk_commands.specs.Parts.{desk_of, stage_of, windows_at}
 use Rattle.cmd_words.specs.declared.replies.Reply.{Reply}
 use Rattle.desk_model.specs.OwnPart.{LeavesOthers}
-use Rattle.desk_core.specs.View.{DeskView}
+use Rattle.look_data.specs.Watched.{AreWatched}
+use Rattle.tree_core.specs.Holds.{pointer_seen}
+use Rattle.scene_core.specs.declared.view.View.{View}
+use Rattle.scene_core.specs.View.{scene_of}
+use Rattle.desk_commands.specs.Stays.{moves}
+use Rattle.desk_core.specs.View.{DeskView, is_refused}
+use Rattle.desk_core.proofs.StillDesks.{stays-same, asked-unmoved, polled-unmoved, stepped-still}
 use Rattle.desk_core.specs.ClientList.{clients_of}
 use Rattle.desk_core.proofs.CallSteps.{step-absent, step-obeyed}
 use Rattle.desk_core.proofs.Calls.{connected-joined, obeyed-tree, obeyed-numbers, obeyed-parts, obeyed-held, obeyed-step, obeyed-kept, polled-step, polled-kept}
 use Rattle.desk_layout.specs.Numbers.{KeepsNumbers}
 use Rattle.desk_layout.proofs.KeyNumbers.{numbers-same}
-use Rattle.std.proofs.Common.{ℕ, ◌&&◌, refl}
-use Rattle.widget_model.specs.Nodes.{is_number_of}
+use Rattle.std.proofs.Common.{ℕ, Option, not, refl}
 use Rattle.widget_model.specs.Forest.{IsWidgets}
 use Rattle.desk_model.specs.Seen as seen
-use Rattle.touch_rules.specs.Laws.{kept_of}
-use Rattle.desk_core.specs.Touching.{numbered_of}
-use Rattle.std.proofs.Common.{◌-◌, get_or, Option, None}
 use Rattle.std.specs.Option.{option_map}
 use Rattle.scene_model.specs.Scene.{Scene}
-use Rattle.look_data.specs.Kept.{kept_look}
-use Rattle.widget_model.specs.Nodes.{first_number}
 use Rattle.touch_rules.specs.Films.{unless_refused}
-use Rattle.touch_rules.specs.Telling.{is_told, number_anew, where_shown}
+use Rattle.touch_rules.specs.Telling.{is_told, number_anew, number_named, command_numbers, where_shown}
 use Rattle.desk_core.proofs.Views.{view-scene}
 use Rattle.desk_core.proofs.TouchedLooks.{stepped-touched, stayed-touched}
 use Rattle.desk_core.proofs.desk.Desk.step.Goals as goal
@@ -48,27 +48,27 @@ pub let_go-requires-clause-parts : goal.let_go-requires-clause-parts
 let_go-requires-clause-parts c =
     let i = c.self.inside in
     obeyed-parts i.shape i.pointer i.clients i.tree c.obey-answer.new.tree i.windows c.obey-answer.new.windows i.roster c.obey-answer.new.roster c.args.client c.args.command.now c.args.payload.now c.obey-answer.result.reply c.self.invariant c.obey-answer.ensures.did
-    (c.obey-answer.result.changed && c.may_move-moves.result) c.settle.new.tree c.settle.ensures
+    (c.obey-answer.result.changed && c.may_move-lays.result) c.settle.new.tree c.settle.ensures
 
 pub let_go-requires-clause-live : goal.let_go-requires-clause-live
 let_go-requires-clause-live c =
     let i = c.self.inside in
     obeyed-held i.shape i.pointer i.clients i.tree c.obey-answer.new.tree i.windows c.obey-answer.new.windows i.roster c.obey-answer.new.roster c.args.client c.args.command.now c.args.payload.now c.obey-answer.result.reply c.self.invariant c.obey-answer.ensures.did
-    (c.obey-answer.result.changed && c.may_move-moves.result) c.settle.new.tree c.settle.ensures
+    (c.obey-answer.result.changed && c.may_move-lays.result) c.settle.new.tree c.settle.ensures
 
 pub invariant_of-self-2 : goal.invariant_of-self-2
 invariant_of-self-2 c =
     let i = c.self.inside in
     obeyed-kept i.shape i.pointer i.clients i.tree c.obey-answer.new.tree i.windows c.obey-answer.new.windows i.roster c.obey-answer.new.roster c.args.client c.args.command.now c.args.payload.now c.obey-answer.result.reply c.self.invariant c.obey-answer.ensures.did
-    (c.obey-answer.result.changed && c.may_move-moves.result) c.settle.new.tree c.settle.ensures
+    (c.obey-answer.result.changed && c.may_move-lays.result) c.settle.new.tree c.settle.ensures
     (connected-joined (stage_of i.shape i.roster i.clients i.tree i.pointer) (clients_of i.clients) i.tree i.windows c.args.client true c.self.invariant.parts c.if-not-has.ensures)
-    c.let_go.new.pointer (c.let_go.ensures.left i.shape c.obey-answer.new.roster i.clients) c.obey-answer.result.changed c.obey-answer.ensures.tells (ap (λ (b : Bool). c.obey-answer.result.changed && b) c.may_move-moves.ensures) c.requires.low c.let_go.ensures.live
+    c.let_go.new.pointer (c.let_go.ensures.left i.shape c.obey-answer.new.roster i.clients) c.obey-answer.result.changed c.obey-answer.ensures.tells (ap (λ (b : Bool). c.obey-answer.result.changed && b) c.may_move-lays.ensures) c.requires.low c.let_go.ensures.live
 
 pub returns-clause-step : goal.returns-clause-step
 returns-clause-step c =
     let i = c.self.inside in
     obeyed-step i.shape i.pointer i.clients i.tree c.obey-answer.new.tree i.windows c.obey-answer.new.windows i.roster c.obey-answer.new.roster c.args.client c.args.command.now c.args.payload.now c.obey-answer.result.reply c.self.invariant c.obey-answer.ensures.did
-    (c.obey-answer.result.changed && c.may_move-moves.result) c.settle.new.tree c.settle.ensures
+    (c.obey-answer.result.changed && c.may_move-lays.result) c.settle.new.tree c.settle.ensures
     (connected-joined (stage_of i.shape i.roster i.clients i.tree i.pointer) (clients_of i.clients) i.tree i.windows c.args.client true c.self.invariant.parts c.if-not-has.ensures)
     c.let_go.new.pointer (c.let_go.ensures.left i.shape c.obey-answer.new.roster i.clients)
     ∙ ap (λ (s : DeskView). step s.desk c.args.client c.args.command.now c.args.payload.now (is_memory c.obey-answer.result.reply)) c.self.view_is
@@ -95,7 +95,7 @@ returns-clause-numbered c =
     let N : DeskView → Type 0 = λ s. KeepsNumbers s.widgets.entries c.settle.new.tree.entries in
     subst N c.self.view_is
     (obeyed-numbers i.shape i.pointer i.clients i.tree c.obey-answer.new.tree i.windows c.obey-answer.new.windows i.roster c.obey-answer.new.roster c.args.client c.args.command.now c.args.payload.now c.obey-answer.result.reply c.self.invariant c.obey-answer.ensures.did
-    (c.obey-answer.result.changed && c.may_move-moves.result) c.settle.new.tree c.settle.ensures)
+    (c.obey-answer.result.changed && c.may_move-lays.result) c.settle.new.tree c.settle.ensures)
 
 pub returns-clause-changed : goal.returns-clause-changed
 returns-clause-changed c =
@@ -109,31 +109,41 @@ returns-clause-changed c =
 pub returns-then-not-has-clause-touched : goal.returns-then-not-has-clause-touched
 returns-then-not-has-clause-touched c =
     let i = c.self.inside in
-    let new : DeskView = record { desk = desk_of (stage_of i.shape i.roster i.clients i.tree i.pointer) i.tree i.windows; changed = false; widgets = i.tree; windows = i.windows; touched = c.forget.new.touched.looks.items } in
+    let new : DeskView = record { desk = desk_of (stage_of i.shape i.roster i.clients i.tree i.pointer) i.tree i.windows; changed = false; moved = false; widgets = i.tree; windows = i.windows; touched = c.forget.new.touched.looks.items } in
     stayed-touched c.args.self.now new (ap (λ (s : DeskView). s.widgets.entries) c.self.view_is) (ap (λ (s : DeskView). seen.scene_of s.desk) c.self.view_is) c.forget.ensures
 
-pub keep_looks-before-requires-clause-widgets : goal.keep_looks-before-requires-clause-widgets
-keep_looks-before-requires-clause-widgets c = c.self.invariant.parts.tree
+pub keep_before-before-requires : goal.keep_before-before-requires
+keep_before-before-requires c =
+    let W : View → Type 0 = λ v. IsWidgets v.tree.now in
+    record { widgets = subst W (sym c.view_of-shown.ensures) c.self.invariant.parts.tree }
 
-pub tell_looks-requires-clause-widgets : goal.tell_looks-requires-clause-widgets
-tell_looks-requires-clause-widgets c = c.settle.ensures.changed.valid
+pub tell_touched-requires : goal.tell_touched-requires
+tell_touched-requires c =
+    let W : View → Type 0 = λ v. IsWidgets v.tree.now in
+    record { widgets = subst W (sym c.view_of-shows.ensures) c.settle.ensures.changed.valid }
 
 pub returns-clause-touched : goal.returns-clause-touched
 returns-clause-touched c =
     let i = c.self.inside in
+    let client = c.args.client in
+    let command = c.args.command.now in
+    let payload = c.args.payload.now in
     let tree = c.settle.new.tree in
     let windows = c.obey-answer.new.windows in
     let pointer = c.let_go.new.pointer in
-    let touched = c.tell_looks.new.touched.looks.items in
+    let touched = c.tell_touched.new.touched.looks.items in
     let reply = c.obey-answer.result.reply in
-    let looks = c.keep_looks-before.result in
-    let anew : Option ℕ = option_map (λ one. one.key) c.screen_anew-anew.result in
-    let new : DeskView = record { desk = desk_of (stage_of i.shape c.obey-answer.new.roster i.clients tree pointer) tree windows; changed = c.obey-answer.result.changed; widgets = tree; windows = windows; touched = touched } in
+    let looks = c.keep_before-before.result in
+    let anew : Option ℕ = option_map (λ one. one.key) c.shown_anew-anew.result in
+    let new : DeskView = record { desk = desk_of (stage_of i.shape c.obey-answer.new.roster i.clients tree pointer) tree windows; changed = c.obey-answer.result.changed; moved = c.has_moved-self-inside.result; widgets = tree; windows = windows; touched = touched } in
     let kept = invariant_of-self-2 c in
     let W : DeskView → Type 0 = λ s. IsWidgets s.widgets in
     let R : DeskView → Type 0 = λ s. s.desk.rows ≡ rows_of s.widgets in
-    let K : DeskView → Type 0 = λ s. (id : ℕ) → is_number_of c.args.client id ≡ true → get_or looks (id - first_number c.args.client) None ≡ kept_of (numbered_of s) id in
-    stepped-touched c.args.client c.args.self.now new c.args.command.now c.args.payload.now (is_memory reply) looks anew reply
+    let P : DeskView → Type 0 = λ s. pointer_seen s.widgets.entries i.pointer ≡ s.desk.pointer in
+    let K : DeskView → Type 0 = λ s. AreWatched (command_numbers s.widgets client command i.pointer) (number_named s.widgets client command) s.widgets s.windows (seen.scene_of s.desk) looks in
+    let V : View → Type 0 = λ v. AreWatched (command_numbers v.tree.now client command v.pointer.now) (number_named v.tree.now client command) v.tree.now v.stack.now (scene_of v) looks in
+    let S : Scene → Type 0 = λ s. AreWatched (command_numbers i.tree client command i.pointer) (number_named i.tree client command) i.tree i.windows s looks in
+    stepped-touched client c.args.self.now new i.pointer command payload (is_memory reply) looks anew reply
     (record {
       some = c.requires.low;
       before = subst W c.self.view_is c.self.invariant.parts.tree;
@@ -143,10 +153,55 @@ returns-clause-touched c =
       numbers = returns-clause-numbered c;
       others = returns-clause-others c;
     })
+    (subst P c.self.view_is refl)
     (returns-clause-step c)
-    (subst K c.self.view_is (λ id own. c.keep_looks-before.ensures id own ∙ ap (λ (s : Scene). kept_look i.tree i.windows s id) (view-scene i.shape i.roster i.clients i.pointer i.tree i.windows c.self.invariant.parts.windows)))
-    (c.screen_anew-anew.ensures ∙ ap (λ (s : DeskView). where_shown s.widgets s.windows (number_anew s.widgets c.args.client c.args.command.now c.args.payload.now)) c.self.view_is)
-    (λ id. c.tell_looks.ensures id ∙ ap (λ (s : Scene). is_told c.args.client looks (unless_refused reply anew) tree windows s id) (view-scene i.shape c.obey-answer.new.roster i.clients pointer tree windows kept.parts.windows))
+    (subst K c.self.view_is (subst S (view-scene i.shape i.roster i.clients i.pointer i.tree i.windows c.self.invariant.parts.windows) (subst V c.view_of-shown.ensures c.keep_before-before.ensures)))
+    (c.shown_anew-anew.ensures
+    ∙ ap (λ (v : View). where_shown v.tree.now v.stack.now (number_anew v.tree.now client command payload)) c.view_of-shown.ensures
+    ∙ ap (λ (s : DeskView). where_shown s.widgets s.windows (number_anew s.widgets client command payload)) c.self.view_is)
+    (λ id.
+    c.tell_touched.ensures id
+    ∙ ap (λ (v : View). is_told looks (unless_refused reply anew) v.tree.now v.stack.now (scene_of v) id) c.view_of-shows.ensures
+    ∙ ap (λ (s : Scene). is_told looks (unless_refused reply anew) tree windows s id) (view-scene i.shape c.obey-answer.new.roster i.clients pointer tree windows kept.parts.windows))
+
+-- what moves nothing leaves all in place
+pub returns-clause-told : goal.returns-clause-told
+returns-clause-told c =
+    let reply = c.obey-answer.result.reply in
+    c.has_moved-self-inside.ensures ∙ ap (λ (m : Bool). not (is_refused reply) && m) (c.moves-moves.ensures ∙ ap (λ (s : DeskView). moves s.desk.rows c.args.client c.args.command.now) c.self.view_is)
+
+pub returns-clause-still : goal.returns-clause-still
+returns-clause-still c = λ none.
+    let i = c.self.inside in
+    let D : DeskView → Type 0 = λ s. IsDesk s.desk in
+    let there = connected-joined (stage_of i.shape i.roster i.clients i.tree i.pointer) (clients_of i.clients) i.tree i.windows c.args.client true c.self.invariant.parts c.if-not-has.ensures in
+    stepped-still c.args.self.now.desk (desk_of (stage_of i.shape c.obey-answer.new.roster i.clients c.settle.new.tree c.let_go.new.pointer) c.settle.new.tree c.obey-answer.new.windows) c.args.client c.args.command.now c.args.payload.now (is_memory c.obey-answer.result.reply) c.obey-answer.result.reply
+    (subst D c.self.view_is c.self.invariant.desk)
+    (returns-clause-valid c)
+    (ap (λ (s : DeskView). is_connected s.desk c.args.client) (sym c.self.view_is) ∙ there)
+    (returns-clause-step c)
+    (sym (returns-clause-told c) ∙ none)
+
+pub returns-then-not-has-clause-still : goal.returns-then-not-has-clause-still
+returns-then-not-has-clause-still c = λ none.
+    let i = c.self.inside in
+    stays-same c.args.self.now.desk (desk_of (stage_of i.shape i.roster i.clients i.tree i.pointer) i.tree i.windows) (ap (λ (s : DeskView). s.desk.rows) c.self.view_is) (ap (λ (s : DeskView). s.desk.windows) c.self.view_is)
+
+pub returns-in-Some-clause-still : goal.returns-in-Some-clause-still
+returns-in-Some-clause-still c = λ none.
+    let i = c.self.inside in
+    stays-same c.args.self.now.desk (desk_of (stage_of i.shape i.roster i.clients i.tree i.pointer) i.tree i.windows) (ap (λ (s : DeskView). s.desk.rows) c.self.view_is) (ap (λ (s : DeskView). s.desk.windows) c.self.view_is)
+
+pub returns-in-Some-clause-told : goal.returns-in-Some-clause-told
+returns-in-Some-clause-told c = asked-unmoved c.args.self.now.desk.rows c.args.client c.args.command.now c.in-Some.reply c.in-Some.ensures.asks
+
+pub returns-then-is_poll-clause-still : goal.returns-then-is_poll-clause-still
+returns-then-is_poll-clause-still c = λ none.
+    let i = c.self.inside in
+    stays-same c.args.self.now.desk (desk_of (stage_of i.shape i.roster c.poll.new.self i.tree i.pointer) i.tree i.windows) (ap (λ (s : DeskView). s.desk.rows) c.self.view_is) (ap (λ (s : DeskView). s.desk.windows) c.self.view_is)
+
+pub returns-then-is_poll-clause-told : goal.returns-then-is_poll-clause-told
+returns-then-is_poll-clause-told c = polled-unmoved c.args.self.now.desk.rows c.args.client c.args.command.now c.poll_reply.result (sym c.if-is_poll.ensures)
 
 -- a command that only asks leaves the desk as it was
 pub returns-in-Some-clause-step : goal.returns-in-Some-clause-step
@@ -167,7 +222,7 @@ returns-in-Some-clause-numbered c =
 pub returns-in-Some-clause-touched : goal.returns-in-Some-clause-touched
 returns-in-Some-clause-touched c =
     let i = c.self.inside in
-    let new : DeskView = record { desk = desk_of (stage_of i.shape i.roster i.clients i.tree i.pointer) i.tree i.windows; changed = false; widgets = i.tree; windows = i.windows; touched = c.forget.new.touched.looks.items } in
+    let new : DeskView = record { desk = desk_of (stage_of i.shape i.roster i.clients i.tree i.pointer) i.tree i.windows; changed = false; moved = false; widgets = i.tree; windows = i.windows; touched = c.forget.new.touched.looks.items } in
     stayed-touched c.args.self.now new (ap (λ (s : DeskView). s.widgets.entries) c.self.view_is) (ap (λ (s : DeskView). seen.scene_of s.desk) c.self.view_is) c.forget.ensures
 
 -- `poll` changes the client's ring alone
@@ -208,5 +263,5 @@ returns-then-is_poll-clause-numbered c =
 pub returns-then-is_poll-clause-touched : goal.returns-then-is_poll-clause-touched
 returns-then-is_poll-clause-touched c =
     let i = c.self.inside in
-    let new : DeskView = record { desk = desk_of (stage_of i.shape i.roster c.poll.new.self i.tree i.pointer) i.tree i.windows; changed = false; widgets = i.tree; windows = i.windows; touched = c.forget.new.touched.looks.items } in
+    let new : DeskView = record { desk = desk_of (stage_of i.shape i.roster c.poll.new.self i.tree i.pointer) i.tree i.windows; changed = false; moved = false; widgets = i.tree; windows = i.windows; touched = c.forget.new.touched.looks.items } in
     stayed-touched c.args.self.now new (ap (λ (s : DeskView). s.widgets.entries) c.self.view_is) (ap (λ (s : DeskView). seen.scene_of s.desk) c.self.view_is) c.forget.ensures

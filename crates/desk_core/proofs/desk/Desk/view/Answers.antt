@@ -1,6 +1,6 @@
-use Rattle.std.proofs.Common.{ap, subst, ◌∙◌}
+use Rattle.std.proofs.Common.{sym, ap, subst, ◌∙◌}
 use Rattle.desk_model.specs.Seen as seen
-use Rattle.scene_core.specs.View.{KeepsPlaces}
+use Rattle.scene_core.specs.View.{scene_of, IsView, KeepsPlaces}
 use Rattle.desk_layout.specs.Placed.{HaveDuePlaces}
 use Rattle.desk_core.specs.View.{DeskView}
 use Rattle.desk_core.specs.ClientList.{clients_of}
@@ -10,7 +10,7 @@ use Rattle.desk_core.proofs.desk.Desk.view.Goals as goal
 pub returns-clause-scene : goal.returns-clause-scene
 returns-clause-scene c =
     let i = c.self.inside in
-    view-scene i.shape i.roster i.clients i.pointer i.tree i.windows c.self.invariant.parts.windows ∙ ap (λ (s : DeskView). seen.scene_of s.desk) c.self.view_is
+    ap scene_of c.view_of.ensures ∙ view-scene i.shape i.roster i.clients i.pointer i.tree i.windows c.self.invariant.parts.windows ∙ ap (λ (s : DeskView). seen.scene_of s.desk) c.self.view_is
 
 pub returns-clause-placed : goal.returns-clause-placed
 returns-clause-placed c =
@@ -27,11 +27,12 @@ pub returns-clause-view : goal.returns-clause-view
 returns-clause-view c =
     let i = c.self.inside in
     let shape = c.self.invariant.desk.shape in
-    record {
+    subst IsView (sym c.view_of.ensures)
+    (record {
       valid = c.self.invariant.parts.tree;
       windows = view-windows (clients_of i.clients) i.tree i.windows c.self.invariant.parts;
       width_least = shape.width_least;
       width_most = shape.width_most;
       height_least = shape.height_least;
       height_most = shape.height_most;
-    }
+    })
