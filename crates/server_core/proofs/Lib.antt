@@ -2,6 +2,8 @@ mod Parts
 mod BandPixels
 mod BeatShots
 mod Reaching
+mod RowsAlike
+mod NumbersAlike
+mod PlacesAlike
 mod StillShots
-mod UnchangedShots
-mod Stable
+mod InPlaceShots

@@ -19,7 +19,7 @@ use Rattle.desk_model.specs.Seen.{scene_of}
 use Rattle.machine_model.specs.Damage.{in_reach}
 use Rattle.scene_core.specs.declared.view.View.{View}
 use Rattle.scene_core.specs.View as views
-use Rattle.scene_core.specs.Shots.{is_shown_id}
+use Rattle.view_shots.specs.Shots.{is_shown_id}
 use Rattle.shot_core.specs.Shot.{Seen}
 use Rattle.redraw_core.specs.Dirt.{Dirt}
 use Rattle.look_data.specs.Kept.{is_shown_at}

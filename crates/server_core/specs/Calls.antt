@@ -9,7 +9,7 @@ use Rattle.redraw_core.specs.Dirt.{Dirt}
 use Rattle.shot_core.specs.Shot.{Seen}
 use Rattle.drawing_core.specs.Marking.{Marked}
 use Rattle.desk_layout.specs.Numbers.{KeepsNumbers}
-use Rattle.desk_core.specs.View.{DeskView, StaysUnlessChanged}
+use Rattle.desk_core.specs.View.{DeskView, StaysUnlessMoved}
 use Rattle.desk_core.specs.Touching.{TellsTouched}
 use Rattle.server_core.specs.Serving.{ShowsDesk}
 
@@ -24,7 +24,7 @@ pub record Calls (before after : DeskView) (shot : Seen) : Type 0 where
   pub valid : IsDesk after.desk
   pub shows : ShowsDesk before shot
   pub numbered : KeepsNumbers before.widgets.entries after.widgets.entries
-  pub unchanged : StaysUnlessChanged before after
+  pub still : StaysUnlessMoved before after
   pub touched : TellsTouched before after
 
 -- what follows of it for the dirt and for the shot

@@ -17,10 +17,10 @@ use desk_core::{Desk, only_asks};
 use drawing_core::{draw, draw_bands};
 use kind_core::Shape;
 use redraw_core::Queue;
-use scene_core::shot;
 use shot_core::Shot;
 use std::alloc::Global;
 use std::marker::Model;
+use view_shots::shot;
 
 /// The server: a desk, its screen, and which pixels of it are dirty.
 ///

@@ -2,7 +2,6 @@ use Rattle.desk_model.specs.Clients.{step_bye}
 use Rattle.machine_model.proofs.Steps.{shape-step_bye}
 use Rattle.server_core.specs.Calls.{Follows}
 use Rattle.server_core.proofs.Parts.{shape_of_step, step_of_parts}
-use Rattle.server_core.proofs.Stable.{TellsChange-stays}
 use Rattle.server_core.proofs.server.Server.bye.Goals as goal
 
 -- what follows for the dirt and for the shot
@@ -13,7 +12,7 @@ follows c =
       valid = c.bye-reply.ensures.valid;
       shows = c.self.invariant.1;
       numbered = c.bye-reply.ensures.numbered;
-      unchanged = TellsChange-stays c.self.inside.desk c.bye-reply.new.self c.bye-reply.ensures.changed;
+      still = c.bye-reply.ensures.still;
       touched = c.bye-reply.ensures.touched;
     })
 

@@ -7,7 +7,6 @@ use Rattle.machine_model.proofs.Steps.{shape-step_command}
 use Rattle.server_core.proofs.Reaching.{shows_still, marked_still}
 use Rattle.server_core.specs.Calls.{Follows}
 use Rattle.server_core.proofs.Parts.{shape_of_step, step_of_parts}
-use Rattle.server_core.proofs.Stable.{TellsChange-stays}
 use Rattle.server_core.proofs.server.Server.command.Goals as goal
 
 -- what follows for the dirt and for the shot
@@ -18,7 +17,7 @@ follows c =
       valid = c.step-reply.ensures.valid;
       shows = c.self.invariant.1;
       numbered = c.step-reply.ensures.numbered;
-      unchanged = TellsChange-stays c.self.inside.desk c.step-reply.new.self c.step-reply.ensures.changed;
+      still = c.step-reply.ensures.still;
       touched = c.step-reply.ensures.touched;
     })
 

@@ -3,7 +3,6 @@ use Rattle.desk_model.specs.Clients.{step_connect}
 use Rattle.machine_model.proofs.Steps.{shape-step_connect}
 use Rattle.server_core.specs.Calls.{Follows}
 use Rattle.server_core.proofs.Parts.{shape_of_step, step_of_parts}
-use Rattle.server_core.proofs.Stable.{TellsChange-stays}
 use Rattle.server_core.proofs.server.Server.connect.Goals as goal
 
 -- what follows for the dirt and for the shot
@@ -14,7 +13,7 @@ follows c =
       valid = c.connect-reply.ensures.valid;
       shows = c.self.invariant.1;
       numbered = c.connect-reply.ensures.numbered;
-      unchanged = TellsChange-stays c.self.inside.desk c.connect-reply.new.self c.connect-reply.ensures.changed;
+      still = c.connect-reply.ensures.still;
       touched = c.connect-reply.ensures.touched;
     })
 

@@ -14,7 +14,7 @@ follows c =
       valid = c.feed.ensures.valid;
       shows = c.self.invariant.1;
       numbered = c.feed.ensures.numbered;
-      unchanged = c.feed.ensures.unchanged;
+      still = c.feed.ensures.still;
       touched = c.feed.ensures.touched;
     })
 

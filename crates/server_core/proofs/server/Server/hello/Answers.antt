@@ -2,7 +2,6 @@ use Rattle.desk_model.specs.Clients.{step_hello}
 use Rattle.machine_model.proofs.Steps.{shape-step_hello}
 use Rattle.server_core.specs.Calls.{Follows}
 use Rattle.server_core.proofs.Parts.{shape_of_step, step_of_parts}
-use Rattle.server_core.proofs.Stable.{TellsChange-stays}
 use Rattle.server_core.proofs.server.Server.hello.Goals as goal
 
 -- what follows for the dirt and for the shot
@@ -13,7 +12,7 @@ follows c =
       valid = c.hello-reply.ensures.valid;
       shows = c.self.invariant.1;
       numbered = c.hello-reply.ensures.numbered;
-      unchanged = TellsChange-stays c.self.inside.desk c.hello-reply.new.self c.hello-reply.ensures.changed;
+      still = c.hello-reply.ensures.still;
       touched = c.hello-reply.ensures.touched;
     })
 

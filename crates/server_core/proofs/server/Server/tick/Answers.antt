@@ -7,9 +7,10 @@ use Rattle.machine_model.specs.State.{IsState}
 use Rattle.machine_model.proofs.Beat.{shape-beat}
 use Rattle.machine_model.proofs.Ticks.{TickedWith-lost_marks, clean-is_picture, ticked-within_budget, ticked-fewer}
 use Rattle.server_core.proofs.BandPixels.{handed_same, handed_once}
-use Rattle.server_core.proofs.BeatShots.{shows_beaten}
+use Rattle.server_core.proofs.BeatShots.{stays-beaten}
+use Rattle.server_core.proofs.InPlaceShots.{shot_in_place}
 use Rattle.server_core.proofs.Parts.{Beats, tick_of_parts, bands_in_budget}
-use Rattle.server_core.proofs.Reaching.{view-width, view-height}
+use Rattle.server_core.proofs.Reaching.{shows_of_desk, view-width, view-height}
 use Rattle.server_core.proofs.server.Server.tick.Goals as goal
 
 pub draw_bands-bands-requires-clause-one_each : goal.draw_bands-bands-requires-clause-one_each
@@ -67,7 +68,9 @@ done c = record {
 pub invariant_of-self : goal.invariant_of-self
 invariant_of-self c = (
   (tick_of_parts c.self.invariant.0 (done c)).1,
-  shows_beaten c.self.inside.desk c.beat-beaten.new.self c.view-view.result c.self.inside.shown c.beat-beaten.ensures.beat c.beat-beaten.ensures.numbers c.beat-beaten.ensures.windows c.view-view.ensures.scene c.view-view.ensures.tree c.view-view.ensures.stack c.view-view.ensures.view c.self.invariant.1,
+  shows_of_desk c.beat-beaten.new.self c.view-view.result c.self.inside.shown c.view-view.ensures.scene c.view-view.ensures.tree c.view-view.ensures.stack c.view-view.ensures.view
+      (shot_in_place c.self.inside.desk c.beat-beaten.new.self c.view-view.result c.self.inside.shown (ap (λ (d : Desk). d.shape) c.beat-beaten.ensures.beat ∙ shape-beat c.self.inside.desk.desk) (stays-beaten c.self.inside.desk.desk c.beat-beaten.new.self.desk c.beat-beaten.ensures.beat) c.beat-beaten.ensures.numbered
+      c.view-view.ensures.scene c.view-view.ensures.tree c.view-view.ensures.stack c.view-view.ensures.view c.self.invariant.1),
 )
 
 pub returns-clause-step : goal.returns-clause-step
