@@ -1,27 +1,24 @@
 -- What is kept before an input and told after it is what it touched: an input shows no film anew.
-use Rattle.std.proofs.Common.{◌≡◌, ℕ, nat_eq, List, Option, Some, None, refl, sym, ap, subst, ◌∙◌}
+use Rattle.std.proofs.Common.{◌≡◌, ℕ, List, Option, Some, None, refl, sym, ap, ◌∙◌}
 use Rattle.std.proofs.Math.Bool.{or-false}
-use Rattle.std.specs.List.{list_any}
 use Rattle.std.specs.Option.{option_map}
 use Rattle.kind_core.specs.declared.kinds.Kind.{Kind}
 use Rattle.vscreen_core.specs.FilmState.{FilmState}
-use Rattle.look_core.specs.Seen.{Seen}
 use Rattle.cmd_words.specs.declared.inputs.Input.{Input}
 use Rattle.widget_model.specs.Rows.{Row}
 use Rattle.widget_model.specs.Keys.{row_of}
 use Rattle.widget_model.specs.Widgets.{row_at}
 use Rattle.scene_model.specs.Scene.{Scene}
 use Rattle.desk_model.specs.Desk.{Desk}
-use Rattle.desk_model.specs.Seen.{scene_of}
 use Rattle.desk_model.specs.InputEffects.{Effects}
 use Rattle.desk_model.specs.LetGo.{let_go}
 use Rattle.desk_model.specs.Feeding.{rows_after, carried_out, effects_on, step_feed}
 use Rattle.desk_model.specs.Scope.{effects_scope}
 use Rattle.desk_model.proofs.FedRows.{fed_row, fed_row-same, row_named-fed}
-use Rattle.look_data.specs.Watched.{AreWatched, has_changed}
-use Rattle.touch_rules.specs.Touched.{Numbered, TellsLooks}
+use Rattle.look_data.specs.Watched.{has_changed}
+use Rattle.touch_rules.specs.Touched.{Numbered}
 use Rattle.touch_rules.specs.Films.{shown_film}
-use Rattle.touch_rules.specs.Laws.{IsNumbered, KeepsKeys, WatchesScope}
+use Rattle.touch_rules.specs.Laws.{IsNumbered, KeepsKeys}
 use Rattle.touch_rules.specs.Telling.{InputsTellLooks}
 use Rattle.touch_rules.proofs.SameLooks.{named-row}
 use Rattle.touch_rules.proofs.ShownFilms.{alike-same}
@@ -59,18 +56,3 @@ inputs_tell_looks desk input before after named variable looks touched valid val
   where
     rows : after.scene.rows ≡ rows_after (effects_on desk input) before.scene.rows
     rows = ap (λ (s : Scene). s.rows) scene' ∙ rows-fed desk input ∙ ap (λ (s : Scene). rows_after (effects_on desk input) s.rows) (sym scene)
-
--- What an input's calls say of it, each in the words of its clause: the looks kept before it, by the scene `s`, and what was
--- told after it, by the scene `s'`.
-pub told-input : (desk : Desk) (input : Input) (before after : Numbered) (next : Desk) (named : List ℕ) (variable : Option ℕ) (looks : List (ℕ × Seen)) (s s' : Scene) (touched : List ℕ)
-    → IsNumbered before → IsNumbered after → KeepsKeys before after → before.scene ≡ scene_of desk
-    → next ≡ step_feed desk input → after.scene ≡ scene_of next → s ≡ before.scene → s' ≡ after.scene
-    → WatchesScope (effects_scope desk.pointer (effects_on desk input)) named variable before
-    → AreWatched named variable before.widgets before.windows s looks
-    → ((id : ℕ) → list_any (nat_eq id) touched ≡ has_changed looks after.widgets after.windows s' id)
-    → TellsLooks before after touched
-told-input desk input before after next named variable looks s s' touched valid valid' keys shows fed shown scene scene' watches watched told =
-    inputs_tell_looks desk input before after named variable looks touched valid valid' keys shows watches
-    (subst (λ (t : Scene). AreWatched named variable before.widgets before.windows t looks) scene watched)
-    (shown ∙ ap scene_of fed)
-    (λ id. told id ∙ ap (λ (t : Scene). has_changed looks after.widgets after.windows t id) scene')

@@ -1,13 +1,10 @@
 -- What is kept before a command and told after it is what it touched.
-use Rattle.std.proofs.Common.{◌≡◌, ℕ, Bool, true, false, cond, ◌&&◌, ◌||◌, not, nat_eq, List, Option, Some, None, refl, sym, ap, subst, ◌∙◌}
+use Rattle.std.proofs.Common.{◌≡◌, ℕ, Bool, true, false, cond, ◌&&◌, ◌||◌, not, nat_eq, List, Option, Some, None, refl, sym, ap, ◌∙◌}
 use Rattle.std.proofs.Math.Bool.{and-false}
 use Rattle.std.proofs.lemmas.Bool.{eqb-true, eq-eqb, and_parts, and_from}
 use Rattle.std.proofs.lemmas.Slice.Eq.{bytes_eq-Decides}
-use Rattle.std.specs.List.{list_any}
 use Rattle.std.specs.Option.{option_map_or, option_and_then}
 use Rattle.std.specs.Str.{bytes_eq}
-use Rattle.look_core.specs.Seen.{Seen}
-use Rattle.cmd_words.specs.declared.commands.Command.{Command}
 use Rattle.cmd_words.specs.declared.replies.Reply.{Reply}
 use Rattle.cmd_words.specs.declared.replies.Reply.TheVariants.{Refused}
 use Rattle.widget_model.specs.Rows.{Row}
@@ -21,14 +18,12 @@ use Rattle.scene_model.specs.Scene.{Scene}
 use Rattle.desk_model.specs.Desk.{Desk}
 use Rattle.desk_model.specs.Commands.{step}
 use Rattle.desk_model.specs.Scope.{command_scope}
-use Rattle.desk_model.specs.Seen.{scene_of}
 use Rattle.look_data.specs.Kept.{is_shown_at}
-use Rattle.look_data.specs.Watched.{AreWatched, has_changed}
-use Rattle.tree_core.specs.declared.pointer.Pointer.{Pointer}
-use Rattle.touch_rules.specs.Touched.{Numbered, is_shown, TellsLooks}
+use Rattle.look_data.specs.Watched.{has_changed}
+use Rattle.touch_rules.specs.Touched.{Numbered, is_shown}
 use Rattle.touch_rules.specs.Films.{looks_alike, shown_film, shown_anew, unless_refused}
-use Rattle.touch_rules.specs.Laws.{IsNumbered, KeepsKeys, is_number}
-use Rattle.touch_rules.specs.Telling.{number_anew, where_shown, is_told, number_named, command_numbers, ShowsDesk, StepsTellLooks}
+use Rattle.touch_rules.specs.Laws.{IsNumbered, is_number}
+use Rattle.touch_rules.specs.Telling.{number_anew, number_named, command_numbers, StepsTellLooks}
 use Rattle.touch_rules.proofs.CommandNumbers.{watches-command}
 use Rattle.touch_rules.proofs.SameLooks.{named-row}
 use Rattle.desk_model.proofs.Scopes.{commands_keep_to_their_scope}
@@ -116,21 +111,3 @@ steps_tell_looks desk client command payload short before after pointer looks to
         ∙ ap (λ (rs : List Row). nat_eq client a.client && option_map_or (λ one. bytes_eq one a.name) (unless_refused reply (shown_anew rs client command payload)) false) (sym rows ∙ valid.rows)
         ∙ number-name before.widgets client id a (unless_refused reply anew) valid.widgets at_a
         ∙ ap (λ (o : Option ℕ). is_number o id) (refused-then reply (id_named (nodes before.widgets.entries) client) anew)
-
--- What a step's calls say of it, each in the words of its clause: the looks kept before it and the VScreen that was asked
--- for then, by the scene `s`, and what was told after it, by the scene `s'`.
-pub told-step : (desk : Desk) (client : ℕ) (command : Command) (payload : List ℕ) (short : Bool) (before after : Numbered) (pointer : Pointer) (reply : Reply) (next : Desk) (looks : List (ℕ × Seen)) (anew : Option ℕ) (s s' : Scene) (touched : List ℕ)
-    → IsNumbered before → IsNumbered after → KeepsKeys before after → ShowsDesk desk pointer before
-    → (reply, next) ≡ step desk client command payload short → after.scene ≡ scene_of next → s ≡ before.scene → s' ≡ after.scene
-    → AreWatched (command_numbers before.widgets client command pointer) (number_named before.widgets client command) before.widgets before.windows s looks
-    → anew ≡ where_shown before.widgets before.windows (number_anew before.widgets client command payload)
-    → ((id : ℕ) → list_any (nat_eq id) touched ≡ is_told looks (unless_refused reply anew) after.widgets after.windows s' id)
-    → TellsLooks before after touched
-told-step desk client command payload short before after pointer reply next looks anew s s' touched valid valid' keys shows stepped shown scene scene' watched asked told =
-    steps_tell_looks desk client command payload short before after pointer looks touched valid valid' keys shows
-    (subst (λ (t : Scene). AreWatched (command_numbers before.widgets client command pointer) (number_named before.widgets client command) before.widgets before.windows t looks) scene watched)
-    (shown ∙ ap (λ (done : Reply × Desk). scene_of done.1) stepped)
-    (λ id. told id
-    ∙ ap (λ (t : Scene). is_told looks (unless_refused reply anew) after.widgets after.windows t id) scene'
-    ∙ ap (λ (o : Option ℕ). is_told looks (unless_refused reply o) after.widgets after.windows after.scene id) asked
-    ∙ ap (λ (done : Reply × Desk). is_told looks (unless_refused done.0 (where_shown before.widgets before.windows (number_anew before.widgets client command payload))) after.widgets after.windows after.scene id) stepped)
