@@ -12,3 +12,5 @@ pub mod OptionSteps
 pub mod Places
 pub mod PrintedLines
 pub mod FrameFronts
+pub mod Numerals
+pub mod WholeCounts

@@ -38,16 +38,19 @@ ending c = sp ▹ stands_for c
 -- ---- the end of a line
 
 module _ {C : Type 0} where
-  nothing_apart : (test : ℕ → Bool) (c : C) → Apart test (stands_for c)
+  pub nothing_apart : (test : ℕ → Bool) (c : C) → Apart test (stands_for c)
   nothing_apart test c x t xs d h = let e : x ∷ xs ≡ [] = h.0 in cc
 
   nothing_settles : (c : C) (xs : List ℕ) → Settles (stands_for c) xs (nothing_at c xs)
   nothing_settles c [] = ((refl, refl), λ d h. h.1)
   nothing_settles c (x ∷ xs) = stop x (stands_for c) ([], c, (refl, refl)) (λ ys d h. let e : x ∷ ys ≡ [] = h.0 in cc) xs
 
+  pub nothing_reads : (c : C) → Reads (stands_for c) (nothing_at c)
+  nothing_reads c = record { live = ([], c, (refl, refl)); settles = nothing_settles c }
+
   pub ending_reads : (c : C) → Reads (sp ▹ stands_for c) (end_at c)
   unfolding end_at
-  ending_reads c = sp_reads (stands_for c) (nothing_at c) (nothing_apart is_space c) (record { live = ([], c, (refl, refl)); settles = nothing_settles c })
+  ending_reads c = sp_reads (stands_for c) (nothing_at c) (nothing_apart is_space c) (nothing_reads c)
 
 -- `)` and the end
 abbrev pub finishing : Command → Language Command

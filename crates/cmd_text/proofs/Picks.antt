@@ -1,5 +1,5 @@
 -- Reading of one of some words, of which none begins another.
-use Rattle.std.proofs.Common.{◌≡◌, ℕ, ◌≤◌, min, Bool, true, false, cond, not, ◌||◌, ◌==◌, List, [], ◌∷◌, ◌++◌, length, get_or, Result, Ok, Err, ◌⊎◌, refl, sym, ap, subst, ◌∙◌, inl, inr, arith, append_assoc, length-append}
+use Rattle.std.proofs.Common.{◌≡◌, ℕ, ◌≤◌, min, Bool, true, false, cond, not, ◌&&◌, ◌||◌, ◌==◌, List, [], ◌∷◌, ◌++◌, length, Result, Ok, Err, ◌⊎◌, refl, sym, ap, subst, ◌∙◌, inl, inr, arith, append_assoc, length-append}
 use Rattle.std.specs.List.{list_all}
 use Rattle.std.proofs.lemmas.Bool.{eqb-true, eqb-false, and_parts, or_cases, not-true, false≢true, both_ways, cases_lt}
 use Rattle.cmd_words.specs.Language.{Language, ◌▸◌}
@@ -45,17 +45,28 @@ solid_first : (w : List ℕ) (x : ℕ) (xs s : List ℕ) → begins_with (λ b. 
 solid_first [] x xs s p e = absurd (false≢true p)
 solid_first (y ∷ w) x xs s p e = ap is_space (heads x y xs (w ++ s) e) ∙ not-true (is_space y) p
 
+-- no word begins another
+abbrev pub all_clash : {A : Type 0} → (A → List ℕ) → List A → Bool
+all_clash word_of [] = true
+all_clash word_of (a ∷ all) = list_all (λ b. clash (word_of a) (word_of b)) all && all_clash word_of all
+
+clash_among : {A : Type 0} (word_of : A → List ℕ) (a : A) (all : List A) (b : A) (s t : List ℕ) → list_all (λ c. clash (word_of a) (word_of c)) all ≡ true → Among all b → word_of a ++ s ≡ word_of b ++ t → ⊥
+clash_among word_of a all b s t p m e = clash_apart (word_of a) (word_of b) s t (passes_among (λ c. clash (word_of a) (word_of c)) all b p m) e
+
+words_apart : {A : Type 0} (word_of : A → List ℕ) (all : List A) → all_clash word_of all ≡ true → (a b : A) (s t : List ℕ) → Among all a → Among all b → word_of a ++ s ≡ word_of b ++ t → a ≡ b
+words_apart word_of [] p a b s t m n e = absurd m
+words_apart word_of (c ∷ all) p a b s t (inl x) (inl y) e = sym x ∙ y
+words_apart word_of (c ∷ all) p a b s t (inl x) (inr k) e = absurd (clash_among word_of c all b s t (and_parts (list_all (λ d. clash (word_of c) (word_of d)) all) (all_clash word_of all) p).0 k (ap (λ d. word_of d ++ s) x ∙ e))
+words_apart word_of (c ∷ all) p a b s t (inr k) (inl y) e = absurd (clash_among word_of c all a t s (and_parts (list_all (λ d. clash (word_of c) (word_of d)) all) (all_clash word_of all) p).0 k (ap (λ d. word_of d ++ t) y ∙ sym e))
+words_apart word_of (c ∷ all) p a b s t (inr k) (inr l) e = words_apart word_of all (and_parts (list_all (λ d. clash (word_of c) (word_of d)) all) (all_clash word_of all) p).1 a b s t k l e
+
 -- words are such where tests that compute say so
-pub words_from : {A : Type 0} (word_of : A → List ℕ) (all : List A) (one : A) (tag : A → ℕ) → ((a : A) → Among all a) → ((a : A) → get_or all (tag a) one ≡ a)
-    → ((a : A) → list_all (λ b. (tag a == tag b) || clash (word_of a) (word_of b)) all ≡ true) → ((a : A) → begins_with (λ b. not (is_space b)) (word_of a) ≡ true) → AreWords word_of all
-words_from {A} word_of all one tag complete back differ first = record {
+pub words_from : {A : Type 0} (word_of : A → List ℕ) (all : List A) (one : A) → ((a : A) → Among all a) → all_clash word_of all ≡ true → list_all (λ a. begins_with (λ b. not (is_space b)) (word_of a)) all ≡ true → AreWords word_of all
+words_from word_of all one complete differ first = record {
   complete = complete;
   one = one;
-  apart = λ a b s t e. elim (or_cases (tag a == tag b) (clash (word_of a) (word_of b)) (passes_among (λ b. (tag a == tag b) || clash (word_of a) (word_of b)) all b (differ a) (complete b))) [
-    | inl same ↦ sym (back a) ∙ ap (λ i. get_or all i one) (eqb-true (tag a) (tag b) same) ∙ back b
-    | inr c ↦ absurd (clash_apart (word_of a) (word_of b) s t c e)
-  ];
-  solid = λ a x xs s e. solid_first (word_of a) x xs s (first a) e;
+  apart = λ a b s t e. words_apart word_of all differ a b s t (complete a) (complete b) e;
+  solid = λ a x xs s e. solid_first (word_of a) x xs s (passes_among (λ a. begins_with (λ b. not (is_space b)) (word_of a)) all a first (complete a)) e;
 }
 
 -- ---- one word

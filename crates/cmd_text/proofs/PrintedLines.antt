@@ -1,10 +1,8 @@
 -- The printed form of a command that has a line is a line that stands for it.
-use Rattle.std.proofs.Common.{◌≡◌, ℕ, ℤ, pos, negsuc, neg_ℤ, zero, suc, ◌+◌, ◌-◌, ◌*◌, ◌%◌, ◌^◌, ◌≤◌, ◌<◌, Bool, true, ◌&&◌, leb, List, [], ◌∷◌, ◌++◌, length, codes, refl, sym, ap, subst, ◌∙◌, inl, inr, arith, append_assoc, append-nil, length-append, mul-le-mul_right, pow-suc, le_trans, le_of_eq, lit≤}
-use Rattle.std.specs.List.{list_all, flat_map, fold}
+use Rattle.std.proofs.Common.{◌≡◌, ℕ, ℤ, pos, negsuc, neg_ℤ, zero, suc, true, List, [], ◌∷◌, ◌++◌, codes, refl, sym, ap, subst, ◌∙◌, inl, inr, append_assoc, append-nil}
+use Rattle.std.specs.List.{flat_map}
 use Rattle.std.specs.Fmt.{decimal, signed_decimal}
-use Rattle.std.proofs.lemmas.Fmt.{decimal_by_steps, length-decimal-le}
-use Rattle.std.proofs.lemmas.Bool.{and_parts, and_from, leb-true, le-leb, false≢true}
-use Rattle.kind_core.specs.Bytes.{is_digit, is_name}
+use Rattle.kind_core.specs.Bytes.{is_name}
 use Rattle.kind_core.specs.declared.kinds.Kind.{Kind}
 use Rattle.kind_core.specs.declared.kinds.Attr.{Attr}
 use Rattle.kind_core.specs.declared.values.Value as value_type
@@ -16,10 +14,11 @@ use Rattle.cmd_words.specs.declared.methods.Method.{Method}
 use Rattle.cmd_words.specs.declared.methods.Method.TheVariants as method
 use Rattle.cmd_words.specs.Words.{kind_word, attr_word, event_word, place_word, config_word}
 use Rattle.cmd_words.specs.Language.{Language, ◌▹◌, ◌▸◌, any, stands_for, word}
-use Rattle.cmd_words.specs.Productions.{sp, sp1, name, are_digits, number_of, number, count, value, kind, attr, event, place_option, config_option, sopt, popt, copt, up_to, options}
+use Rattle.cmd_words.specs.Productions.{sp, sp1, name, number, count, value, kind, attr, event, place_option, config_option, sopt, popt, copt, up_to, options}
 use Rattle.cmd_words.specs.Grammar.{opens, closes, empty, comma, call, body, command_line}
 use Rattle.cmd_print.specs.Printed.{quoted, printed_value, printed_set, printed_place, printed_config, printed_options, printed}
 use Rattle.cmd_words.specs.Words.{method_word}
+use Rattle.cmd_text.proofs.Numerals.{count_printed}
 use Rattle.cmd_text.proofs.Lines.{ending, finishing, arguments, place_after, call_lit, lit_call}
 use Rattle.cmd_text.proofs.OptionLists.{option_of}
 
@@ -63,83 +62,6 @@ five : (a b c d e f : List ℕ) → ((((a ++ b) ++ c) ++ d) ++ e) ++ f ≡ a ++ 
 five a b c d e f = simp append_assoc
 
 -- ---- numbers
-
-abbrev next : ℕ → ℕ → ℕ
-next n d = 10 * n + (d - 48)
-
-fold_end : (n : ℕ) (ds : List ℕ) (d : ℕ) → fold next n (ds ++ d ∷ []) ≡ next (fold next n ds) d
-fold_end n [] d = refl
-fold_end n (e ∷ ds) d = fold_end (next n e) ds d
-
-all_end : (test : ℕ → Bool) (xs : List ℕ) (x : ℕ) → list_all test xs ≡ true → test x ≡ true → list_all test (xs ++ x ∷ []) ≡ true
-all_end test [] x p q = and_from _ _ q refl
-all_end test (y ∷ xs) x p q = let h = and_parts (test y) (list_all test xs) p in and_from _ _ h.0 (all_end test xs x h.1 q)
-
-digit_at : (d : ℕ) → d < 10 → is_digit (48 + d) ≡ true
-digit_at d h = and_from _ _ (le-leb 48 (48 + d) (omega arith)) (le-leb (48 + d) 57 (omega arith))
-
-digit_le : (d : ℕ) → is_digit d ≡ true → d ≤ 57
-digit_le d e = leb-true d 57 (and_parts (leb 48 d) (leb d 57) e).1
-
-pub record Spells (n : ℕ) (ds : List ℕ) : Type 0 where
-  pub digits : list_all is_digit ds ≡ true
-  pub some : 0 < length ds
-  pub number : number_of ds ≡ n
-
-spells_decimal : (n : ℕ) → n < 2 ^ 64 → Spells n (decimal n)
-spells_decimal = decimal_by_steps Spells
-    (λ n l. record { digits = and_from _ _ (digit_at n l) refl; some = omega arith; number = omega arith })
-    (λ n ds l s. record {
-      digits = all_end is_digit ds (48 + n % 10) s.digits (digit_at (n % 10) (omega arith));
-      some = omega (arith, length-append ds ((48 + n % 10) ∷ []));
-      number = fold_end 0 ds (48 + n % 10) ∙ omega (arith, s.number);
-    })
-
-are_made : (ds : List ℕ) → 0 < length ds → length ds ≤ 7 → list_all is_digit ds ≡ true → are_digits ds ≡ true
-are_made [] s l e = absurd (omega (arith, s))
-are_made (d ∷ ds) s l e =
-    let p = and_parts (is_digit d) (list_all is_digit ds) e in
-    and_from _ _ (and_from _ _ p.0 (le-leb (length ds) 6 (omega (arith, l)))) p.1
-
-scale : (n t : ℕ) → (10 * (n + 1)) * t ≡ (n + 1) * (t * 10)
-scale n t = omega arith
-
-below_power : (ds : List ℕ) (n : ℕ) → list_all is_digit ds ≡ true → fold next n ds + 1 ≤ (n + 1) * 10 ^ length ds
-below_power [] n e = omega arith
-below_power (d ∷ ds) n e =
-    let p = and_parts (is_digit d) (list_all is_digit ds) e in
-    let k : d ≤ 57 = digit_le d p.0 in
-    let h : fold next (next n d) ds + 1 ≤ (next n d + 1) * 10 ^ length ds = below_power ds (next n d) p.1 in
-    let m : next n d + 1 ≤ 10 * (n + 1) = omega arith in
-    let q : (next n d + 1) * 10 ^ length ds ≤ (10 * (n + 1)) * 10 ^ length ds = mul-le-mul_right (10 ^ length ds) m in
-    let w : 10 ^ suc (length ds) ≡ 10 ^ length ds * 10 = pow-suc 10 (length ds) in
-    le_trans h (le_trans q (le_of_eq (scale n (10 ^ length ds) ∙ ap (λ z. (n + 1) * z) (sym w))))
-
-power_7 : (k : ℕ) → k ≤ 7 → 10 ^ k ≤ 10000000
-power_7 zero l = lit≤ tt
-power_7 (suc zero) l = lit≤ tt
-power_7 (suc (suc zero)) l = lit≤ tt
-power_7 (suc (suc (suc zero))) l = lit≤ tt
-power_7 (suc (suc (suc (suc zero)))) l = lit≤ tt
-power_7 (suc (suc (suc (suc (suc zero))))) l = lit≤ tt
-power_7 (suc (suc (suc (suc (suc (suc zero)))))) l = lit≤ tt
-power_7 (suc (suc (suc (suc (suc (suc (suc zero))))))) l = lit≤ tt
-power_7 (suc (suc (suc (suc (suc (suc (suc (suc k)))))))) l = absurd (omega (arith, l))
-
-number_small : (ds : List ℕ) → are_digits ds ≡ true → number_of ds < 10000000
-number_small [] e = absurd (false≢true e)
-number_small (d ∷ ds) e =
-    let p = and_parts (is_digit d && leb (length ds) 6) (list_all is_digit ds) e in
-    let q = and_parts (is_digit d) (leb (length ds) 6) p.0 in
-    let l : length (d ∷ ds) ≤ 7 = omega (arith, leb-true (length ds) 6 q.1) in
-    let b : fold next 0 (d ∷ ds) + 1 ≤ (0 + 1) * 10 ^ length (d ∷ ds) = below_power (d ∷ ds) 0 (and_from _ _ q.0 p.1) in
-    omega (arith, b, power_7 (length (d ∷ ds)) l)
-
-count_printed : (u : List ℕ) (n : ℕ) → count u n → count (decimal n) n
-count_printed u n h =
-    let small : n < 10000000 = omega (arith, h.1, number_small u h.0) in
-    let s : Spells n (decimal n) = spells_decimal n (omega arith) in
-    (are_made (decimal n) s.some (length-decimal-le 7 n (omega arith) (omega arith) (omega arith)) s.digits, sym s.number)
 
 number_plus : (n : ℕ) → count (decimal n) n → number (decimal n) (pos n)
 number_plus n h = inr (record { front = decimal n; after = []; value = n; split = sym (append-nil (decimal n)); stands = h; goes_on = (refl, refl) })

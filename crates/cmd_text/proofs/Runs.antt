@@ -1,5 +1,5 @@
 -- What a run of bytes is, for the functions that read it.
-use Rattle.std.proofs.Common.{◌≡◌, ℕ, zero, suc, ◌+◌, ◌*◌, ◌^◌, ◌≤◌, Bool, true, false, cond, List, [], ◌∷◌, length, take, drop, get_or, ◌-◌, refl, ap, ◌∙◌, arith, lit≤}
+use Rattle.std.proofs.Common.{◌≡◌, ℕ, zero, suc, ◌+◌, ◌≤◌, Bool, true, false, cond, List, [], ◌∷◌, length, take, drop, get_or, ◌-◌, refl, ap, ◌∙◌, arith}
 use Rattle.std.proofs.Math.Seq.{take-length}
 use Rattle.std.specs.List.{list_all}
 use Rattle.std.proofs.lemmas.Bool.{and_from, le-leb}
@@ -39,17 +39,3 @@ name_run (x ∷ xs) len l e r =
     let n = run_len is_name_byte 15 xs in
     let more : len + 1 ≡ suc n = omega arith in
     ap (λ k. is_name (take k (x ∷ xs))) more ∙ and_from _ _ (and_from _ _ e (le-leb (length (take n xs)) 15 (run_short is_name_byte 15 xs))) (run_passes is_name_byte 15 xs)
-
-pub small_power : (i : ℕ) → i ≤ 6 → 29 * 10 ^ (i + 1) ≤ 290000000
-small_power i h = by (i + 1) (omega arith)
-  where
-    by : (j : ℕ) → j ≤ 7 → 29 * 10 ^ j ≤ 290000000
-    by zero l = lit≤ tt
-    by (suc zero) l = lit≤ tt
-    by (suc (suc zero)) l = lit≤ tt
-    by (suc (suc (suc zero))) l = lit≤ tt
-    by (suc (suc (suc (suc zero)))) l = lit≤ tt
-    by (suc (suc (suc (suc (suc zero))))) l = lit≤ tt
-    by (suc (suc (suc (suc (suc (suc zero)))))) l = lit≤ tt
-    by (suc (suc (suc (suc (suc (suc (suc zero))))))) l = lit≤ tt
-    by (suc (suc (suc (suc (suc (suc (suc (suc j)))))))) l = absurd (omega (arith, l))

@@ -3,6 +3,7 @@
 #![tactic(auto)]
 
 mod command_lines;
+mod counts;
 mod frames;
 mod fronts;
 pub mod laws;
@@ -14,4 +15,5 @@ mod reading;
 pub use cmd_print::{print, print_reply};
 pub use cmd_words::{Command, ConfigOption, Drew, Input, Options, PlaceOption, Refusal, Reply};
 pub use command_lines::{BadLine, parse};
+pub use counts::count_from;
 pub use frames::is_frame_line;

@@ -73,13 +73,9 @@ fn push_read<'a, T: Readable>(list: &mut Options<T>, bytes: &'a [u8]) -> Result<
     requires { length list.old < 8 }
     ensures { Gives (λ x. (list.new, x.now)) result (pushed_at T.one_at list.old bytes.now) }
 {
-    match T::read(bytes) {
-        Ok((option, rest)) => {
-            list.push(option);
-            Ok(rest)
-        }
-        Err(left) => Err(left),
-    }
+    let (option, rest) = T::read(bytes)?;
+    list.push(option);
+    Ok(rest)
 }
 
 /// The options that follow those of `list`, while there is room for them, and the spaces after the last.
@@ -108,12 +104,8 @@ fn more<T: Readable>(mut list: Options<T>, bytes: &[u8]) -> Result<(Options<T>, 
 pub(crate) fn options<T: Readable>(bytes: &[u8]) -> Result<(Options<T>, &[u8]), usize>
     ensures { Gives (λ x. (x.0, x.1.now)) result (options_at T.one_at bytes.now) }
 {
-    match T::read(bytes) {
-        Ok((first, rest)) => {
-            let mut list = Options::new();
-            list.push(first);
-            more(list, rest)
-        }
-        Err(left) => Err(left),
-    }
+    let (first, rest) = T::read(bytes)?;
+    let mut list = Options::new();
+    list.push(first);
+    more(list, rest)
 }

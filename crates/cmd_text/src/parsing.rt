@@ -45,10 +45,8 @@ fn end(command: Command, bytes: &[u8]) -> Result<Command, usize>
 fn finish(command: Command, bytes: &[u8]) -> Result<Command, usize>
     ensures { result ≡ finish_at command bytes.now }
 {
-    match expect(b")", bytes) {
-        Ok(rest) => end(command, rest),
-        Err(left) => Err(left),
-    }
+    let rest = expect(b")", bytes)?;
+    end(command, rest)
 }
 
 /// The same with spaces before the `)`.
@@ -63,10 +61,8 @@ fn close(command: Command, bytes: &[u8]) -> Result<Command, usize>
 fn set(name: Name, bytes: &[u8]) -> Result<Command, usize>
     ensures { result ≡ arguments_at name method.Set bytes.now }
 {
-    match options(bytes) {
-        Ok((options, rest)) => finish(Command::Set { name, options }, rest),
-        Err(left) => Err(left),
-    }
+    let (options, rest) = options(bytes)?;
+    finish(Command::Set { name, options }, rest)
 }
 
 #[tactic(auto, unfolding(crate::specs::ReadingLines::arguments_at))]
@@ -84,17 +80,13 @@ fn place_rest(parent: Name, child: Name, bytes: &[u8]) -> Result<Command, usize>
 {
     if begins(b',', bytes) {
         let rest = expect(b",", bytes)?;
-        match options(skip(rest)) {
-            Ok((options, rest)) => {
-                let command = Command::Place {
-                    parent,
-                    child,
-                    options,
-                };
-                finish(command, rest)
-            }
-            Err(left) => Err(left),
-        }
+        let (options, rest) = options(skip(rest))?;
+        let command = Command::Place {
+            parent,
+            child,
+            options,
+        };
+        finish(command, rest)
     } else {
         let options = Options::new();
         let command = Command::Place {
@@ -132,17 +124,13 @@ fn column_config(name: Name, bytes: &[u8]) -> Result<Command, usize>
 {
     let (index, rest) = number(bytes)?;
     let rest = comma(rest)?;
-    match options(rest) {
-        Ok((options, rest)) => {
-            let command = Command::ColumnConfig {
-                name,
-                index,
-                options,
-            };
-            finish(command, rest)
-        }
-        Err(left) => Err(left),
-    }
+    let (options, rest) = options(rest)?;
+    let command = Command::ColumnConfig {
+        name,
+        index,
+        options,
+    };
+    finish(command, rest)
 }
 
 #[tactic(auto, unfolding(crate::specs::ReadingLines::arguments_at))]
@@ -151,17 +139,13 @@ fn row_config(name: Name, bytes: &[u8]) -> Result<Command, usize>
 {
     let (index, rest) = number(bytes)?;
     let rest = comma(rest)?;
-    match options(rest) {
-        Ok((options, rest)) => {
-            let command = Command::RowConfig {
-                name,
-                index,
-                options,
-            };
-            finish(command, rest)
-        }
-        Err(left) => Err(left),
-    }
+    let (options, rest) = options(rest)?;
+    let command = Command::RowConfig {
+        name,
+        index,
+        options,
+    };
+    finish(command, rest)
 }
 
 #[tactic(auto, unfolding(crate::specs::ReadingLines::arguments_at))]

@@ -1,15 +1,15 @@
 -- The numbers and clients that the code reads are those of the grammar.
-use Rattle.std.proofs.Common.{◌≡◌, ◌≢◌, ℕ, ◌+◌, ◌-◌, ◌*◌, ◌/◌, ◌%◌, ◌≤◌, ◌<◌, Bool, true, false, cond, ◌&&◌, List, [], ◌∷◌, ◌++◌, length, Option, Some, None, refl, sym, ap, subst, ◌∙◌, arith, fold, rules}
-use Rattle.std.specs.Prelude.{decimal, ◌==◌, nat_le, nat_lt, IfSome}
+use Rattle.std.proofs.Common.{◌≡◌, ◌≢◌, ℕ, ◌≤◌, ◌<◌, Bool, true, false, cond, ◌&&◌, leb, List, [], ◌∷◌, get_or, Option, Some, None, refl, sym, ap, subst, ◌∙◌, arith}
+use Rattle.std.specs.Prelude.{decimal, ◌==◌, nat_le, IfSome}
 use Rattle.std.specs.List.{list_all}
 use Rattle.std.proofs.lemmas.Bool.{and_parts, leb-true, le-leb}
-use Rattle.std.proofs.lemmas.Fmt.{decimal_digit, decimal_step, decimal-digits_value}
-use Rattle.std.proofs.lemmas.Str.Parse.{IsNumeralModel, numerals_by_fold}
+use Rattle.std.proofs.lemmas.Fmt.{first_decimal, decimal-digits_value}
 use Rattle.std.proofs.lemmas.Bool.Decides.{nat_tests}
 use Rattle.kind_core.specs.Bytes.{is_digit}
-use Rattle.cmd_words.specs.Productions.{are_digits, number_of}
+use Rattle.cmd_words.specs.Productions.{are_digits, number_of, count}
+use Rattle.cmd_text.proofs.Numerals.{numerals, AreDigits, digits-back, decimal_is_count}
 use Rattle.script_lines.specs.Numbers.{number_from, IsClient, client_number}
-use Rattle.script_lines.specs.Reading.{number_at, begins_with_zero, client_at, parted}
+use Rattle.script_lines.specs.Reading.{number_at, begins_with_zero, client_at}
 
 -- the test holds
 pub allowed_back : {A : Type 0} (test : Bool) (value answer : A) → cond test (Some value) None ≡ Some answer → (test ≡ true) × (value ≡ answer)
@@ -40,18 +40,7 @@ number_at-on least most digits n h =
     let high : nat_le (number_of digits) most ≡ true = le-leb (number_of digits) most (subst (λ k. k ≤ most) h.0.1 h.2) in
     rw (h.0.0, low, high) (ap (λ (k : ℕ). Some k) (sym h.0.1))
 
--- the bytes of a number are digits
-pub all_digits : (digits : List ℕ) → are_digits digits ≡ true → list_all is_digit digits ≡ true
-all_digits [] e = absurd (cc)
-all_digits (d ∷ ds) e =
-    let outer = and_parts (is_digit d && nat_le (length ds) 6) (list_all is_digit ds) e in
-    let inner = and_parts (is_digit d) (nat_le (length ds) 6) outer.0 in
-    rw (inner.0, outer.1) refl
-
 -- ---- a client's number
-
-numerals : IsNumeralModel (λ ds. list_all is_digit ds ≡ true) number_of
-numerals = numerals_by_fold _ (search rules) (λ n ds. fold (λ (k d : ℕ). 10 * k + (d - 48)) n ds) (search rules)
 
 other_than : (a b : ℕ) → (a == b) ≡ false → a ≢ b
 other_than a b e = grind (arith, nat_tests)
@@ -66,60 +55,40 @@ client_at-back digits client e = by digits (refused_back (begins_with_zero digit
         let number : number_from 1 16 (d ∷ ds) client = number_at-back 1 16 (d ∷ ds) client plain.1 in
         let nonzero : d ≢ 48 = other_than d 48 plain.0 in
         let small : number_of (d ∷ ds) ≤ 16 = subst (λ k. k ≤ 16) number.0.1 number.2 in
-        let written : decimal (number_of (d ∷ ds)) ≡ d ∷ ds = decimal-digits_value numerals (d ∷ ds) (all_digits (d ∷ ds) number.0.0) (omega arith) (λ z. absurd (nonzero z)) (omega arith) in
+        let written : decimal (number_of (d ∷ ds)) ≡ d ∷ ds = decimal-digits_value numerals (d ∷ ds) (digits-back (d ∷ ds) number.0.0).all (omega arith) (λ z. absurd (nonzero z)) (omega arith) in
         (sym written ∙ ap decimal (sym number.0.1), record { least = number.1; greatest = number.2 })
 
--- the digits are the client's number, and end at a space
+-- the digits are the client's number, and the first of them is `first`
 pub record IsNumberOf (client : ℕ) (digits : List ℕ) : Type 0 where
   pub first : ℕ
   pub others : List ℕ
   pub split : digits ≡ first ∷ others
   pub from : 48 ≤ first
   pub upto : first ≤ 57
+  pub all : list_all is_digit digits ≡ true
   pub reads : client_at digits ≡ Some client
-  pub parts : (said : List ℕ) → parted (digits ++ 32 ∷ said) ≡ Some (digits, said)
-
-one_digit : (n : ℕ) → 1 ≤ n → n < 10 → IsNumberOf n ((48 + n) ∷ [])
-unfolding client_at number_at parted
-one_digit n l u = record {
-  first = 48 + n;
-  others = [];
-  split = refl;
-  from = omega arith;
-  upto = omega arith;
-  reads = grind (arith, nat_tests);
-  parts = λ said. grind (arith, nat_tests);
-}
-
-two_digits : (n : ℕ) → 10 ≤ n → n ≤ 16 → IsNumberOf n (49 ∷ (38 + n) ∷ [])
-unfolding client_at number_at parted
-two_digits n l u = record {
-  first = 49;
-  others = (38 + n) ∷ [];
-  split = refl;
-  from = omega arith;
-  upto = omega arith;
-  reads = grind (arith, nat_tests);
-  parts = λ said. grind (arith, nat_tests);
-}
-
-ten_and_more : (n : ℕ) → 10 ≤ n → n ≤ 16 → decimal n ≡ 49 ∷ (38 + n) ∷ []
-ten_and_more n l u =
-    let tens : n / 10 ≡ 1 = omega arith in
-    let ones : 48 + n % 10 ≡ 38 + n = omega arith in
-    let one : decimal 1 ≡ 49 ∷ [] = decimal_digit 1 (omega arith) in
-    decimal_step n l (omega arith) ∙ ap (λ k. decimal k ++ (48 + n % 10) ∷ []) tens ∙ ap (λ (ds : List ℕ). ds ++ (48 + n % 10) ∷ []) one ∙ ap (λ (k : ℕ). 49 ∷ k ∷ []) ones
 
 pub printed_client : (client : ℕ) → IsClient client → IsNumberOf client (decimal client)
-printed_client client h = by (nat_lt client 10) refl
+unfolding client_at
+printed_client client is =
+    by (decimal client) (decimal_is_count client (omega (arith, is.greatest))) (first_decimal client (omega (arith, is.least)) (omega (arith, is.greatest)))
   where
-    by : (small : Bool) → small ≡ nat_lt client 10 → IsNumberOf client (decimal client)
-    by true e =
-        let few : client < 10 = grind (arith, nat_tests) in
-        subst (IsNumberOf client) (sym (decimal_digit client few)) (one_digit client h.least few)
-    by false e =
-        let many : 10 ≤ client = grind (arith, nat_tests) in
-        subst (IsNumberOf client) (sym (ten_and_more client many h.greatest)) (two_digits client many h.greatest)
+    by : (digits : List ℕ) → count digits client → 48 < get_or digits 0 0 → IsNumberOf client digits
+    by [] number above = absurd (omega (arith, above))
+    by (d ∷ ds) number above =
+        let are : AreDigits (d ∷ ds) = digits-back (d ∷ ds) number.0 in
+        let digit = and_parts (is_digit d) (list_all is_digit ds) are.all in
+        let bounds = and_parts (leb 48 d) (leb d 57) digit.0 in
+        let nonzero : (d == 48) ≡ false = grind (arith, nat_tests) in
+        record {
+          first = d;
+          others = ds;
+          split = refl;
+          from = omega (arith, above);
+          upto = leb-true d 57 bounds.1;
+          all = are.all;
+          reads = rw nonzero (number_at-on 1 16 (d ∷ ds) client (number, is.least, is.greatest));
+        }
 
 pub client_at-on : (digits : List ℕ) (client : ℕ) → client_number digits client → client_at digits ≡ Some client
 client_at-on digits client h = ap client_at h.0 ∙ (printed_client client h.1).reads

@@ -1,10 +1,11 @@
 -- How a line is parted: at what it begins with, or at its first space.
-use Rattle.std.proofs.Common.{◌≡◌, ℕ, suc, ◌+◌, ◌<◌, Bool, true, false, cond, List, [], ◌∷◌, ◌++◌, length, take, drop, Option, Some, None, refl, sym, ap, subst, ◌∙◌, arith, length-append, take-append-drop}
+use Rattle.std.proofs.Common.{◌≡◌, ℕ, suc, ◌+◌, ◌<◌, Bool, true, false, cond, List, [], ◌∷◌, ◌++◌, length, take, drop, get_or, Option, Some, None, refl, sym, ap, subst, ◌∙◌, arith, length-append, take-append-drop}
 use Rattle.std.specs.Prelude.{◌==◌, nat_lt, option_map}
 use Rattle.std.specs.Str.{bytes_eq}
 use Rattle.std.specs.List.{list_all, position_or_len}
 use Rattle.std.proofs.Math.Seq.{take-append_seam}
 use Rattle.std.proofs.lemmas.Bool.{and_parts}
+use Rattle.std.proofs.lemmas.List.Sums.{split_at_first, passes_at_first}
 use Rattle.std.proofs.lemmas.Bool.Decides.{nat_tests}
 use Rattle.std.proofs.lemmas.Slice.Eq.{bytes_eq-Decides}
 use Rattle.kind_core.specs.Bytes.{is_digit}
@@ -33,19 +34,9 @@ below : (a b : ℕ) → nat_lt a b ≡ true → a < b
 below a b e = grind (arith, nat_tests)
 
 parts_at : (line : List ℕ) → position_or_len is_space line < length line → line ≡ take (position_or_len is_space line) line ++ 32 ∷ drop (position_or_len is_space line + 1) line
-parts_at [] h = absurd (omega arith)
-parts_at (x ∷ xs) h = by (x == 32) refl h (parts_at xs)
-  where
-    by : (space : Bool) → space ≡ (x == 32) → position_or_len is_space (x ∷ xs) < length (x ∷ xs) → (position_or_len is_space xs < length xs → xs ≡ take (position_or_len is_space xs) xs ++ 32 ∷ drop (position_or_len is_space xs + 1) xs) → x ∷ xs ≡ take (position_or_len is_space (x ∷ xs)) (x ∷ xs) ++ 32 ∷ drop (position_or_len is_space (x ∷ xs) + 1) (x ∷ xs)
-    by true e h rest =
-        let same : x ≡ 32 = same_as x 32 (sym e) in
-        rw (sym e) (ap (λ (k : ℕ). k ∷ xs) same)
-    by false e h rest =
-        let p : ℕ = position_or_len is_space xs in
-        let further : 1 + p < length (x ∷ xs) = rw (sym e) at h in
-        let one : 1 + p ≡ suc p = omega arith in
-        let two : suc p + 1 ≡ suc (p + 1) = omega arith in
-        rw (sym e) (rw (one, two) (ap (λ (k : List ℕ). x ∷ k) (rest (omega arith))))
+parts_at line h =
+    let at : ℕ = position_or_len is_space line in
+    split_at_first is_space line 0 h ∙ ap (λ (k : ℕ). take at line ++ k ∷ drop (at + 1) line) (same_as (get_or line at 0) 32 (passes_at_first is_space line 0 h))
 
 pub parted-back : (line : List ℕ) (parts : List ℕ × List ℕ) → parted line ≡ Some parts → line ≡ parts.0 ++ 32 ∷ parts.1
 unfolding parted

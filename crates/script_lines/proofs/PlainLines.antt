@@ -7,12 +7,14 @@ use Rattle.script_lines.specs.declared.order.Order.{Order}
 use Rattle.cmd_words.specs.declared.inputs.Input.{Input}
 use Rattle.cmd_words.specs.declared.inputs.Input.TheVariants.{Motion, Press, Release, Key}
 use Rattle.script_lines.specs.declared.order.Order.TheVariants.{Nothing, Connect, Bye, Ask, Misread, Feed, Ticks, Dirty, Pixel, Dump}
-use Rattle.script_lines.specs.Numbers.{IsClient}
+use Rattle.cmd_words.specs.Language.{Language, ◌▹◌}
+use Rattle.script_lines.specs.Numbers.{IsClient, number_from, client_number}
 use Rattle.script_lines.specs.Sayings.{said_by, Says}
 use Rattle.script_lines.specs.Lines.{asks, ticks, x_and_y, input_line}
 use Rattle.script_lines.specs.Reading.{◌>>=◌, first_some, number_at, client_at, after, parted, is_silent, word_order, tick_order, place_at, pixel_order, button_order, motion_order, key_order, connect_order, bye_order, screen_order, input_order, coming_order, plain_order}
 use Rattle.script_lines.specs.Saying.{IsSaying}
-use Rattle.script_lines.proofs.Numerals.{number_at-back, number_at-on, all_digits, client_at-back, client_at-on, IsNumberOf, printed_client}
+use Rattle.cmd_text.proofs.Numerals.{digits-back}
+use Rattle.script_lines.proofs.Numerals.{number_at-back, number_at-on, client_at-back, client_at-on, IsNumberOf, printed_client}
 use Rattle.script_lines.proofs.Parting.{same_as, same_bytes, after-back, parted-back, parted-on}
 
 -- ---- steps backwards
@@ -27,21 +29,29 @@ pub both_answer : {A B : Type 0} (first : Option A) (next : A → Option B) (ans
 both_answer (Some x) next answer e = record { middle = x; before = refl; behind = e }
 both_answer None next answer e = absurd (cc)
 
-one_of_two : {A : Type 0} (first second : Option A) (answer : A) → first_some (first ∷ second ∷ []) ≡ Some answer → (first ≡ Some answer) ⊎ (second ≡ Some answer)
-one_of_two (Some x) second answer e = inl e
-one_of_two None (Some y) answer e = inr e
-one_of_two None None answer e = absurd (cc)
+-- each that has an answer has one of which P is true
+abbrev Each : {A : Type 0} → (A → Type 0) → List (Option A) → Type 0
+Each P [] = Unit {0}
+Each {A} P (o ∷ others) = ((answer : A) → o ≡ Some answer → P answer) × Each P others
 
-one_of_three : {A : Type 0} (first second third : Option A) (answer : A) → first_some (first ∷ second ∷ third ∷ []) ≡ Some answer → (first ≡ Some answer) ⊎ ((second ≡ Some answer) ⊎ (third ≡ Some answer))
-one_of_three (Some x) second third answer e = inl e
-one_of_three None (Some y) third answer e = inr (inl e)
-one_of_three None None (Some z) answer e = inr (inr e)
-one_of_three None None None answer e = absurd (cc)
+first_back : {A : Type 0} (P : A → Type 0) (all : List (Option A)) → Each P all → (answer : A) → first_some all ≡ Some answer → P answer
+first_back P [] each answer e = absurd (cc)
+first_back P (Some x ∷ others) each answer e = each.0 answer e
+first_back P (None ∷ others) each answer e = first_back P others each.1 answer e
 
 -- ---- what is read is on the grammar
 
 as_made : (line : List ℕ) (made order : Order) → Some made ≡ Some order → asks line made → asks line order
 as_made line made order e on = let same : made ≡ order = cc in subst (asks line) same on
+
+-- a word at the front, and what is read behind it
+step_back : {A : Type 0} (start : List ℕ) (reader : List ℕ → Option A) (L : Language A) (make : A → Order) → ((text : List ℕ) (value : A) → reader text ≡ Some value → L text value)
+    → (line : List ℕ) → ((value : A) → ((λ front. front ≡ start) ▹ L) line value → asks line (make value)) → (order : Order) → (after start line >>= λ text. reader text >>= λ value. Some (make value)) ≡ Some order → asks line order
+step_back start reader L make back line on order e =
+    let text = both_answer (after start line) _ order e in
+    let value = both_answer (reader text.middle) _ order text.behind in
+    as_made line (make value.middle) order value.behind
+    (on value.middle (record { front = start; after = text.middle; split = after-back start line text.middle text.before; word = refl; goes_on = back text.middle value.middle value.before }))
 
 silent_back : (line : List ℕ) → is_silent line ≡ true → asks line Nothing
 unfolding is_silent asks
@@ -65,11 +75,7 @@ word_back line order e =
 
 tick_back : (line : List ℕ) (order : Order) → tick_order line ≡ Some order → asks line order
 unfolding tick_order asks
-tick_back line order e =
-    let digits = both_answer (after (codes "tick ") line) _ order e in
-    let count = both_answer (number_at 1 1000 digits.middle) _ order digits.behind in
-    as_made line (Ticks count.middle) order count.behind
-    (inr (record { front = codes "tick "; after = digits.middle; split = after-back (codes "tick ") line digits.middle digits.before; word = refl; goes_on = number_at-back 1 1000 digits.middle count.middle count.before }))
+tick_back line = step_back (codes "tick ") (number_at 1 1000) (number_from 1 1000) Ticks (number_at-back 1 1000) line (λ count on. inr on)
 
 -- the two numbers of a pixel
 place_back : (text : List ℕ) (pair : ℕ × ℕ) → place_at text ≡ Some pair → x_and_y text pair
@@ -105,11 +111,7 @@ place_back text pair e =
 
 pixel_back : (line : List ℕ) (order : Order) → pixel_order line ≡ Some order → asks line order
 unfolding pixel_order asks
-pixel_back line order e =
-    let text = both_answer (after (codes "pixel ") line) _ order e in
-    let pair = both_answer (place_at text.middle) _ order text.behind in
-    as_made line (Pixel pair.middle.0 pair.middle.1) order pair.behind
-    (record { front = codes "pixel "; after = text.middle; split = after-back (codes "pixel ") line text.middle text.before; word = refl; goes_on = place_back text.middle pair.middle pair.before })
+pixel_back line = step_back (codes "pixel ") place_at x_and_y (λ place. Pixel place.0 place.1) place_back line (λ place on. on)
 
 buttons_back : (line : List ℕ) (press release : Bool) (order : Order) → (press ≡ true → asks line (Feed Press)) → (release ≡ true → asks line (Feed Release)) → cond press (Some (Feed Press)) (cond release (Some (Feed Release)) None) ≡ Some order → asks line order
 buttons_back line true release order p r e = as_made line (Feed Press) order e (p refl)
@@ -126,56 +128,31 @@ button_back line order e =
 
 motion_back : (line : List ℕ) (order : Order) → motion_order line ≡ Some order → asks line order
 unfolding motion_order asks
-motion_back line order e =
-    let text = both_answer (after (codes "motion ") line) _ order e in
-    let pair = both_answer (place_at text.middle) _ order text.behind in
-    as_made line (Feed (Motion pair.middle.0 pair.middle.1)) order pair.behind
-    (record { front = codes "motion "; after = text.middle; split = after-back (codes "motion ") line text.middle text.before; word = refl; goes_on = place_back text.middle pair.middle pair.before })
+motion_back line = step_back (codes "motion ") place_at x_and_y (λ place. Feed (Motion place.0 place.1)) place_back line (λ place on. on)
 
 key_back : (line : List ℕ) (order : Order) → key_order line ≡ Some order → asks line order
 unfolding key_order asks
-key_back line order e =
-    let digits = both_answer (after (codes "key ") line) _ order e in
-    let byte = both_answer (number_at 0 255 digits.middle) _ order digits.behind in
-    as_made line (Feed (Key byte.middle)) order byte.behind
-    (record { front = codes "key "; after = digits.middle; split = after-back (codes "key ") line digits.middle digits.before; word = refl; goes_on = number_at-back 0 255 digits.middle byte.middle byte.before })
+key_back line = step_back (codes "key ") (number_at 0 255) (number_from 0 255) (λ byte. Feed (Key byte)) (number_at-back 0 255) line (λ byte on. on)
 
 connect_back : (line : List ℕ) (order : Order) → connect_order line ≡ Some order → asks line order
 unfolding connect_order asks
-connect_back line order e =
-    let digits = both_answer (after (codes "connect ") line) _ order e in
-    let client = both_answer (client_at digits.middle) _ order digits.behind in
-    as_made line (Connect client.middle) order client.behind
-    (record { front = codes "connect "; after = digits.middle; split = after-back (codes "connect ") line digits.middle digits.before; word = refl; goes_on = client_at-back digits.middle client.middle client.before })
+connect_back line = step_back (codes "connect ") client_at client_number Connect client_at-back line (λ client on. on)
 
 bye_back : (line : List ℕ) (order : Order) → bye_order line ≡ Some order → asks line order
 unfolding bye_order asks
-bye_back line order e =
-    let digits = both_answer (after (codes "bye ") line) _ order e in
-    let client = both_answer (client_at digits.middle) _ order digits.behind in
-    as_made line (Bye client.middle) order client.behind
-    (record { front = codes "bye "; after = digits.middle; split = after-back (codes "bye ") line digits.middle digits.before; word = refl; goes_on = client_at-back digits.middle client.middle client.before })
+bye_back line = step_back (codes "bye ") client_at client_number Bye client_at-back line (λ client on. on)
 
 screen_back : (line : List ℕ) (order : Order) → screen_order line ≡ Some order → asks line order
 unfolding screen_order
-screen_back line order e =
-    elim (one_of_three (word_order line) (tick_order line) (pixel_order line) order e) [
-      | inl w ↦ word_back line order w
-      | inr k ↦ elim k [ inl t ↦ tick_back line order t | inr p ↦ pixel_back line order p ]
-    ]
+screen_back line = first_back (asks line) (word_order line ∷ tick_order line ∷ pixel_order line ∷ []) (word_back line, (tick_back line, (pixel_back line, tt)))
 
 input_back : (line : List ℕ) (order : Order) → input_order line ≡ Some order → asks line order
 unfolding input_order
-input_back line order e =
-    elim (one_of_three (button_order line) (motion_order line) (key_order line) order e) [
-      | inl b ↦ button_back line order b
-      | inr k ↦ elim k [ inl m ↦ motion_back line order m | inr y ↦ key_back line order y ]
-    ]
+input_back line = first_back (asks line) (button_order line ∷ motion_order line ∷ key_order line ∷ []) (button_back line, (motion_back line, (key_back line, tt)))
 
 coming_back : (line : List ℕ) (order : Order) → coming_order line ≡ Some order → asks line order
 unfolding coming_order
-coming_back line order e =
-    elim (one_of_two (connect_order line) (bye_order line) order e) [ inl c ↦ connect_back line order c | inr b ↦ bye_back line order b ]
+coming_back line = first_back (asks line) (connect_order line ∷ bye_order line ∷ []) (connect_back line, (bye_back line, tt))
 
 pub plain_back : (line : List ℕ) (order : Order) → plain_order line ≡ Some order → asks line order
 unfolding plain_order
@@ -183,11 +160,7 @@ plain_back line order = by (is_silent line) refl
   where
     by : (quiet : Bool) → is_silent line ≡ quiet → cond quiet (Some Nothing) (first_some (screen_order line ∷ input_order line ∷ coming_order line ∷ [])) ≡ Some order → asks line order
     by true is e = as_made line Nothing order e (silent_back line is)
-    by false is e =
-        elim (one_of_three (screen_order line) (input_order line) (coming_order line) order e) [
-          | inl s ↦ screen_back line order s
-          | inr k ↦ elim k [ inl i ↦ input_back line order i | inr c ↦ coming_back line order c ]
-        ]
+    by false is e = first_back (asks line) (screen_order line ∷ input_order line ∷ coming_order line ∷ []) (screen_back line, (input_back line, (coming_back line, tt))) order e
 
 -- ---- what is on the grammar is read
 
@@ -300,7 +273,7 @@ place_read text x y on =
     let behind : on.after ≡ 32 ∷ second.front = space.split ∙ ap (λ xs. xs ++ space.after) space.word ∙ ap (λ xs. codes " " ++ xs) rest in
     let whole : text ≡ on.front ++ 32 ∷ second.front = on.split ∙ ap (λ xs. on.front ++ xs) behind in
     let same : (x, y) ≡ (on.value, second.value) = second.goes_on.1 in
-    ap place_at whole ∙ place_on on.front second.front on.value second.value (parted-on on.front second.front (all_digits on.front on.stands.0.0)) left top ∙ ap (λ (p : ℕ × ℕ). Some p) (sym same)
+    ap place_at whole ∙ place_on on.front second.front on.value second.value (parted-on on.front second.front (digits-back on.front on.stands.0.0).all) left top ∙ ap (λ (p : ℕ × ℕ). Some p) (sym same)
 
 input_read : (line : List ℕ) (input : Input) → input_line line input → plain_order line ≡ Some (Feed input)
 input_read line (Motion x y) on = ap plain_order (begins line on.front (codes "motion ") on.after on.split on.word) ∙ motion_on on.after x y (place_read on.after x y on.goes_on)

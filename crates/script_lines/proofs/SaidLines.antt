@@ -18,7 +18,7 @@ use Rattle.script_lines.specs.Lines.{asks}
 use Rattle.script_lines.specs.Reading.{client_at, parted, said_at}
 use Rattle.script_lines.specs.Saying.{IsSaying, saying}
 use Rattle.script_lines.proofs.Numerals.{client_at-back, IsNumberOf, printed_client}
-use Rattle.script_lines.proofs.Parting.{parted-back}
+use Rattle.script_lines.proofs.Parting.{parted-back, parted-on}
 use Rattle.script_lines.proofs.PlainLines.{both_answer}
 
 -- ---- the client and what it says
@@ -27,7 +27,7 @@ pub said_at-said : (client : ℕ) (said : List ℕ) → IsClient client → said
 unfolding said_at
 said_at-said client said is =
     let n : IsNumberOf client (decimal client) = printed_client client is in
-    rw (n.parts said, n.reads) refl
+    rw (parted-on (decimal client) said n.all, n.reads) refl
 
 pub said_at-on : (line : List ℕ) (client : ℕ) (said : List ℕ) → Says line client said → said_at line ≡ Some (client, said)
 said_at-on line client said says = ap said_at says.spelled ∙ said_at-said client said says.is_client

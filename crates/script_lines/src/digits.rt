@@ -1,25 +1,9 @@
-//! The digits of numbers and clients.
-ghost use Rattle.std.specs.Prelude.{◌≡◌, ℕ, ◌≤◌, length, Option, Some, None, IfSome, if◌then◌else◌};
-ghost use Rattle.std.specs.List.{list_all};
-ghost use Rattle.kind_core.specs.Bytes.{is_digit};
-ghost use Rattle.cmd_words.specs.Productions.{are_digits, number_of};
+//! Numbers in a range, and clients.
+ghost use Rattle.std.specs.Prelude.{◌≡◌, ℕ, ◌≤◌, Option, IfSome};
 ghost use Rattle.script_lines.specs.Numbers.{IsClient};
 ghost use Rattle.script_lines.specs.Reading.{number_at, begins_with_zero, client_at};
 
-/// The number that the bytes write, where each is a digit; at most 7 bytes.
-fn digits_value(bytes: &[u8]) -> Option<u32>
-    requires { length bytes.now ≤ 7 }
-    ensures { result ≡ (if list_all is_digit bytes.now then Some (number_of bytes.now) else None) }
-{
-    let mut value = 0;
-    for byte in bytes {
-        if *byte < b'0' || *byte > b'9' {
-            return None;
-        }
-        value = 10 * value + u32::from(*byte - b'0');
-    }
-    Some(value)
-}
+use cmd_text::count_from;
 
 /// The number that the bytes write, where they are 1 to 7 digits and it is from `least` to `most`.
 #[tactic(auto, unfolding(crate::specs::Reading::number_at))]
@@ -27,14 +11,11 @@ pub(crate) fn number_at(least: u32, most: u32, bytes: &[u8]) -> Option<u32>
     ensures number { result ≡ number_at least most bytes.now }
     ensures within { IfSome result (λ n. (least ≤ n) × (n ≤ most)) }
 {
-    if bytes.is_empty() || bytes.len() > 7 {
+    let number = count_from(bytes)?;
+    if number < least || most < number {
         return None;
     }
-    let value = digits_value(bytes)?;
-    if value < least || most < value {
-        return None;
-    }
-    Some(value)
+    Some(number)
 }
 
 /// Whether the first byte is `0`.

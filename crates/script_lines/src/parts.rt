@@ -24,8 +24,6 @@ fn space_in(text: &[u8]) -> Option<usize>
 pub(crate) fn parted(text: &[u8]) -> Option<(&[u8], &[u8])>
     ensures { option_map (λ parts. (parts.0.now, parts.1.now)) result ≡ parted text.now }
 {
-    match space_in(text) {
-        Some(index) => Some((&text[..index], &text[index + 1..])),
-        None => None,
-    }
+    let index = space_in(text)?;
+    Some((&text[..index], &text[index + 1..]))
 }
