@@ -16,7 +16,7 @@ use Rattle.desk_model.specs.Desk.{Admission, is_admission}
 use Rattle.desk_model.specs.Screens.{other_admissions, shares_of}
 use Rattle.desk_model.specs.DeskFacts.{AreAdmittedOnce, has_its_share, is_listed, IsRosterOf}
 use Rattle.desk_model.proofs.Rosters.{has_share, film_in, has_its_share-other, IsAdmissionOf-from}
-use Rattle.desk_model.proofs.KeptNew.{all-push}
+use Rattle.widget_model.proofs.NewRows.{all-push}
 use Rattle.desk_model.proofs.KeptOut.{AreAdmittedOnce-filter, shares_of-filter}
 use Rattle.desk_model.proofs.KeptWindows.{none-left}
 

@@ -97,4 +97,4 @@ beaten_along-all limit rows roster apart kept =
 
 pub beat-along : (desk : Desk) → IsDesk desk → record desk { rows = beaten_along desk.rows desk.roster } ≡ beat desk
 unfolding beat
-beat-along desk is = ap (λ (rows : List Row). record desk { rows = rows }) (beaten_along-all (roster_limit desk) desk.rows desk.roster is.names is.roster)
+beat-along desk is = ap (λ (rows : List Row). record desk { rows = rows }) (beaten_along-all (roster_limit desk) desk.rows desk.roster is.rows.names is.roster)

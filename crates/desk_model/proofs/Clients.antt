@@ -1,16 +1,15 @@
 -- What holds of the connected clients when one more connects, and that the least free number is one of 1 to 16
 -- that isn't connected.
 use Rattle.std.proofs.Common.{◌≡◌, ◌<◌, ◌≤◌, ℕ, zero, suc, ◌+◌, Bool, true, false, cond, nat_eq, List, [], ◌∷◌, ◌++◌, Some, refl, ◌∙◌, arith}
-use Rattle.std.proofs.lemmas.Bool.{and_from, or_parts, or_from, or_left, le-leb}
+use Rattle.std.proofs.lemmas.Bool.{and_from, or_parts, or_from, le-leb}
 use Rattle.std.proofs.lemmas.List.Folds.{list_all-append, list_any-append}
 use Rattle.std.specs.Cmp.{nat_eq_equiv}
-use Rattle.widget_model.specs.Rows.{Row}
 use Rattle.widget_model.specs.Clients.{is_joined, is_client}
 use Rattle.desk_model.specs.Desk.{Desk, is_connected}
 use Rattle.desk_model.specs.Clients.{with_client, free_from, free_client}
 use Rattle.desk_model.specs.DeskFacts.{AreConnectedOnce}
-use Rattle.widget_model.proofs.Hanging.{all_at, all_from}
-use Rattle.desk_model.proofs.Sound.{AreRows, IsSound}
+use Rattle.widget_model.proofs.NewRows.{AreRows-joined}
+use Rattle.desk_model.proofs.Sound.{IsSound}
 use Rattle.desk_model.proofs.Rings.{AreRingsOf-push}
 
 pub AreConnectedOnce-push : (clients : List ℕ) (client : ℕ) → AreConnectedOnce clients → is_joined clients client ≡ false → AreConnectedOnce (clients ++ client ∷ [])
@@ -20,26 +19,6 @@ AreConnectedOnce-push (first ∷ clients) client once new =
     let differ : nat_eq first client ≡ false = nat_eq_equiv.symm first client ∙ apart.0 in
     (list_any-append (nat_eq first) clients (client ∷ []) ∙ or_from _ _ once.0 (or_from _ _ differ refl), AreConnectedOnce-push clients client once.1 apart.1)
 
--- who was connected is so still
-is_joined-push : (clients : List ℕ) (client other : ℕ) → is_joined clients other ≡ true → is_joined (clients ++ client ∷ []) other ≡ true
-is_joined-push clients client other joined = list_any-append (nat_eq other) clients (client ∷ []) ∙ or_left _ _ joined
-
-AreRows-joined : (clients : List ℕ) (client : ℕ) (rows : List Row) → AreRows clients rows → AreRows (clients ++ client ∷ []) rows
-AreRows-joined clients client rows kept =
-    record {
-      owners = all_from (λ (row : Row). is_joined (clients ++ client ∷ []) row.client) rows (λ i row there. is_joined-push clients client row.client (all_at (λ (row : Row). is_joined clients row.client) rows i row kept.owners there));
-      names = kept.names;
-      most = kept.most;
-      most_alike = kept.most_alike;
-      planted = kept.planted;
-      linked = kept.linked;
-      linked_by_kind = kept.linked_by_kind;
-      fitting = kept.fitting;
-      rules = kept.rules;
-      slots = kept.slots;
-      films = kept.films;
-    }
-
 pub IsSound-with_client : (desk : Desk) (client : ℕ) → IsSound desk → is_client client ≡ true → is_connected desk client ≡ false → IsSound (with_client client desk)
 IsSound-with_client desk client sound range new =
     record {
@@ -47,6 +26,7 @@ IsSound-with_client desk client sound range new =
       clients = list_all-append is_client desk.clients (client ∷ []) ∙ and_from _ _ sound.clients (and_from _ _ range refl);
       connected_once = AreConnectedOnce-push desk.clients client sound.connected_once new;
       rows = AreRows-joined desk.clients client desk.rows sound.rows;
+      by_kind = sound.by_kind;
       roster = sound.roster;
       rings = AreRingsOf-push desk.clients desk.rings client sound.rings;
       windows = sound.windows;

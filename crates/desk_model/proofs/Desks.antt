@@ -45,12 +45,10 @@ IsSound-opening shape is =
         most_alike = λ client kind. omega arith;
         planted = record { hang = refl; own_cells = tt; low = refl };
         linked = refl;
-        linked_by_kind = refl;
         fitting = refl;
-        rules = refl;
-        slots = refl;
         films = All-nil IsFitFilm;
       };
+      by_kind = refl;
       roster = record { shares = refl; once = tt; all = refl; within = omega arith };
       rings = record { each = refl; valid = All-nil (λ (ring : Ring). IsRing ring.events) };
       windows = record { there = refl; once = tt };

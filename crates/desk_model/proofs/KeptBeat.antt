@@ -4,22 +4,23 @@ use Rattle.std.proofs.lemmas.List.Folds.{list_all-map}
 use Rattle.std.specs.List.{list_all}
 use Rattle.vscreen_core.specs.FilmState.{FilmState}
 use Rattle.vscreen_core.specs.Band.{share_of}
+use Rattle.widget_model.specs.RowFacts.{links_right}
 use Rattle.widget_model.specs.Rows.{Row}
 use Rattle.widget_model.specs.Kinds.{any_kind, counts_with, is_window_kind}
 use Rattle.widget_model.specs.Named.{row_named, is_kind_of}
 use Rattle.widget_model.specs.Pointer.{Pointer, Grab, no_grab, on_widget, drags}
 use Rattle.widget_model.specs.Clients.{is_joined}
-use Rattle.widget_model.specs.Fitting.{fits_table, fits_rules, has_slots, IsFitFilm}
+use Rattle.widget_model.specs.Fitting.{is_fit, IsFitFilm}
 use Rattle.widget_model.proofs.Hanging.{all_at, all_from}
 use Rattle.widget_model.proofs.Planting.{IsPlanted-map}
 use Rattle.scene_model.proofs.StillTops.{root_of-still}
 use Rattle.desk_model.specs.Desk.{Desk, is_open}
-use Rattle.desk_model.specs.DeskFacts.{links_right, links_by_kind}
+use Rattle.desk_model.specs.DeskFacts.{links_by_kind}
 use Rattle.desk_model.specs.DeskLaws.{BeatsKeepDesks}
 use Rattle.desk_model.specs.LetGo.{is_in_window, grab_left, focus_left, let_go}
 use Rattle.desk_model.specs.Screens.{roster_limit}
 use Rattle.desk_model.specs.Beat.{row_beaten, beat}
-use Rattle.desk_model.proofs.KeptRows.{AreNamedApart-map, rows_counted-map, is_kind_of-map, links_right-map, HaveFitFilms-map}
+use Rattle.widget_model.proofs.ChangedRows.{AreNamedApart-map, rows_counted-map, is_kind_of-map, links_right-map, HaveFitFilms-map}
 use Rattle.desk_model.proofs.Rosters.{set_aside, share_in, IsRosterOf-map}
 use Rattle.desk_model.proofs.KeptScreens.{IsFitFilm-changed, share_in-changed}
 use Rattle.desk_model.proofs.BeatRows.{film_beaten, film_beaten-keeps, IsFilm-film_beaten, row_beaten-is, client-beaten, attached-beaten, LeavesNode-beaten, LeavesNames-beaten, MovesNothing-beaten}
@@ -78,17 +79,17 @@ beats_keep desk is =
       shape = is.shape;
       clients = is.clients;
       connected_once = is.connected_once;
-      owners = all-beaten owned owned desk.rows (λ row. ap (λ (client : ℕ). is_joined desk.clients client) (client-beaten row)) is.owners;
-      names = AreNamedApart-map desk.rows row_beaten LeavesNode-beaten is.names;
-      most = λ client. rw (rows_counted-map client any_kind desk.rows row_beaten LeavesNode-beaten) (is.most client);
-      most_alike = λ client kind. rw (rows_counted-map client (counts_with kind) desk.rows row_beaten LeavesNode-beaten) (is.most_alike client kind);
-      planted = IsPlanted-map desk.rows row_beaten (record { leaves = LeavesNode-beaten; attached = λ row. inr (attached-beaten row) }) is.planted;
-      linked = all-beaten (links_right desk.rows) (links_right (map row_beaten desk.rows)) desk.rows (λ row. links_right-map desk.rows row_beaten (row_beaten row) LeavesNode-beaten ∙ links_right-film desk.rows row) is.linked;
+      rows = record {
+        owners = all-beaten owned owned desk.rows (λ row. ap (λ (client : ℕ). is_joined desk.clients client) (client-beaten row)) is.rows.owners;
+        names = AreNamedApart-map desk.rows row_beaten LeavesNode-beaten is.rows.names;
+        most = λ client. rw (rows_counted-map client any_kind desk.rows row_beaten LeavesNode-beaten) (is.rows.most client);
+        most_alike = λ client kind. rw (rows_counted-map client (counts_with kind) desk.rows row_beaten LeavesNode-beaten) (is.rows.most_alike client kind);
+        planted = IsPlanted-map desk.rows row_beaten (record { leaves = LeavesNode-beaten; attached = λ row. inr (attached-beaten row) }) is.rows.planted;
+        linked = all-beaten (links_right desk.rows) (links_right (map row_beaten desk.rows)) desk.rows (λ row. links_right-map desk.rows row_beaten (row_beaten row) LeavesNode-beaten ∙ links_right-film desk.rows row) is.rows.linked;
+        fitting = all-beaten is_fit is_fit desk.rows (λ row. ap (λ (r : Row). is_fit r) (row_beaten-is row)) is.rows.fitting;
+        films = HaveFitFilms-map desk.rows row_beaten (λ i row there fit. IsFitFilm-beaten row fit) is.rows.films;
+      };
       linked_by_kind = all-beaten links_by_kind links_by_kind desk.rows (λ row. ap (λ (r : Row). links_by_kind r) (row_beaten-is row)) is.linked_by_kind;
-      fitting = all-beaten fits_table fits_table desk.rows (λ row. ap (λ (r : Row). fits_table r) (row_beaten-is row)) is.fitting;
-      rules = all-beaten fits_rules fits_rules desk.rows (λ row. ap (λ (r : Row). fits_rules r) (row_beaten-is row)) is.rules;
-      slots = all-beaten has_slots has_slots desk.rows (λ row. ap (λ (r : Row). has_slots r) (row_beaten-is row)) is.slots;
-      films = HaveFitFilms-map desk.rows row_beaten (λ i row there fit. IsFitFilm-beaten row fit) is.films;
       roster = IsRosterOf-map (roster_limit desk) desk.rows desk.roster row_beaten LeavesNames-beaten (λ i row there. share_in-beaten row) is.roster;
       rings = is.rings;
       windows = all_from (λ (window : ℕ × List ℕ). is_kind_of is_window_kind (row_named (map row_beaten desk.rows) window.0 window.1)) desk.windows (λ i window there. is_kind_of-map desk.rows row_beaten is_window_kind window.0 window.1 LeavesNode-beaten ∙ all_at (λ (window : ℕ × List ℕ). is_kind_of is_window_kind (row_named desk.rows window.0 window.1)) desk.windows i window is.windows there);

@@ -40,12 +40,14 @@ use Rattle.desk_model.specs.InputFacts.{takes, AreTaken}
 use Rattle.desk_model.specs.Feeding.{hit_of, held_place, with_value_at, with_number, with_text, with_moved, rows_after, tag_of, with_post, carried_out, effects_on, step_feed}
 use Rattle.widget_model.proofs.Hanging.{all_at, none_at, find-element, changed, hangs_right-at}
 use Rattle.widget_model.proofs.Leaves.{LeavesNode, LeavesNode-changed}
-use Rattle.widget_model.proofs.ValuesFit.{fits_table-with_attr}
+use Rattle.widget_model.proofs.Fit.{is_fit-with_attr}
+use Rattle.widget_model.proofs.ChangedRows.{is_kind_of-map, Suits, Suits-change}
+use Rattle.widget_model.proofs.LeftRows.{all-kept}
 use Rattle.scene_model.proofs.Parents.{parent_of-found}
 use Rattle.scene_model.proofs.TopWidget.{top_is_on_top}
 use Rattle.desk_model.proofs.Sound.{names_window, AreWindows, IsSound, IsSound-desk, IsDesk-let_go}
-use Rattle.desk_model.proofs.KeptRows.{Suits, Suits-change, is_kind_of-map, IsSound-with_named}
-use Rattle.desk_model.proofs.KeptOut.{all-kept, AreOpenOnce-filter}
+use Rattle.desk_model.proofs.KeptRows.{IsSound-with_named}
+use Rattle.desk_model.proofs.KeptOut.{AreOpenOnce-filter}
 use Rattle.desk_model.proofs.KeptWindows.{none-left}
 use Rattle.desk_model.proofs.Rings.{AreRingsOf-with_ring}
 use Rattle.desk_model.proofs.TakenInputs.{HitsOpen, effects-taken}
@@ -61,14 +63,14 @@ with_attr-leaves attr v = record { client = λ row. refl; name = λ row. refl; k
 Suits-with_attr : (rows : List Row) (key : ℕ × List ℕ) (attr : Attr) (v : value.Value) (row : Row) → IsPlanted rows → is_ok (judged (domain_of row.kind attr) v) ≡ true → Suits rows key.0 key.1 row (with_attr attr v)
 Suits-with_attr rows key attr v row planted ok =
     Suits-change rows key.0 key.1 row (with_attr attr v) (record { leaves = with_attr-leaves attr v; attached = λ row. refl }) (λ row. refl) (λ row. refl) planted
-    (fits_table-with_attr row attr v (ok-is (judged (domain_of row.kind attr) v) ok)) (λ h. h) (λ h. h)
+    (is_fit-with_attr row attr v (ok-is (judged (domain_of row.kind attr) v) ok))
 
 IsSound-value : (desk : Desk) (key : ℕ × List ℕ) (attr : Attr) (v : value.Value) → IsSound desk → takes desk.rows key attr v ≡ true → IsSound (record desk { rows = with_value_at key attr v desk.rows })
 IsSound-value desk key attr v sound taken = by (row_named desk.rows key.0 key.1) refl taken
   where
     by : (o : Option Row) → row_named desk.rows key.0 key.1 ≡ o → is_kind_of (λ (kind : Kind). is_ok (judged (domain_of kind attr) v)) o ≡ true → IsSound (record desk { rows = with_value_at key attr v desk.rows })
     by None found h = absurd (true≢false (sym h))
-    by (Some row) found h = IsSound-with_named desk key.0 key.1 row (with_attr attr v) sound found (Suits-with_attr desk.rows key attr v row sound.rows.planted h) refl
+    by (Some row) found h = IsSound-with_named desk key.0 key.1 row (with_attr attr v) sound found (Suits-with_attr desk.rows key attr v row sound.rows.planted h) (λ h. h) refl
 
 pub takes-kept : (rows : List Row) (key other : ℕ × List ℕ) (attr asked : Attr) (v w : value.Value) → takes (with_value_at key attr v rows) other asked w ≡ takes rows other asked w
 takes-kept rows key other attr asked v w =
@@ -191,10 +193,10 @@ open-at desk i window there = by (is_open desk window.0 window.1) refl
 
 top-open : (desk : Desk) (key : ℕ × List ℕ) (x y : ℤ) → IsDesk desk → top_of (scene_of desk) x y ≡ Some key → is_open desk key.0 (root_key desk.rows key).1 ≡ true
 top-open desk key x y kept top =
-    let on = top_is_on_top (scene_of desk) key x y kept.planted kept.names top in
+    let on = top_is_on_top (scene_of desk) key x y kept.rows.planted kept.rows.names top in
     let at = find-element (λ (window : ℕ × List ℕ). shows_at (scene_of desk) window x y) desk.windows on.0 on.1.first in
     let is : names_window desk.rows on.0 ≡ true = all_at (names_window desk.rows) desk.windows at.0 on.0 kept.windows at.1 in
-    ap (λ (k : ℕ × List ℕ). is_open desk k.0 k.1) (on.1.under ∙ window-root desk.rows on.0 kept.planted is) ∙ open-at desk at.0 on.0 at.1
+    ap (λ (k : ℕ × List ℕ). is_open desk k.0 k.1) (on.1.under ∙ window-root desk.rows on.0 kept.rows.planted is) ∙ open-at desk at.0 on.0 at.1
 
 pub HitsOpen-hit_of : (desk : Desk) → IsDesk desk → HitsOpen desk (hit_of desk)
 unfolding hit_of
@@ -207,7 +209,7 @@ HitsOpen-hit_of desk kept = by (top_of (scene_of desk) (pos desk.pointer.x) (pos
 -- Each value that an input asks for is taken, and the window that it raises is open.
 pub AreTaken-input : (desk : Desk) (input : Input) → IsDesk desk → AreTaken desk (effects_on desk input)
 AreTaken-input desk input kept =
-    effects-taken desk (hit_of desk) (held_place desk) desk.shape.width desk.shape.height input (record { fits = kept.fitting; linked = kept.linked }) (HitsOpen-hit_of desk kept)
+    effects-taken desk (hit_of desk) (held_place desk) desk.shape.width desk.shape.height input (record { fits = kept.rows.fitting; linked = kept.rows.linked }) (HitsOpen-hit_of desk kept)
 
 -- What an input asks for leaves a sound desk.
 pub IsSound-carried_out : (desk : Desk) (effects : Effects) → IsSound desk → AreTaken desk effects → IsSound (carried_out effects desk)
@@ -219,6 +221,7 @@ IsSound-carried_out desk effects sound taken =
       clients = sound.clients;
       connected_once = sound.connected_once;
       rows = rows.rows;
+      by_kind = rows.by_kind;
       roster = rows.roster;
       rings = AreRingsOf-posts desk.clients desk.rows effects.posts desk.rings sound.rings;
       windows = AreWindows-raised (rows_after effects desk.rows) desk effects.raise rows.windows taken.raise;

@@ -3,6 +3,7 @@ use Rattle.std.proofs.Common.{◌≡◌, ℕ, Bool, true, not, ◌&&◌, List, [
 use Rattle.std.proofs.lemmas.Bool.{and_parts, not-false}
 use Rattle.kind_core.specs.declared.kinds.EventKind.{EventKind}
 use Rattle.cmd_words.specs.declared.replies.Refusal.TheVariants.{WrongKind}
+use Rattle.widget_model.specs.RowFacts.{links_right}
 use Rattle.widget_model.specs.Rows.{Row, with_link, with_binding}
 use Rattle.widget_model.specs.Named.{row_named, is_kind_of}
 use Rattle.widget_model.specs.Planted.{IsPlanted}
@@ -11,24 +12,22 @@ use Rattle.desk_model.specs.Refusals.{when, unless_there}
 use Rattle.desk_model.specs.Links.{link_refusal, link_effect, unlink_refusal, unlink_effect, step_link, step_unlink}
 use Rattle.desk_model.specs.Bindings.{bind_refusal, bind_effect, step_bind}
 use Rattle.widget_model.specs.Kinds.{can_link, is_variable_kind}
-use Rattle.desk_model.specs.DeskFacts.{links_right, links_by_kind}
+use Rattle.desk_model.specs.DeskFacts.{links_by_kind}
 use Rattle.widget_model.proofs.Hanging.{IsNamed-row_named}
 use Rattle.widget_model.proofs.Planting.{IsPlanted-change}
 use Rattle.desk_model.proofs.Sound.{IsSound, IsSound-outcome}
-use Rattle.desk_model.proofs.KeptRows.{Suits, Suits-change, IsSound-with_named}
+use Rattle.widget_model.proofs.Fit.{is_fit-with_binding}
+use Rattle.widget_model.proofs.ChangedRows.{Suits, Suits-change}
+use Rattle.desk_model.proofs.KeptRows.{IsSound-with_named}
 use Rattle.desk_model.proofs.Refusals.{passed, when-none, unless_there-none}
-use Rattle.desk_model.proofs.Tracks.{has_slots-with_binding}
 
-Suits-with_link : (rows : List Row) (client : ℕ) (name : List ℕ) (row : Row) (link : Option (List ℕ)) → IsPlanted rows → links_right rows (with_link link row) ≡ true → links_by_kind (with_link link row) ≡ true → Suits rows client name row (with_link link)
-Suits-with_link rows client name row link planted leads suits =
+Suits-with_link : (rows : List Row) (client : ℕ) (name : List ℕ) (row : Row) (link : Option (List ℕ)) → IsPlanted rows → links_right rows (with_link link row) ≡ true → Suits rows client name row (with_link link)
+Suits-with_link rows client name row link planted leads =
     record {
       leaves = record { client = λ row. refl; name = λ row. refl; kind = λ row. refl };
       planted = IsPlanted-change rows client name (with_link link) (record { leaves = record { client = λ row. refl; name = λ row. refl; kind = λ row. refl }; attached = λ row. refl }) planted;
       linked = λ h. leads;
-      linked_by_kind = λ h. suits;
       fitting = λ h. h;
-      rules = λ h. h;
-      slots = λ h. h;
       films = λ h. h;
     }
 
@@ -49,7 +48,7 @@ IsSound-link desk client name variable sound = IsSound-outcome desk (link_refusa
         let named = IsNamed-row_named desk.rows client name found.0 found.1 in
         let leads : links_right desk.rows (with_link (Some variable) found.0) ≡ true = rw named.client_is kinds.1 in
         let suits : links_by_kind (with_link (Some variable) found.0) ≡ true = sym (ap (is_kind_of can_link) found.1) ∙ kinds.0 in
-        IsSound-with_named desk client name found.0 (with_link (Some variable)) sound found.1 (Suits-with_link desk.rows client name found.0 (Some variable) sound.rows.planted leads suits) refl
+        IsSound-with_named desk client name found.0 (with_link (Some variable)) sound found.1 (Suits-with_link desk.rows client name found.0 (Some variable) sound.rows.planted leads) (λ h. suits) refl
 
 pub IsSound-unlink : (desk : Desk) (client : ℕ) (name : List ℕ) → IsSound desk → IsSound (step_unlink desk client name).1
 unfolding step_unlink
@@ -59,7 +58,7 @@ IsSound-unlink desk client name sound = IsSound-outcome desk (unlink_refusal des
     done none =
         let one = passed _ _ none in
         let found = unless_there-none (row_named desk.rows client name) one.0 in
-        IsSound-with_named desk client name found.0 (with_link None) sound found.1 (Suits-with_link desk.rows client name found.0 None sound.rows.planted refl refl) refl
+        IsSound-with_named desk client name found.0 (with_link None) sound found.1 (Suits-with_link desk.rows client name found.0 None sound.rows.planted refl) (λ h. refl) refl
 
 pub IsSound-bind : (desk : Desk) (client : ℕ) (name : List ℕ) (event : EventKind) (tag : Option (List ℕ)) → IsSound desk → IsSound (step_bind desk client name event tag).1
 unfolding step_bind
@@ -71,4 +70,4 @@ IsSound-bind desk client name event tag sound = IsSound-outcome desk (bind_refus
         let found = unless_there-none (row_named desk.rows client name) one.0 in
         IsSound-with_named desk client name found.0 (with_binding event tag) sound found.1
         (Suits-change desk.rows client name found.0 (with_binding event tag) (record { leaves = record { client = λ row. refl; name = λ row. refl; kind = λ row. refl }; attached = λ row. refl }) (λ row. refl) (λ row. refl) sound.rows.planted
-        (λ h. h) (λ h. h) (λ h. has_slots-with_binding event tag found.0 ∙ h)) refl
+        (is_fit-with_binding found.0 event tag)) (λ h. h) refl

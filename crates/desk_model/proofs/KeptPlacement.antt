@@ -18,7 +18,8 @@ use Rattle.desk_model.specs.Placement.{place_refusal, place_effect, lift_refusal
 use Rattle.widget_model.proofs.Cells.{CanHang}
 use Rattle.widget_model.proofs.Planting.{IsPlanted-detach, IsPlanted-attach}
 use Rattle.desk_model.proofs.Sound.{IsSound, IsSound-outcome}
-use Rattle.desk_model.proofs.KeptRows.{Suits, IsSound-with_named}
+use Rattle.widget_model.proofs.ChangedRows.{Suits}
+use Rattle.desk_model.proofs.KeptRows.{IsSound-with_named}
 use Rattle.desk_model.proofs.Refusals.{passed, when-none, unless_there-none, is_some-none}
 use Rattle.desk_model.proofs.PlaceOptions.{takes_cell-given}
 
@@ -28,10 +29,7 @@ Suits-with_attached rows client name row attached planted =
       leaves = record { client = λ row. refl; name = λ row. refl; kind = λ row. refl };
       planted = planted;
       linked = λ h. h;
-      linked_by_kind = λ h. h;
       fitting = λ h. h;
-      rules = λ h. h;
-      slots = λ h. h;
       films = λ h. h;
     }
 
@@ -81,7 +79,7 @@ IsSound-place desk client parent child options sound = IsSound-outcome desk (pla
     done none =
         let place = IsPlace-from desk client parent child options none in
         let planted = IsPlanted-attach desk.rows client parent child (cell_given options) place.upper place.lower sound.rows.names place.can sound.rows.planted in
-        IsSound-with_named desk client child place.lower (with_attached (Some (parent, cell_given options))) sound place.can.lower_there (Suits-with_attached desk.rows client child place.lower (Some (parent, cell_given options)) planted) refl
+        IsSound-with_named desk client child place.lower (with_attached (Some (parent, cell_given options))) sound place.can.lower_there (Suits-with_attached desk.rows client child place.lower (Some (parent, cell_given options)) planted) (λ h. h) refl
 
 pub IsSound-lift : (desk : Desk) (client : ℕ) (parent child : List ℕ) → IsSound desk → IsSound (step_lift desk client parent child).1
 unfolding step_lift
@@ -93,4 +91,4 @@ IsSound-lift desk client parent child sound = IsSound-outcome desk (lift_refusal
         let one = passed (unless_there (row_named desk.rows client parent)) (unless_there (row_named desk.rows client child) ∷ last ∷ []) none in
         let two = passed (unless_there (row_named desk.rows client child)) (last ∷ []) one.1 in
         let found = unless_there-none (row_named desk.rows client child) two.0 in
-        IsSound-with_named desk client child found.0 (with_attached None) sound found.1 (Suits-with_attached desk.rows client child found.0 None (IsPlanted-detach desk.rows client child sound.rows.planted)) refl
+        IsSound-with_named desk client child found.0 (with_attached None) sound found.1 (Suits-with_attached desk.rows client child found.0 None (IsPlanted-detach desk.rows client child sound.rows.planted)) (λ h. h) refl

@@ -24,6 +24,7 @@ IsSound-poll desk client sound =
       clients = sound.clients;
       connected_once = sound.connected_once;
       rows = sound.rows;
+      by_kind = sound.by_kind;
       roster = sound.roster;
       rings = AreRingsOf-with_ring desk.clients desk.rings client after_poll IsRing-after_poll sound.rings;
       windows = sound.windows;

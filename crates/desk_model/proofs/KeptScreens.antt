@@ -28,7 +28,8 @@ use Rattle.desk_model.specs.DeskFacts.{IsRosterOf}
 use Rattle.desk_model.proofs.Sound.{IsSound, IsSound-outcome}
 use Rattle.desk_model.proofs.Rosters.{set_aside, share_in, has_share, share_in-none}
 use Rattle.desk_model.proofs.Admissions.{IsRosterOf-admit, IsRosterOf-leave}
-use Rattle.desk_model.proofs.KeptRows.{Suits, IsSound-with_roster, IsSound-with_named}
+use Rattle.widget_model.proofs.ChangedRows.{Suits}
+use Rattle.desk_model.proofs.KeptRows.{IsSound-with_roster, IsSound-with_named}
 use Rattle.desk_model.proofs.Refusals.{passed, when-none, unless_there-none, unless_kind-none, unless_within-none}
 
 is_screen-kind : (kind : Kind) → is_screen kind ≡ true → kind ≡ VScreen
@@ -55,10 +56,7 @@ Suits-refilmed rows client name row give planted fit =
       leaves = LeavesNode-refilmed give;
       planted = IsPlanted-change rows client name (refilmed give) (record { leaves = LeavesNode-refilmed give; attached = λ row. refl }) planted;
       linked = λ h. h;
-      linked_by_kind = λ h. h;
       fitting = λ h. h;
-      rules = λ h. h;
-      slots = λ h. h;
       films = fit;
     }
 
@@ -94,7 +92,7 @@ IsSound-mode desk client name w h short sound = IsSound-outcome desk (mode_refus
         let high = unless_within-none 1 256 h four.0 in
         let film = blank_film (unsigned_abs w) (unsigned_abs h) in
         IsSound-with_named desk client name found.0 (refilmed (λ _. Some film)) sound found.1
-        (Suits-refilmed desk.rows client name found.0 (λ _. Some film) sound.rows.planted (λ _. (kind, IsFilm-blank_film (unsigned_abs w) (unsigned_abs h) wide.0 wide.1 high.0 high.1)))
+        (Suits-refilmed desk.rows client name found.0 (λ _. Some film) sound.rows.planted (λ _. (kind, IsFilm-blank_film (unsigned_abs w) (unsigned_abs h) wide.0 wide.1 high.0 high.1))) (λ h. h)
         (sym (share_in-none found.0 free))
 
 -- a new period of a film: its share is set aside then
@@ -143,7 +141,7 @@ IsSound-admit desk client name period sound = IsSound-outcome desk (admit_refusa
         let given : option_map_or (λ film. share_wanted film period) film 0 ≡ share_wanted has.0 period = ap (λ (o : Option FilmState). option_map_or (λ film. share_wanted film period) o 0) has.1 in
         IsSound-with_roster desk client name found.0 change (other_admissions client name desk.roster ++ admission_of desk client name period ∷ []) sound found.1
         (Suits-refilmed desk.rows client name found.0 (option_map (λ film. begun film ticks)) sound.rows.planted
-        (IsFitFilm-changed (λ film. begun film ticks) found.0 (λ film whole. IsFilm-begun film ticks whole (omega (arith, range.0)) range.1)))
+        (IsFitFilm-changed (λ film. begun film ticks) found.0 (λ film whole. IsFilm-begun film ticks whole (omega (arith, range.0)) range.1))) (λ h. h)
         (listed (option_map_or (λ film. share_wanted film period) film 0) found.0 has.0 found.1 is range.0 given within)
 
 is_admitted-settled : (row : Row) → is_admitted (with_film_changed settled row) ≡ false
@@ -163,7 +161,7 @@ IsSound-leave desk client name sound = IsSound-outcome desk (leave_refusal desk 
         let one = passed _ _ none in
         let found = unless_there-none (row_named desk.rows client name) one.0 in
         IsSound-with_roster desk client name found.0 (with_film_changed settled) (other_admissions client name desk.roster) sound found.1
-        (Suits-refilmed desk.rows client name found.0 (option_map settled) sound.rows.planted (IsFitFilm-changed settled found.0 IsFilm-settled))
+        (Suits-refilmed desk.rows client name found.0 (option_map settled) sound.rows.planted (IsFitFilm-changed settled found.0 IsFilm-settled)) (λ h. h)
         (IsRosterOf-leave (roster_limit desk) desk.rows desk.roster client name (with_film_changed settled) (LeavesNames-refilmed (option_map settled)) is_admitted-settled sound.roster)
 
 -- a frame leaves what is set aside
@@ -200,5 +198,5 @@ IsSound-frame desk client name frame sound = IsSound-outcome desk (frame_refusal
         let one = passed _ _ none in
         let found = unless_there-none (row_named desk.rows client name) one.0 in
         IsSound-with_named desk client name found.0 (with_film_changed (framed frame)) sound found.1
-        (Suits-refilmed desk.rows client name found.0 (option_map (framed frame)) sound.rows.planted (IsFitFilm-changed (framed frame) found.0 (IsFilm-framed frame)))
+        (Suits-refilmed desk.rows client name found.0 (option_map (framed frame)) sound.rows.planted (IsFitFilm-changed (framed frame) found.0 (IsFilm-framed frame))) (λ h. h)
         (share_in-changed (framed frame) found.0 (set_aside-framed frame))

@@ -11,19 +11,21 @@ use Rattle.widget_model.specs.Kinds.{any_kind, counts_with}
 use Rattle.widget_model.specs.Named.{row_named, rows_counted}
 use Rattle.widget_model.specs.Trees.{is_used}
 use Rattle.widget_model.specs.Planted.{IsPlanted}
-use Rattle.widget_model.specs.Fitting.{fits_rules, has_slots}
 use Rattle.widget_model.specs.Clients.{is_joined}
 use Rattle.desk_model.specs.Desk.{Desk, is_connected, is_open}
 use Rattle.desk_model.specs.AttrOptions.{attrs_refusal, with_attrs}
+use Rattle.desk_model.specs.DeskFacts.{links_by_kind}
 use Rattle.desk_model.specs.WidgetCommands.{new_refusal, new_effect, set_refusal, set_effect, get_refusal, get_effect, drop_refusal, drop_effect, step_new, step_set, step_get, step_drop}
 use Rattle.desk_model.proofs.Sound.{IsSound, IsSound-outcome}
 use Rattle.desk_model.proofs.Rosters.{set_aside}
-use Rattle.desk_model.proofs.KeptRows.{Suits, Suits-change, IsSound-with_named}
-use Rattle.desk_model.proofs.KeptNew.{IsNew, IsSound-push}
+use Rattle.desk_model.proofs.KeptRows.{IsSound-with_named}
+use Rattle.desk_model.proofs.KeptNew.{IsSound-push}
 use Rattle.desk_model.proofs.KeptOut.{IsSound-remove}
 use Rattle.desk_model.proofs.Refusals.{passed, when-none, unless_there-none, is_some-none}
-use Rattle.widget_model.proofs.ValuesFit.{fits_table-new}
-use Rattle.desk_model.proofs.AttrOptions.{fits_table-with_attrs, same-with_attrs}
+use Rattle.widget_model.proofs.Fit.{is_fit-new}
+use Rattle.widget_model.proofs.ChangedRows.{Suits, Suits-change}
+use Rattle.widget_model.proofs.NewRows.{IsNew}
+use Rattle.desk_model.proofs.AttrOptions.{is_fit-with_attrs, same-with_attrs}
 
 IsNew-new_row : (clients : List ℕ) (rows : List Row) (client : ℕ) (name : List ℕ) (kind : Kind) → is_joined clients client ≡ true → row_named rows client name ≡ None → nat_le 128 (rows_counted client any_kind rows) ≡ false → nat_le 8 (rows_counted client (counts_with kind) rows) ≡ false → IsNew clients rows (new_row client name kind)
 unfolding new_row
@@ -35,9 +37,7 @@ IsNew-new_row clients rows client name kind joined free few few_alike =
       few_alike = leb-false 8 (rows_counted client (counts_with kind) rows) few_alike;
       loose = refl;
       unlinked = refl;
-      fitting = fits_table-new client name kind;
-      rules = refl;
-      slots = refl;
+      fitting = is_fit-new client name kind;
       no_film = refl;
     }
 
@@ -62,8 +62,7 @@ Suits-with_attrs rows client name options row planted none =
       leaves = record { client = λ row. same-with_attrs (λ (row : Row). row.client) (λ attr v row. refl) options row; name = λ row. same-with_attrs (λ (row : Row). row.name) (λ attr v row. refl) options row; kind = λ row. same-with_attrs (λ (row : Row). row.kind) (λ attr v row. refl) options row };
       attached = λ row. same-with_attrs (λ (row : Row). row.attached) (λ attr v row. refl) options row;
     })
-    (same-with_attrs (λ (row : Row). row.link) (λ attr v row. refl) options) (same-with_attrs (λ (row : Row). row.film) (λ attr v row. refl) options) planted (fits_table-with_attrs options row none)
-    (λ h. same-with_attrs fits_rules (λ attr v row. refl) options row ∙ h) (λ h. same-with_attrs has_slots (λ attr v row. refl) options row ∙ h)
+    (same-with_attrs (λ (row : Row). row.link) (λ attr v row. refl) options) (same-with_attrs (λ (row : Row). row.film) (λ attr v row. refl) options) planted (is_fit-with_attrs options row none)
 
 pub IsSound-set : (desk : Desk) (client : ℕ) (name : List ℕ) (options : List (Attr × value.Value)) → IsSound desk → IsSound (step_set desk client name options).1
 unfolding step_set
@@ -75,7 +74,7 @@ IsSound-set desk client name options sound = IsSound-outcome desk (set_refusal d
         let two = passed _ _ one.1 in
         let found = unless_there-none (row_named desk.rows client name) one.0 in
         let taken : attrs_refusal found.0.kind options ≡ None = sym (ap (λ (o : Option Row). option_and_then (λ (row : Row). attrs_refusal row.kind options) o) found.1) ∙ two.0 in
-        IsSound-with_named desk client name found.0 (with_attrs options) sound found.1 (Suits-with_attrs desk.rows client name options found.0 sound.rows.planted taken)
+        IsSound-with_named desk client name found.0 (with_attrs options) sound found.1 (Suits-with_attrs desk.rows client name options found.0 sound.rows.planted taken) (λ h. same-with_attrs links_by_kind (λ attr v row. refl) options found.0 ∙ h)
         (ap (λ (film : Option FilmState). option_and_then set_aside film) (same-with_attrs (λ (row : Row). row.film) (λ attr v row. refl) options found.0))
 
 pub IsSound-get : (desk : Desk) (client : ℕ) (name : List ℕ) (attr : Attr) → IsSound desk → IsSound (step_get desk client name attr).1

@@ -10,7 +10,8 @@ use Rattle.desk_model.specs.Desk.{Desk, is_open, is_window}
 use Rattle.desk_model.specs.Refusals.{when, unless_there, unless_kind}
 use Rattle.desk_model.specs.Windows.{open_refusal, open_effect, step_open, unless_open, close_effect, step_close, top_effect, step_top}
 use Rattle.desk_model.proofs.Sound.{IsSound, IsSound-outcome}
-use Rattle.desk_model.proofs.KeptOut.{all-kept, AreOpenOnce-filter}
+use Rattle.widget_model.proofs.LeftRows.{all-kept}
+use Rattle.desk_model.proofs.KeptOut.{AreOpenOnce-filter}
 use Rattle.desk_model.proofs.Refusals.{passed, when-none, unless_kind-none}
 
 pub IsSound-open : (desk : Desk) (client : ℕ) (name : List ℕ) → IsSound desk → IsSound (step_open desk client name).1
@@ -28,6 +29,7 @@ IsSound-open desk client name sound = IsSound-outcome desk (open_refusal desk cl
           clients = sound.clients;
           connected_once = sound.connected_once;
           rows = sound.rows;
+          by_kind = sound.by_kind;
           roster = sound.roster;
           rings = sound.rings;
           windows = record {
@@ -56,6 +58,7 @@ IsSound-close desk client name sound = IsSound-outcome desk (unless_open desk cl
           clients = sound.clients;
           connected_once = sound.connected_once;
           rows = sound.rows;
+          by_kind = sound.by_kind;
           roster = sound.roster;
           rings = sound.rings;
           windows = record {
@@ -78,6 +81,7 @@ IsSound-top desk client name sound = IsSound-outcome desk (unless_open desk clie
           clients = sound.clients;
           connected_once = sound.connected_once;
           rows = sound.rows;
+          by_kind = sound.by_kind;
           roster = sound.roster;
           rings = sound.rings;
           windows = record {

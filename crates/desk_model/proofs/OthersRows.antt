@@ -1,11 +1,10 @@
 -- A change of one client's widgets leaves the other clients' rows.
 use Rattle.std.proofs.Common.{◌≡◌, ℕ, Bool, true, false, cond, ◌&&◌, not, nat_eq, List, [], ◌∷◌, ◌++◌, refl, sym, ◌∙◌}
-use Rattle.std.proofs.lemmas.Bool.{true≢false, eqb-true, eqb-false, eq-eqb, ne_eqb}
+use Rattle.std.proofs.lemmas.Bool.{true≢false, eqb-false, eq-eqb, ne_eqb}
 use Rattle.std.proofs.Math.Bool.{or-false}
 use Rattle.std.proofs.lemmas.List.{append-nil}
 use Rattle.std.proofs.lemmas.List.Elements.{filter-append}
 use Rattle.std.proofs.lemmas.List.Folds.{list_any-append}
-use Rattle.std.proofs.lemmas.Map.Views.{any-filter_same}
 use Rattle.std.specs.List.{filter, list_any}
 use Rattle.std.specs.Str.{bytes_eq}
 use Rattle.kind_core.specs.declared.kinds.Kind.{Kind}
@@ -90,7 +89,3 @@ windows_of_others-without client name windows = filter-within (λ window. not (i
 pub list_any-push_other : (client other : ℕ) (clients : List ℕ) → nat_eq client other ≡ false → list_any (nat_eq other) (clients ++ client ∷ []) ≡ list_any (nat_eq other) clients
 list_any-push_other client other clients differ =
     list_any-append (nat_eq other) clients (client ∷ []) ∙ rw (ne_eqb other client (λ e. eqb-false client other differ (sym e))) (or-false (list_any (nat_eq other) clients))
-
-pub list_any-without_other : (client other : ℕ) (clients : List ℕ) → nat_eq client other ≡ false → list_any (nat_eq other) (filter (λ joined. not (nat_eq client joined)) clients) ≡ list_any (nat_eq other) clients
-list_any-without_other client other clients differ =
-    any-filter_same (nat_eq other) (λ joined. not (nat_eq client joined)) true (λ joined e. rw (← eqb-true other joined e, differ) refl) clients

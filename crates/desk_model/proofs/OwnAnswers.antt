@@ -83,7 +83,7 @@ answer-admit one two client name period is_one is_two agree =
     kept = rw limit is_two.roster
 
     others : shares_of (other_admissions client name one.roster) ≡ shares_of (other_admissions client name two.roster)
-    others = other_shares-agree client name (roster_limit one) one.rows two.rows one.roster two.roster is_one.names is_two.names is_one.roster kept agree.rows agree.others_shares
+    others = other_shares-agree client name (roster_limit one) one.rows two.rows one.roster two.roster is_one.rows.names is_two.rows.names is_one.roster kept agree.rows agree.others_shares
 
     fits : (share : ℕ) → unless_share_fits one client name share ≡ unless_share_fits two client name share
     fits share = ap (λ (most : ℕ). unless_total most (shares_of (other_admissions client name one.roster)) share) limit ∙ ap (λ (total : ℕ). unless_total (roster_limit two) total share) others

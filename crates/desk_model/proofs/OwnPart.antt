@@ -38,8 +38,9 @@ use Rattle.desk_model.specs.LetGo.{is_in_window, grab_left, focus_left, let_go}
 use Rattle.widget_model.specs.Trees.{root_of, most_levels}
 use Rattle.desk_model.specs.OwnPart.{own_windows, windows_of_others, IsGrabOf, IsFocusOf, LeavesPointer, LeavesOthers, admissions_of_others, CommandsLeaveOthers, ConnectsLeaveOthers, HellosLeaveOthers, ByesLeaveOthers, AnswersDependOnOwnPart, ConnectsDependOnOwnPart, ByesDependOnOwnPart}
 use Rattle.widget_model.specs.Named.{own_rows}
-use Rattle.desk_model.proofs.OthersRows.{filter-filter, filter-within, rows_of_others-with_named, rows_of_others-without_named, rows_of_others-push, client-new_row, client-with_attrs, windows_of_others-cons, windows_of_others-without, list_any-push_other, list_any-without_other}
+use Rattle.desk_model.proofs.OthersRows.{filter-filter, filter-within, rows_of_others-with_named, rows_of_others-without_named, rows_of_others-push, client-new_row, client-with_attrs, windows_of_others-cons, windows_of_others-without, list_any-push_other}
 use Rattle.widget_model.proofs.OwnRows.{list_any-agree, root_in-agree}
+use Rattle.widget_model.proofs.LeftRows.{list_any-without_other}
 use Rattle.desk_model.proofs.OthersAdmissions.{rings_of_others, admissions_of_others-without, admissions_of_others-push, rings_of_others-push, rings_of_others-with_ring}
 use Rattle.desk_model.proofs.OwnAnswers.{answer-outcome, answer-row}
 

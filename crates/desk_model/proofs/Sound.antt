@@ -1,38 +1,21 @@
 -- What holds of a desk but for its pointer, and that a desk of which it holds is a whole one once the pointer has
 -- let go.
-use Rattle.std.proofs.Common.{◌≡◌, ◌≤◌, ℕ, Bool, true, false, cond, List, Option, Some, None, refl, ap₂}
+use Rattle.std.proofs.Common.{◌≡◌, ℕ, Bool, true, false, cond, List, Option, Some, None, refl, ap₂}
 use Rattle.std.specs.List.{list_all}
-use Rattle.kind_core.specs.declared.kinds.Kind.{Kind}
 use Rattle.cmd_words.specs.declared.replies.Reply.{Reply}
 use Rattle.cmd_words.specs.declared.replies.Refusal.{Refusal}
+use Rattle.widget_model.specs.RowFacts.{AreRows}
 use Rattle.widget_model.specs.Pointer.{Grab, no_grab, on_widget, drags}
 use Rattle.scene_model.specs.Shapes.{IsShape}
 use Rattle.widget_model.specs.Rows.{Row}
-use Rattle.widget_model.specs.Kinds.{any_kind, counts_with, is_window_kind}
-use Rattle.widget_model.specs.Named.{row_named, rows_counted, is_kind_of}
-use Rattle.widget_model.specs.Clients.{is_joined, is_client}
-use Rattle.widget_model.specs.Planted.{IsPlanted}
-use Rattle.widget_model.specs.Fitting.{fits_table, fits_rules, has_slots, HaveFitFilms}
+use Rattle.widget_model.specs.Kinds.{is_window_kind}
+use Rattle.widget_model.specs.Named.{row_named, is_kind_of}
+use Rattle.widget_model.specs.Clients.{is_client}
 use Rattle.desk_model.specs.Desk.{Desk}
 use Rattle.desk_model.specs.LetGo.{is_in_window, grab_left, focus_left, let_go}
 use Rattle.desk_model.specs.Refusals.{outcome}
 use Rattle.desk_model.specs.Screens.{roster_limit}
-use Rattle.desk_model.specs.DeskFacts.{AreConnectedOnce, AreOpenOnce, links_right, links_by_kind, IsRosterOf, AreRingsOf, IsDesk}
-use Rattle.widget_model.specs.Named.{AreNamedApart}
-
--- what holds of the rows, where these clients are connected
-pub record AreRows (clients : List ℕ) (rows : List Row) : Type 0 where
-  pub owners : list_all (λ (row : Row). is_joined clients row.client) rows ≡ true
-  pub names : AreNamedApart rows
-  pub most : (client : ℕ) → rows_counted client any_kind rows ≤ 128
-  pub most_alike : (client : ℕ) (kind : Kind) → rows_counted client (counts_with kind) rows ≤ 8
-  pub planted : IsPlanted rows
-  pub linked : list_all (links_right rows) rows ≡ true
-  pub linked_by_kind : list_all links_by_kind rows ≡ true
-  pub fitting : list_all fits_table rows ≡ true
-  pub rules : list_all fits_rules rows ≡ true
-  pub slots : list_all has_slots rows ≡ true
-  pub films : HaveFitFilms rows
+use Rattle.desk_model.specs.DeskFacts.{AreConnectedOnce, AreOpenOnce, links_by_kind, IsRosterOf, AreRingsOf, IsDesk}
 
 -- whether the window is one of the rows, and a Window
 abbrev pub names_window : List Row → ℕ × List ℕ → Bool
@@ -48,6 +31,7 @@ pub record IsSound (desk : Desk) : Type 0 where
   pub clients : list_all is_client desk.clients ≡ true
   pub connected_once : AreConnectedOnce desk.clients
   pub rows : AreRows desk.clients desk.rows
+  pub by_kind : list_all links_by_kind desk.rows ≡ true
   pub roster : IsRosterOf (roster_limit desk) desk.rows desk.roster
   pub rings : AreRingsOf desk.clients desk.rings
   pub windows : AreWindows desk.rows desk.windows
@@ -58,19 +42,8 @@ IsSound-desk desk kept =
       shape = kept.shape;
       clients = kept.clients;
       connected_once = kept.connected_once;
-      rows = record {
-        owners = kept.owners;
-        names = kept.names;
-        most = kept.most;
-        most_alike = kept.most_alike;
-        planted = kept.planted;
-        linked = kept.linked;
-        linked_by_kind = kept.linked_by_kind;
-        fitting = kept.fitting;
-        rules = kept.rules;
-        slots = kept.slots;
-        films = kept.films;
-      };
+      rows = kept.rows;
+      by_kind = kept.linked_by_kind;
       roster = kept.roster;
       rings = kept.rings;
       windows = record { there = kept.windows; once = kept.once };
@@ -82,17 +55,8 @@ IsDesk-sound desk sound held =
       shape = sound.shape;
       clients = sound.clients;
       connected_once = sound.connected_once;
-      owners = sound.rows.owners;
-      names = sound.rows.names;
-      most = sound.rows.most;
-      most_alike = sound.rows.most_alike;
-      planted = sound.rows.planted;
-      linked = sound.rows.linked;
-      linked_by_kind = sound.rows.linked_by_kind;
-      fitting = sound.rows.fitting;
-      rules = sound.rows.rules;
-      slots = sound.rows.slots;
-      films = sound.rows.films;
+      rows = sound.rows;
+      linked_by_kind = sound.by_kind;
       roster = sound.roster;
       rings = sound.rings;
       windows = sound.windows.there;
@@ -130,7 +94,7 @@ let_go-again desk =
 
 pub IsSound-let_go : (desk : Desk) → IsSound desk → IsSound (let_go desk)
 unfolding let_go
-IsSound-let_go desk sound = record { shape = sound.shape; clients = sound.clients; connected_once = sound.connected_once; rows = sound.rows; roster = sound.roster; rings = sound.rings; windows = sound.windows }
+IsSound-let_go desk sound = record { shape = sound.shape; clients = sound.clients; connected_once = sound.connected_once; rows = sound.rows; by_kind = sound.by_kind; roster = sound.roster; rings = sound.rings; windows = sound.windows }
 
 -- so each event ends with a whole desk
 pub IsDesk-let_go : (desk : Desk) → IsSound desk → IsDesk (let_go desk)

@@ -22,15 +22,15 @@ use Rattle.geom_core.specs.declared.rectangle.Rect.{Rect}
 use Rattle.cmd_words.specs.declared.inputs.Input.{Input}
 use Rattle.cmd_words.specs.declared.inputs.Input.TheVariants as input
 use Rattle.look_core.specs.Knob.{trough_length}
+use Rattle.widget_model.specs.RowFacts.{links_right}
 use Rattle.widget_model.specs.Rows.{Row, attr_of}
 use Rattle.widget_model.specs.Kinds.{is_variable_kind}
 use Rattle.widget_model.specs.Named.{has_name, row_named, is_kind_of}
-use Rattle.widget_model.specs.Fitting.{fits_attr, fits_table}
+use Rattle.widget_model.specs.Fitting.{fits_attr, fits_table, is_fit}
 use Rattle.widget_model.specs.Keys.{key_of, row_of, root_key}
 use Rattle.widget_model.specs.Pointer.{Pointer, Grab, no_grab, on_widget, drags}
 use Rattle.scene_model.specs.Values.{number_of, count_of, text_of, caret_of, is_vertical}
 use Rattle.desk_model.specs.Desk.{Desk, is_open}
-use Rattle.desk_model.specs.DeskFacts.{links_right}
 use Rattle.desk_model.specs.InputEffects.{Hit, Effects, only_pointer, posted, at_widget, local_x, local_y}
 use Rattle.desk_model.specs.InputEdits.{Edit, typed, erased, stepped_back, stepped_on, edit_of, caret_at}
 use Rattle.desk_model.specs.InputValues.{value_at, knob_start, knob_length, greatest_value, pointed_place, pointed_value, shown_value, value_key, valued}
@@ -38,6 +38,7 @@ use Rattle.desk_model.specs.InputTable.{dragged, drag_on, motion_on, motion_by, 
 use Rattle.desk_model.specs.Inputs.{effects_of}
 use Rattle.desk_model.specs.InputFacts.{takes, AreTaken}
 use Rattle.widget_model.proofs.Hanging.{all_at, find-element}
+use Rattle.widget_model.proofs.Fit.{IsFit-is_fit}
 use Rattle.scene_model.proofs.Parents.{key_of-found, row_of-own}
 use Rattle.desk_model.proofs.Shares.{share}
 use Rattle.desk_model.proofs.Texts.{is_text-insert, is_text-remove}
@@ -90,10 +91,10 @@ pub record IsRowOf (rows : List Row) (row : Row) : Type 0 where
   pub fits : fits_table row ≡ true
   pub linked : links_right rows row ≡ true
 
-pub IsRowOf-found : (rows : List Row) (key : ℕ × List ℕ) (row : Row) → list_all fits_table rows ≡ true → list_all (links_right rows) rows ≡ true → row_of rows key ≡ Some row → IsRowOf rows row
+pub IsRowOf-found : (rows : List Row) (key : ℕ × List ℕ) (row : Row) → list_all is_fit rows ≡ true → list_all (links_right rows) rows ≡ true → row_of rows key ≡ Some row → IsRowOf rows row
 IsRowOf-found rows key row fits linked found =
     let at = find-element (has_name key.0 key.1) rows row found in
-    record { own = row_of-own rows key row found; fits = all_at fits_table rows at.0 row fits at.1; linked = all_at (links_right rows) rows at.0 row linked at.1 }
+    record { own = row_of-own rows key row found; fits = (IsFit-is_fit row (all_at is_fit rows at.0 row fits at.1)).table; linked = all_at (links_right rows) rows at.0 row linked at.1 }
 
 takes-at : (rows : List Row) (row : Row) (kind : Kind) (attr : Attr) (v : value.Value) → IsRowOf rows row → row.kind ≡ kind → is_ok (judged (domain_of kind attr) v) ≡ true → takes rows (key_of row) attr v ≡ true
 takes-at rows row kind attr v good is ok =
@@ -205,7 +206,7 @@ motion_on-taken desk _ pointer place row good is = only-taken desk pointer
 
 -- what holds of all rows
 pub record AreGood (rows : List Row) : Type 0 where
-  pub fits : list_all fits_table rows ≡ true
+  pub fits : list_all is_fit rows ≡ true
   pub linked : list_all (links_right rows) rows ≡ true
 
 -- what happens to the row with a key

@@ -2,18 +2,16 @@
 use Rattle.std.specs.Prelude.{ℕ, ◌≡◌, ◌≤◌, Bool, true, false, not, ◌&&◌, ◌||◌, nat_lt, nat_eq, is_none, List, [], ◌∷◌, map}
 use Rattle.std.specs.List.{list_all, list_any, All}
 use Rattle.std.specs.Option.{option_map_or}
-use Rattle.kind_core.specs.declared.kinds.Kind.{Kind}
 use Rattle.bind_core.specs.Ring.{IsRing}
 use Rattle.vscreen_core.specs.Band.{share_of}
 use Rattle.scene_model.specs.Shapes.{IsShape}
 use Rattle.widget_model.specs.Rows.{Row}
-use Rattle.widget_model.specs.Kinds.{any_kind, counts_with, can_link, is_variable_kind, is_window_kind}
-use Rattle.widget_model.specs.Named.{row_named, rows_counted, is_kind_of, AreNamedApart}
+use Rattle.widget_model.specs.Kinds.{can_link, is_window_kind}
+use Rattle.widget_model.specs.Named.{row_named, is_kind_of}
 use Rattle.widget_model.specs.Trees.{is_admitted}
 use Rattle.widget_model.specs.Clients.{is_joined, is_client}
-use Rattle.widget_model.specs.Planted.{IsPlanted}
-use Rattle.widget_model.specs.Fitting.{fits_table, fits_rules, has_slots, HaveFitFilms}
-use Rattle.desk_model.specs.Desk.{Desk, Admission, Ring, is_connected, is_window, is_admission}
+use Rattle.widget_model.specs.RowFacts.{AreRows}
+use Rattle.desk_model.specs.Desk.{Desk, Admission, Ring, is_window, is_admission}
 use Rattle.desk_model.specs.Screens.{film_named, shares_of, roster_limit}
 use Rattle.desk_model.specs.LetGo.{let_go}
 
@@ -21,10 +19,6 @@ use Rattle.desk_model.specs.LetGo.{let_go}
 abbrev pub AreConnectedOnce : List ℕ → Type 0
 AreConnectedOnce [] = Unit {0}
 AreConnectedOnce (client ∷ clients) = (is_joined clients client ≡ false) × AreConnectedOnce clients
-
--- A link leads to a Variable of the same client.
-abbrev pub links_right : List Row → Row → Bool
-links_right rows row = option_map_or (λ name. is_kind_of is_variable_kind (row_named rows row.client name)) row.link true
 
 -- Only a row whose kind can be linked has a link.
 abbrev pub links_by_kind : Row → Bool
@@ -69,18 +63,8 @@ pub record IsDesk (desk : Desk) : Type 0 where
   pub shape : IsShape desk.shape
   pub clients : list_all is_client desk.clients ≡ true
   pub connected_once : AreConnectedOnce desk.clients
-  pub owners : list_all (λ row. is_connected desk row.client) desk.rows ≡ true
-  pub names : AreNamedApart desk.rows
-  pub most : (client : ℕ) → rows_counted client any_kind desk.rows ≤ 128
-  pub most_alike : (client : ℕ) (kind : Kind) → rows_counted client (counts_with kind) desk.rows ≤ 8
-  pub planted : IsPlanted desk.rows
-  pub linked : list_all (links_right desk.rows) desk.rows ≡ true
+  pub rows : AreRows desk.clients desk.rows
   pub linked_by_kind : list_all links_by_kind desk.rows ≡ true
-  pub fitting : list_all fits_table desk.rows ≡ true
-  pub rules : list_all fits_rules desk.rows ≡ true
-  pub slots : list_all has_slots desk.rows ≡ true
-  -- only a VScreen has a film, and it is a whole one
-  pub films : HaveFitFilms desk.rows
   pub roster : IsRosterOf (roster_limit desk) desk.rows desk.roster
   pub rings : AreRingsOf desk.clients desk.rings
   -- an open window is one of the Windows, and is open once

@@ -1,7 +1,7 @@
 -- How a player goes through bytes, one after another.
 use Rattle.std.proofs.lemmas.Bool.Decides.{nat_tests}
 use Rattle.memchr.specs.Find.{IsFirstByte, is_byte}
-use Rattle.std.proofs.lemmas.Bool.{eqb-true}
+use Rattle.std.proofs.lemmas.Bool.{eqb-true, or_parts, false_from_ne_true}
 use Rattle.std.proofs.Common.{zero, suc, Option, None, MatchOption, ◌==◌, ◌≡◌, ℕ, ◌+◌, ◌-◌, ◌≤◌, ◌<◌, ◌≢◌, min, Bool, true, false, ◌||◌, List, [], ◌∷◌, ◌++◌, length, take, drop, get_or, Some, refl, sym, ap, subst, ◌∙◌, inl, inr, arith, lit≤, append-nil, append_assoc, length-append}
 use Rattle.outside_io.specs.Outbox.{Output, Puts}
 use Rattle.std.proofs.lemmas.List.Elements.{All-nil, All-cons}
@@ -246,14 +246,10 @@ item_whole old bytes payload waits is =
 has_feed-append : (line bytes : List ℕ) → has_feed line ≡ false → has_feed bytes ≡ false → has_feed (line ++ bytes) ≡ false
 has_feed-append line bytes clear others = list_any-append _ line bytes ∙ grind (arith, nat_tests)
 
-no_first : (a b : Bool) → (a || b) ≡ false → a ≡ false
-no_first false b e = refl
-no_first true b e = cc
-
 -- a front of bytes without a line feed has none
-has_feed-take : (n : ℕ) (bytes : List ℕ) → has_feed bytes ≡ false → has_feed (take n bytes) ≡ false
+pub has_feed-take : (n : ℕ) (bytes : List ℕ) → has_feed bytes ≡ false → has_feed (take n bytes) ≡ false
 has_feed-take n bytes clear =
-    no_first (has_feed (take n bytes)) (has_feed (drop n bytes)) (sym (list_any-append _ (take n bytes) (drop n bytes)) ∙ ap has_feed (take-append-drop n bytes) ∙ clear)
+    (or_parts (has_feed (take n bytes)) (has_feed (drop n bytes)) (sym (list_any-append _ (take n bytes) (drop n bytes)) ∙ ap has_feed (take-append-drop n bytes) ∙ clear)).0
 
 -- bytes too many for a line
 pub fed_too_long : (old : Player) (bytes : List ℕ) (new : Player) (out : Output) → old.wants ≡ 0 → IsLine old.line.items → has_feed bytes ≡ false → 520 < length old.line.items + length bytes → new.server.state ≡ old.server.state → new.lines ≡ old.lines → Fed (BadScript (old.lines + 1)) old bytes new out out
@@ -386,10 +382,6 @@ fed_item_cut cut item old new bytes count before after is whole done =
 
 -- ---- where the first line feed is
 
-not_so : (b : Bool) → (b ≡ true → ⊥) → b ≡ false
-not_so false never = refl
-not_so true never = absurd (never refl)
-
 -- no line feed below there
 clear_below : (n : ℕ) (bytes : List ℕ) → n ≤ length bytes → ((k : ℕ) → k < n → (get_or bytes k 0 == 10) ≡ true → ⊥) → has_feed (take n bytes) ≡ false
 clear_below zero bytes fits none = refl
@@ -397,7 +389,7 @@ clear_below (suc n) bytes fits none =
     let inside : n < length bytes = omega arith in
     let on : suc n ≡ n + 1 = omega arith in
     let front : has_feed (take n bytes) ≡ false = clear_below n bytes (omega arith) (λ k below. none k (omega arith)) in
-    let here : (get_or bytes n 0 == 10) ≡ false = not_so _ (none n (omega arith)) in
+    let here : (get_or bytes n 0 == 10) ≡ false = false_from_ne_true _ (none n (omega arith)) in
     ap (λ m. has_feed (take m bytes)) on ∙ list_any_more (λ byte. byte == 10) bytes n 0 inside ∙ ap (λ b. b || (get_or bytes n 0 == 10)) front ∙ here
 
 -- what a search for a line feed says

@@ -13,7 +13,7 @@ use Rattle.script_lines.proofs.Telling.{each_line_is_told}
 use Rattle.dope_run.specs.Framing.{Item, IsItem, IsLine, IsPartial, bytes_of, has_feed, line_limit}
 use Rattle.dope_run.specs.Script.{AskFor, events_of_order, BeginsOff}
 use Rattle.dope_run.proofs.Reading.{AskFor-nil, AskFor-cons}
-use Rattle.dope_run.proofs.Feedings.{bytes_of-nil, bytes_of-cons}
+use Rattle.dope_run.proofs.Feedings.{bytes_of-nil, bytes_of-cons, has_feed-take}
 
 pub record LinesOf (bytes : List ℕ) : Type 0 where
   pub items : List Item
@@ -40,13 +40,6 @@ first_line_by byte bytes false behind is has =
 first_line : (bytes : List ℕ) → has_feed bytes ≡ true → FirstLine bytes
 first_line [] has = cc
 first_line (byte ∷ bytes) has = first_line_by byte bytes (byte == 10) (first_line bytes) refl has
-
--- no part of bytes without a line feed has one
-has_feed-take : (n : ℕ) (bytes : List ℕ) → has_feed bytes ≡ false → has_feed (take n bytes) ≡ false
-has_feed-take n bytes clear =
-    let parts = ap has_feed (take-append-drop n bytes) ∙ clear in
-    let joined = sym (list_any-append (λ byte. byte == 10) (take n bytes) _) ∙ parts in
-    grind arith
 
 -- nothing is read
 none_of : (bytes : List ℕ) → IsPartial bytes ⊎ BeginsOff bytes → LinesOf bytes

@@ -1,10 +1,12 @@
 -- The bytes of a script are read in one way.
 use Rattle.std.proofs.Common.{subst, ◌≡◌, ◌⊎◌, ◌==◌, ℕ, suc, ◌+◌, ◌-◌, ◌≤◌, Bool, true, false, ◌||◌, List, [], ◌∷◌, ◌++◌, length, take, refl, sym, ap, ◌∙◌, inl, inr, arith, append_assoc, length-append}
 use Rattle.std.specs.List.{All}
+use Rattle.std.proofs.Math.Bool.{or-true}
 use Rattle.std.proofs.lemmas.Bool.Decides.{nat_tests}
 use Rattle.std.proofs.Math.Seq.{take-append-add}
 use Rattle.std.proofs.lemmas.List.Elements.{All-head, All-tail}
 use Rattle.std.proofs.lemmas.List.Folds.{list_any-append}
+use Rattle.cmd_text.proofs.Settling.{heads, tails}
 use Rattle.machine_model.specs.Events.{Event}
 use Rattle.script_lines.specs.declared.order.Order.{Order}
 use Rattle.script_lines.specs.Lines.{asks, IsOff}
@@ -20,29 +22,19 @@ feed_first x xs is clear = grind (arith, nat_tests)
 feed_behind : (x : ℕ) (xs : List ℕ) → has_feed (x ∷ xs) ≡ false → has_feed xs ≡ false
 feed_behind x xs clear = grind (arith, nat_tests)
 
-head_of : (x y : ℕ) (xs ys : List ℕ) → x ∷ xs ≡ y ∷ ys → x ≡ y
-head_of x y xs ys e = cc
-
-tail_of : (x y : ℕ) (xs ys : List ℕ) → x ∷ xs ≡ y ∷ ys → xs ≡ ys
-tail_of x y xs ys e = cc
-
 -- bytes have one first line feed
 pub one_first_feed : (l m x y : List ℕ) → has_feed l ≡ false → has_feed m ≡ false → l ++ 10 ∷ x ≡ m ++ 10 ∷ y → (l ≡ m) × (x ≡ y)
-one_first_feed [] [] x y cl cm e = (refl, tail_of 10 10 x y e)
-one_first_feed [] (b ∷ m) x y cl cm e = absurd (feed_first b m (sym (head_of 10 b x (m ++ 10 ∷ y) e)) cm)
-one_first_feed (a ∷ l) [] x y cl cm e = absurd (feed_first a l (head_of a 10 (l ++ 10 ∷ x) y e) cl)
+one_first_feed [] [] x y cl cm e = (refl, tails 10 10 x y e)
+one_first_feed [] (b ∷ m) x y cl cm e = absurd (feed_first b m (sym (heads 10 b x (m ++ 10 ∷ y) e)) cm)
+one_first_feed (a ∷ l) [] x y cl cm e = absurd (feed_first a l (heads a 10 (l ++ 10 ∷ x) y e) cl)
 one_first_feed (a ∷ l) (b ∷ m) x y cl cm e =
-    let rest = one_first_feed l m x y (feed_behind a l cl) (feed_behind b m cm) (tail_of a b (l ++ 10 ∷ x) (m ++ 10 ∷ y) e) in
-    let heads : a ≡ b = head_of a b (l ++ 10 ∷ x) (m ++ 10 ∷ y) e in
-    (ap (λ h. h ∷ l) heads ∙ ap (λ t. b ∷ t) rest.0, rest.1)
+    let rest = one_first_feed l m x y (feed_behind a l cl) (feed_behind b m cm) (tails a b (l ++ 10 ∷ x) (m ++ 10 ∷ y) e) in
+    let first : a ≡ b = heads a b (l ++ 10 ∷ x) (m ++ 10 ∷ y) e in
+    (ap (λ h. h ∷ l) first ∙ ap (λ t. b ∷ t) rest.0, rest.1)
 
 -- a line and its line feed are within one byte more than the line's
-or_true : (b : Bool) → (b || true) ≡ true
-or_true true = refl
-or_true false = refl
-
 pub has_feed-line : (line later : List ℕ) → has_feed (line ++ 10 ∷ later) ≡ true
-has_feed-line line later = list_any-append (λ byte. byte == 10) line (10 ∷ later) ∙ or_true (has_feed line)
+has_feed-line line later = list_any-append (λ byte. byte == 10) line (10 ∷ later) ∙ or-true (has_feed line)
 
 pub feed_within : (n : ℕ) (line later : List ℕ) → length line ≤ n → has_feed (take (n + 1) (line ++ 10 ∷ later)) ≡ true
 feed_within n line later short =
@@ -56,9 +48,9 @@ same_front [] [] x y same e = (refl, e)
 same_front [] (b ∷ bs) x y same e = absurd (omega arith)
 same_front (a ∷ as_) [] x y same e = absurd (omega arith)
 same_front (a ∷ as_) (b ∷ bs) x y same e =
-    let rest = same_front as_ bs x y (omega arith) (tail_of a b (as_ ++ x) (bs ++ y) e) in
-    let heads : a ≡ b = head_of a b (as_ ++ x) (bs ++ y) e in
-    (ap (λ h. h ∷ as_) heads ∙ ap (λ t. b ∷ t) rest.0, rest.1)
+    let rest = same_front as_ bs x y (omega arith) (tails a b (as_ ++ x) (bs ++ y) e) in
+    let first : a ≡ b = heads a b (as_ ++ x) (bs ++ y) e in
+    (ap (λ h. h ∷ as_) first ∙ ap (λ t. b ∷ t) rest.0, rest.1)
 
 pub both : (b : Bool) → b ≡ true → b ≡ false → ⊥
 both b holds fails = cc

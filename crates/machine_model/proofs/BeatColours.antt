@@ -175,14 +175,14 @@ key_colour-beaten d key x y is top out =
     place = place_of (scene_of d) key
 
     there : in_rect (place_of (scene_of d) key) x y ≡ true
-    there = shown_lies_in_place (scene_of d) key x y (top_is_on_top (scene_of d) key x y is.planted is.names top).1.shown
+    there = shown_lies_in_place (scene_of d) key x y (top_is_on_top (scene_of d) key x y is.rows.planted is.rows.names top).1.shown
 
     by : (o : Option Row) → keys.row_of d.rows key ≡ o → is_drawn_at place x y (option_map film_beaten (option_and_then (λ (row : Row). row.film) o)) ≡ false
         → colour_in (option_map_or (look_of scene) o seen.no_film) place x y ≡ colour_in (option_map_or (look_of after) (option_map row_beaten o) seen.no_film) place x y
     by None found h = refl
     by (Some row) found h =
         let at = find-element (has_name key.0 key.1) d.rows row found in
-        row_colour-beaten scene row place x y (whole_film d.rows at.0 row is.films at.1) there h row.kind
+        row_colour-beaten scene row place x y (whole_film d.rows at.0 row is.rows.films at.1) there h row.kind
         ∙ ap (λ (r : Row). colour_in (look_by r.kind after r) place x y) (sym (row_beaten-is row))
 
 -- A beat changes colours only in the bands that it draws.

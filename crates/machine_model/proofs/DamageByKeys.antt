@@ -1,16 +1,15 @@
 -- The reach is what all widgets together give it, key by key.
-use Rattle.std.proofs.Common.{◌≡◌, ℕ, ℤ, Bool, true, false, cond, ◌&&◌, ◌||◌, List, [], ◌∷◌, ◌++◌, Some, None, refl, sym, ap, ◌∙◌, ◌⊎◌, inl, inr}
+use Rattle.std.proofs.Common.{◌≡◌, ℕ, ℤ, Bool, true, false, ◌&&◌, ◌||◌, List, [], ◌∷◌, ◌++◌, sym, ap, ◌∙◌, ◌⊎◌, inl, inr}
 use Rattle.std.specs.Cmp.{both_ways}
 use Rattle.std.specs.List.{list_any}
 use Rattle.std.proofs.lemmas.Bool.{true≢false, and_parts, and_from, or_left, or_right, or_cases, cond-true, cond-false, cases_Bool}
-use Rattle.std.proofs.lemmas.List.Folds.{list_any-append}
 use Rattle.widget_model.specs.Keys.{same_key, root_key}
 use Rattle.scene_model.specs.Scene.{Scene}
 use Rattle.scene_model.specs.Showing.{shows_at, is_open_in, is_under}
 use Rattle.machine_model.specs.Damage.{is_shifted, is_altered, shows_open, shows_under, keys_in, in_window, in_widget, in_reach_of, in_reach}
 use Rattle.machine_model.specs.DamageLaws.{IsSound}
 use Rattle.machine_model.specs.DamageKeys.{is_named_in, is_named, named_shows, in_reach_by, ReachIsByKeys}
-use Rattle.machine_model.proofs.DamageKeys.{same_key-own, same_key-is, same_key-from, joined_left, joined_right}
+use Rattle.machine_model.proofs.DamageKeys.{same_key-own, same_key-is, joined_left, joined_right}
 use Rattle.machine_model.proofs.DamageLevels.{root_key-top}
 use Rattle.machine_model.proofs.DamageScenes.{shows-stands, window_alone}
 use Rattle.machine_model.proofs.OutsideDamage.{IsSteady-unshifted}

@@ -1,5 +1,5 @@
 -- What a widget shows and its root, from its parent's or, at the top of a tree, from none: going up one level.
-use Rattle.std.proofs.Common.{◌≡◌, ℕ, suc, ℤ, Bool, true, false, ◌&&◌, List, Option, Some, None, refl, sym, ap, ◌∙◌}
+use Rattle.std.proofs.Common.{◌≡◌, ℕ, suc, ℤ, Bool, true, ◌&&◌, List, Option, Some, None, refl, sym, ap, ◌∙◌}
 use Rattle.std.specs.Option.{option_map, option_map_or, option_and_then}
 use Rattle.geom_core.specs.Rect.{in_rect}
 use Rattle.kind_core.specs.declared.shapes.Cell.{Cell}
@@ -7,7 +7,7 @@ use Rattle.widget_model.specs.Rows.{Row}
 use Rattle.widget_model.specs.Named.{row_named}
 use Rattle.widget_model.specs.Planted.{IsPlanted}
 use Rattle.widget_model.specs.Trees.{parent_of, root_in, ends_within, most_levels}
-use Rattle.widget_model.specs.Keys.{same_key, key_of, root_key}
+use Rattle.widget_model.specs.Keys.{same_key, root_key}
 use Rattle.widget_model.proofs.Levels.{some_levels, ends_within-alone}
 use Rattle.widget_model.proofs.Hanging.{IsNamed-row_named}
 use Rattle.scene_model.specs.Scene.{Scene}

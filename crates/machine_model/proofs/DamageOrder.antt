@@ -1,12 +1,12 @@
 -- The first window that shows a pixel, from the top, is the same in two orders in which no window that shows it is put
 -- higher.
-use Rattle.std.proofs.Common.{◌≡◌, ℕ, Bool, true, false, cond, ◌&&◌, ◌||◌, List, [], ◌∷◌, Option, Some, None, refl, sym, ap, ◌∙◌, ◌⊎◌, inl, inr}
+use Rattle.std.proofs.Common.{◌≡◌, ℕ, Bool, true, false, cond, ◌||◌, List, [], ◌∷◌, Option, Some, None, refl, sym, ap, ◌∙◌}
 use Rattle.std.specs.List.{find, list_any}
-use Rattle.std.proofs.lemmas.Bool.{true≢false, and_from, cond-true, cond-false}
+use Rattle.std.proofs.lemmas.Bool.{true≢false, cond-true, cond-false}
 use Rattle.widget_model.specs.Keys.{same_key}
 use Rattle.widget_model.proofs.Hanging.{find-passes}
 use Rattle.machine_model.specs.Damage.{is_over}
-use Rattle.machine_model.proofs.DamageKeys.{same_key-own, same_key-is, same_key-from, none_of, find-stands}
+use Rattle.machine_model.proofs.DamageKeys.{same_key-is, same_key-from, find-stands}
 
 -- the first one that passes is over each other one that passes
 pub first_over : (test : ℕ × List ℕ → Bool) (windows : List (ℕ × List ℕ)) (first other : ℕ × List ℕ) → find test windows ≡ Some first → list_any (same_key other) windows ≡ true → test other ≡ true → same_key other first ≡ false → is_over same_key windows first other ≡ true

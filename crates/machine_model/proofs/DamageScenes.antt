@@ -1,23 +1,21 @@
 -- What the way down takes of a scene, from what every valid desk has.
-use Rattle.std.proofs.Common.{◌≡◌, ℕ, ℤ, pos, ◌+ℤ◌, Bool, true, false, ◌&&◌, nat_eq, List, Option, Some, None, refl, sym, ap, ◌∙◌, slice_get, is_some, map, [], ◌∷◌, ◌||◌}
-use Rattle.std.specs.List.{find, list_any, list_all}
-use Rattle.std.specs.Option.{option_map, option_map_or, option_and_then}
-use Rattle.std.specs.Str.{bytes_eq}
+use Rattle.std.proofs.Common.{◌≡◌, ℕ, ℤ, pos, Bool, true, false, ◌&&◌, List, Option, Some, None, refl, sym, ap, ◌∙◌, slice_get, is_some, map, [], ◌∷◌, ◌||◌}
+use Rattle.std.specs.List.{find, list_any}
+use Rattle.std.specs.Option.{option_map, option_map_or}
 use Rattle.std.proofs.lemmas.Bool.{true≢false, and_parts, and_from, and_left, false_from_ne_true}
 use Rattle.std.proofs.lemmas.Option.{same_Some}
 use Rattle.kind_core.specs.declared.kinds.Kind.{Kind}
 use Rattle.kind_core.specs.declared.kinds.Kind.TheVariants.{Window, Grid, Frame, Button, Label, Entry, Scale, Scrollbar, Variable, VScreen}
 use Rattle.kind_core.specs.declared.shapes.Cell.{Cell}
-use Rattle.geom_core.specs.declared.rectangle.Rect.{Rect}
 use Rattle.geom_core.specs.Rect.{in_rect}
 use Rattle.widget_model.specs.Rows.{Row}
-use Rattle.widget_model.specs.Named.{has_name, row_named, is_kind_of, AreNamedApart}
+use Rattle.widget_model.specs.Named.{has_name, is_kind_of, AreNamedApart}
 use Rattle.widget_model.specs.Kinds.{is_window_kind}
 use Rattle.widget_model.specs.Keys.{key_of, same_key, row_of}
 use Rattle.widget_model.specs.Planted.{IsPlanted, hangs_right}
 use Rattle.widget_model.specs.Trees.{parent_of, is_child, can_be_child}
 use Rattle.widget_model.proofs.Planting.{row_named-parent}
-use Rattle.widget_model.proofs.Hanging.{find-passes, find-element, find_none_at, all_at, row_named-own, HangsIn-from, HangsIn-child, hangs_right-at, IsNamed-row_named}
+use Rattle.widget_model.proofs.Hanging.{find-passes, find-element, find_none_at, all_at, row_named-own, HangsIn-from, HangsIn-child, hangs_right-at}
 use Rattle.scene_model.specs.Placing.{place_in}
 use Rattle.scene_model.specs.Scene.{Scene}
 use Rattle.scene_model.specs.Showing.{place_of, parent_in, shows_at, child_at, is_open_in}
@@ -27,7 +25,7 @@ use Rattle.scene_model.proofs.LevelLaws.{IsParentKey-parent_in}
 use Rattle.machine_model.specs.Damage.{keys_in}
 use Rattle.machine_model.specs.DamageLaws.{IsSound}
 use Rattle.machine_model.proofs.DamageKeys.{find-any, none_in_span, all_of, same_key-is}
-use Rattle.machine_model.proofs.DamageLevels.{shows_at-up, shown_through}
+use Rattle.machine_model.proofs.DamageLevels.{shows_at-up}
 use Rattle.machine_model.proofs.DamageWay.{IsClimbed}
 
 -- the test that finds a child at a pixel

@@ -9,7 +9,7 @@ use Rattle.machine_model.specs.DeskDamage.{DesksSameOutsideReach}
 use Rattle.machine_model.proofs.OutsideDamage.{same_outside_reach}
 
 pub IsSound-desk : (desk : Desk) → IsDesk desk → IsSound (scene_of desk)
-IsSound-desk desk is = record { names = is.names; planted = is.planted; windows = is.windows }
+IsSound-desk desk is = record { names = is.rows.names; planted = is.rows.planted; windows = is.windows }
 
 pub desks_same_outside_reach : DesksSameOutsideReach
 desks_same_outside_reach before after is is' same x y unreached =

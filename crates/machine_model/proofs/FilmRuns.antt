@@ -43,7 +43,7 @@ IsFilm-state state key film is there = by (row_named state.desk.rows key.0 key.1
     by (Some row) found h =
         let at = find-element (has_name key.0 key.1) state.desk.rows row found in
         let F : Option FilmState → Type 0 = λ o. IfSome o (λ (f : FilmState). IsFilm f) in
-        subst F h (whole_film state.desk.rows at.0 row is.desk.films at.1)
+        subst F h (whole_film state.desk.rows at.0 row is.desk.rows.films at.1)
 
 -- A step that isn't a tick: the film goes on.
 film_goes-changed : (old : State) (next : Desk) (new : State) (key : ℕ × List ℕ) → Changed old next new → FilmGoes (film_in old key) (film_named next.rows key.0 key.1) → FilmGoes (film_in old key) (film_in new key)

@@ -1,14 +1,12 @@
 -- Outside the reach no colour differs: no window that shows the pixel is shifted, so the first that shows it is the
 -- same, and no widget of it that shows the pixel is altered, so the way down is the same.
-use Rattle.std.proofs.Common.{◌≡◌, ℕ, ℤ, Bool, true, false, cond, ◌&&◌, ◌||◌, not, List, ◌++◌, Option, Some, None, refl, sym, ap, ◌∙◌, ◌⊎◌, inl, inr}
-use Rattle.std.specs.List.{find, list_any}
+use Rattle.std.proofs.Common.{◌≡◌, ℕ, ℤ, Bool, true, false, ◌&&◌, ◌||◌, not, List, ◌++◌, Option, Some, None, refl, sym, ap, ◌∙◌, ◌⊎◌, inl, inr}
+use Rattle.std.specs.List.{list_any}
 use Rattle.std.specs.Option.{option_map, option_map_or}
 use Rattle.std.proofs.lemmas.Bool.{true≢false, and_parts, and_from, or_parts, or_left, or_right, cond-true, cond-false, false_from_ne_true}
-use Rattle.geom_core.specs.declared.rectangle.Rect.{Rect}
 use Rattle.geom_core.specs.Rect.{in_rect}
 use Rattle.geom_core.specs.Count.{screen_of}
 use Rattle.look_core.specs.Same.{same_look}
-use Rattle.look_core.specs.Seen.{Seen}
 use Rattle.look_core.proofs.SameLemmas.{same_are_equal}
 use Rattle.widget_model.specs.Keys.{same_key}
 use Rattle.widget_model.specs.Planted.{IsPlanted}
@@ -18,8 +16,8 @@ use Rattle.scene_model.specs.Showing.{place_of, parent_in, on_screen, shows_at, 
 use Rattle.scene_model.specs.Colours.{look_at, colour_in, colour_at}
 use Rattle.machine_model.specs.Damage.{same_place, same_parent, is_over, is_put_higher, is_shifted, is_altered, shows_open, shows_under, keys_in, in_window, in_widget, in_reach_of, in_reach}
 use Rattle.machine_model.specs.DamageLaws.{IsSound, SameOutsideReach}
-use Rattle.machine_model.proofs.DamageKeys.{same_key-own, same_key-from, same_place-is, same_parent-is, none_of, joined_left, joined_right}
-use Rattle.machine_model.proofs.DamageLevels.{shows_at-up, root_key-top}
+use Rattle.machine_model.proofs.DamageKeys.{same_key-own, same_place-is, same_parent-is, none_of, joined_left, joined_right}
+use Rattle.machine_model.proofs.DamageLevels.{root_key-top}
 use Rattle.machine_model.proofs.DamageOrder.{Passes, found_passes, same_first, over_stands}
 use Rattle.machine_model.proofs.DamageScenes.{IsClimbed-sound, shows-stands, window_alone}
 use Rattle.machine_model.proofs.DamageWay.{IsClimbed, IsKept, IsSeen, Keeps, seen_after, same_lowest, lowest_seen}

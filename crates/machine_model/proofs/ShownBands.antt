@@ -107,7 +107,7 @@ look_at-film desk key film is there = by (row_named desk.rows key.0 key.1) refl 
     by None found h = absurd (cc)
     by (Some row) found h =
         let at = find-element (has_name key.0 key.1) desk.rows row found in
-        screen row row.film refl h (kind_is row (fit_film desk.rows at.0 row is.films at.1) h)
+        screen row row.film refl h (kind_is row (fit_film desk.rows at.0 row is.rows.films at.1) h)
 
 pub colour-drawn : (desk : Desk) (key : ℕ × List ℕ) (film : FilmState) (x y : ℕ) → IsDesk desk → IsFilm film → film_named desk.rows key.0 key.1 ≡ Some film → ShowsDrawn desk key film (pos x) (pos y)
     → colour desk x y ≡ pixel_of film.shown (number_on (lying_at (place_of (scene_of desk) key) film.width film.height) (pos x) (pos y))

@@ -1,9 +1,8 @@
 -- What holds of the periods of an admitted VScreen: each pixel of its film is drawn once in a period, from the frame that
 -- was the newest when the period began. A VScreen goes by its key.
-use Rattle.std.specs.Prelude.{◌≡◌, ℕ, ◌<◌, ℤ, pos, ◌-ℤ◌, Bool, true, false, List, [], ◌∷◌, ◌++◌, Option, Some, unsigned_abs, nat_lt, ◌≤◌, if◌then◌else◌, flat_map, count_by}
+use Rattle.std.specs.Prelude.{◌≡◌, ℕ, ◌<◌, pos, ◌-ℤ◌, Bool, true, false, List, [], ◌∷◌, ◌++◌, Option, Some, unsigned_abs, nat_lt, ◌≤◌, if◌then◌else◌, flat_map, count_by}
 use Rattle.std.specs.List.{All}
 use Rattle.std.specs.Option.{option_map_or}
-use Rattle.geom_core.specs.declared.rectangle.Rect.{Rect}
 use Rattle.cmd_words.specs.declared.commands.Command.TheVariants.{Admit}
 use Rattle.cmd_words.specs.declared.replies.Reply.TheVariants.{Done}
 use Rattle.vscreen_core.specs.declared.band.Band.{Band}

@@ -1,10 +1,10 @@
 -- The slots of all numbers, after one more is made, one is filled, and some are emptied.
-use Rattle.std.proofs.Common.{◌≡◌, ◌<◌, ◌≤◌, ◌+◌, ◌-◌, ◌++◌, ℕ, zero, suc, length, get_or, replicate, List, [], ◌∷◌, Option, Some, None, refl, sym, ap, ◌∙◌, arith}
-use Rattle.std.proofs.Math.ListN.{set, length-set}
+use Rattle.std.proofs.Common.{◌≡◌, ◌<◌, ◌≤◌, ◌+◌, ◌-◌, ◌++◌, ℕ, zero, suc, length, replicate, List, [], ◌∷◌, Option, None, refl, sym, ap, ◌∙◌, arith}
+use Rattle.std.proofs.Math.ListN.{length-set}
 use Rattle.std.proofs.lemmas.List.{set-append_left, append_assoc, length-append, length_push, length-replicate}
 use Rattle.geom_core.specs.declared.rectangle.Rect.{Rect}
 use Rattle.widget_model.specs.Nodes.{first_number}
-use Rattle.widget_model.specs.KeptPlaces.{most_numbers, place_in, placed, emptied, unplaced}
+use Rattle.widget_model.specs.KeptPlaces.{place_in, placed, emptied, unplaced}
 use Rattle.widget_model.proofs.Slots.{length-emptied}
 use Rattle.row_store.specs.KeptSlots.{filled_up}
 

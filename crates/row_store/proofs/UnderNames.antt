@@ -1,19 +1,19 @@
 -- The index of names: what is found under a name after a row is put last, and after rows are taken out.
-use Rattle.std.proofs.Common.{◌≡◌, ℕ, Bool, true, false, cond, not, ◌&&◌, nat_eq, List, [], ◌∷◌, ◌++◌, Option, Some, None, refl, sym, ap, ◌∙◌, arith}
+use Rattle.std.proofs.Common.{◌≡◌, ℕ, Bool, true, false, cond, not, nat_eq, List, [], ◌∷◌, ◌++◌, Option, Some, None, refl, sym, ap, ◌∙◌, arith}
 use Rattle.std.proofs.lemmas.Bool.{eqb-true}
 use Rattle.std.proofs.lemmas.Bool.Decides.{nat_tests}
 use Rattle.std.specs.Cmp.{nat_eq_equiv}
 use Rattle.std.specs.Cmp.Lexicographic.{nat_list_eq_equiv}
 use Rattle.std.specs.List.{filter}
 use Rattle.std.specs.Map.{lookup}
-use Rattle.std.specs.Str.{bytes_eq}
 use Rattle.widget_model.specs.Rows.{Row}
-use Rattle.widget_model.specs.Nodes.{Node, node_of, is_named, id_named}
-use Rattle.widget_model.specs.Named.{has_name}
-use Rattle.widget_model.specs.Widgets.{row_at, without_row, nodes}
-use Rattle.widget_model.specs.Forest.{HaveOwnNumbers, HaveOwnNames}
-use Rattle.widget_model.proofs.Naming.{has_name-parts, id_named-row}
-use Rattle.row_store.specs.Index.{same_key, IsIndexed}
+use Rattle.widget_model.specs.Keys.{same_key}
+use Rattle.widget_model.specs.Nodes.{Node, is_named, id_named}
+use Rattle.widget_model.specs.Named.{has_name, AreNamedApart}
+use Rattle.widget_model.specs.Widgets.{row_at, without_row, nodes, rows_in}
+use Rattle.widget_model.specs.Forest.{HaveOwnNumbers}
+use Rattle.widget_model.proofs.Naming.{has_name-parts, id_named-none, id_named-row}
+use Rattle.row_store.specs.Index.{IsIndexed}
 use Rattle.row_store.proofs.UnderNumbers.{row_at-absent, without_row-absent}
 
 -- the last one is found where no other is
@@ -39,26 +39,13 @@ IsIndexed-push names es id node kept =
           ∙ sym (id_named-push es (id, node) client name);
     }
 
--- rows that fail a test are taken out: no two of the others have one name
-id_named-filter_none : (p : ℕ × Row → Bool) (es : List (ℕ × Row)) (client : ℕ) (name : List ℕ) → id_named (nodes es) client name ≡ None → id_named (nodes (filter p es)) client name ≡ None
-id_named-filter_none p [] client name h = refl
-id_named-filter_none p (e ∷ es) client name h = grind (arith, id_named-filter_none p es client name)
-
-pub own_names-filter : (p : ℕ × Row → Bool) (es : List (ℕ × Row)) → HaveOwnNames (nodes es) → HaveOwnNames (nodes (filter p es))
-own_names-filter p [] own = tt
-own_names-filter p (e ∷ es) own = by (p e) (own_names-filter p es own.1)
-  where
-    by : (b : Bool) → HaveOwnNames (nodes (filter p es)) → HaveOwnNames (nodes (cond b (e ∷ filter p es) (filter p es)))
-    by true rest = (id_named-filter_none p es e.1.client e.1.name own.0, rest)
-    by false rest = rest
-
 -- with one row its name is gone, and no other
-pub id_named-without : (es : List (ℕ × Row)) (id : ℕ) (row : Row) (client : ℕ) (name : List ℕ) → HaveOwnNumbers (nodes es) → HaveOwnNames (nodes es) → row_at es id ≡ Some row → id_named (nodes (without_row id es)) client name ≡ cond (has_name client name row) None (id_named (nodes es) client name)
+pub id_named-without : (es : List (ℕ × Row)) (id : ℕ) (row : Row) (client : ℕ) (name : List ℕ) → HaveOwnNumbers (nodes es) → AreNamedApart (rows_in es) → row_at es id ≡ Some row → id_named (nodes (without_row id es)) client name ≡ cond (has_name client name row) None (id_named (nodes es) client name)
 id_named-without [] id row client name numbers names there = absurd (cc)
 id_named-without (e ∷ es) id row client name numbers names there = by (nat_eq id e.0) refl (has_name client name e.1) refl there (id_named-without es id row client name numbers.1 names.1)
   where
     named_once : has_name client name e.1 ≡ true → id_named (nodes es) client name ≡ None
-    named_once named = let parts = has_name-parts client name e.1 named in rw (← parts.0, ← parts.1) names.0
+    named_once named = let parts = has_name-parts client name e.1 named in rw (← parts.0, ← parts.1) (id_named-none es e.1.client e.1.name names.0)
 
     apart : has_name client name e.1 ≡ true → row_at es id ≡ Some row → (b : Bool) → has_name client name row ≡ b → b ≡ false
     apart named there false q = refl
@@ -89,7 +76,7 @@ lookup-others [] gone client name = grind arith
 lookup-others (e ∷ es) gone client name = grind (arith, nat_tests, lookup-others es gone client name)
 
 -- the index after one name, or all names of a client, are taken out with their rows
-pub IsIndexed-without_row : (names rest : List ((ℕ × List ℕ) × ℕ)) (es : List (ℕ × Row)) (id : ℕ) (row : Row) → IsIndexed names (nodes es) → HaveOwnNumbers (nodes es) → HaveOwnNames (nodes es) → row_at es id ≡ Some row → ((key : ℕ × List ℕ) → lookup (same_key key) rest ≡ cond (same_key (row.client, row.name) key) None (lookup (same_key key) names)) → IsIndexed rest (nodes (without_row id es))
+pub IsIndexed-without_row : (names rest : List ((ℕ × List ℕ) × ℕ)) (es : List (ℕ × Row)) (id : ℕ) (row : Row) → IsIndexed names (nodes es) → HaveOwnNumbers (nodes es) → AreNamedApart (rows_in es) → row_at es id ≡ Some row → ((key : ℕ × List ℕ) → lookup (same_key key) rest ≡ cond (same_key (row.client, row.name) key) None (lookup (same_key key) names)) → IsIndexed rest (nodes (without_row id es))
 IsIndexed-without_row names rest es id row indexed numbers own there left =
     record { finds = λ client name. left (client, name) ∙ rw (nat_eq_equiv.symm row.client client, nat_list_eq_equiv.symm row.name name, indexed.finds client name) (sym (id_named-without es id row client name numbers own there)) }
 

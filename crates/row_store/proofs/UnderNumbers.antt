@@ -1,15 +1,16 @@
 -- Numbered rows and their nodes: what is under a number after a row is put last or changed, and after rows are taken
 -- out by a test.
-use Rattle.std.proofs.Common.{◌≡◌, ◌≤◌, ◌+◌, ℕ, Bool, true, false, cond, not, ◌&&◌, nat_eq, nat_le, nat_lt, List, [], ◌∷◌, ◌++◌, Option, Some, None, is_some, refl, sym, ap, ◌∙◌, arith}
-use Rattle.std.proofs.lemmas.Bool.{true≢false, eqb-true}
+use Rattle.std.proofs.Common.{◌≡◌, ◌≤◌, ◌+◌, ℕ, Bool, true, false, cond, not, ◌&&◌, nat_eq, nat_le, nat_lt, List, [], ◌∷◌, ◌++◌, Some, None, refl, ap, arith}
+use Rattle.std.proofs.lemmas.Bool.{eqb-true}
 use Rattle.std.proofs.lemmas.Bool.Decides.{nat_tests}
-use Rattle.std.proofs.lemmas.List.Sums.{sum_by-cons, sum_by_push}
+use Rattle.std.proofs.lemmas.List.Sums.{sum_by-cons}
 use Rattle.std.specs.List.{filter}
 use Rattle.std.specs.Option.{option_map, option_and_then}
 use Rattle.kind_core.specs.declared.kinds.Kind.{Kind}
 use Rattle.widget_model.specs.Rows.{Row}
-use Rattle.widget_model.specs.Nodes.{Node, node_of, node_at, count_of}
-use Rattle.widget_model.specs.Widgets.{row_at, with_row, without_row, nodes}
+use Rattle.widget_model.specs.Nodes.{node_of, node_at}
+use Rattle.widget_model.specs.Named.{rows_counted, rows_of_others}
+use Rattle.widget_model.specs.Widgets.{row_at, with_row, without_row, nodes, rows_in}
 use Rattle.widget_model.specs.Forest.{HaveOwnNumbers}
 
 -- nodes are those of the rows, and a change that leaves a row's node leaves all
@@ -32,11 +33,6 @@ nodes-with_row (e ∷ es) id change same = by (nodes-with_row es id change same)
 pub row_at-absent : (es : List (ℕ × Row)) (id : ℕ) → node_at (nodes es) id ≡ None → row_at es id ≡ None
 row_at-absent [] id h = refl
 row_at-absent (e ∷ es) id h = grind (arith, row_at-absent es id)
-
--- a number has a row where it has a node
-pub row_live : (es : List (ℕ × Row)) (id : ℕ) → is_some (row_at es id) ≡ is_some (node_at (nodes es) id)
-row_live [] id = refl
-row_live (e ∷ es) id = grind (arith, row_live es id)
 
 -- a row put last
 pub row_at-push : (es : List (ℕ × Row)) (id : ℕ) (row : Row) (other : ℕ) → nat_eq other id ≡ false → row_at (es ++ (id, row) ∷ []) other ≡ row_at es other
@@ -88,35 +84,25 @@ module _ (p : ℕ × Row → Bool) where
       let absent = row_at-filter_none es e.0 (row_at-absent es e.0 own.0) in
       grind (arith, nat_tests, row_at-filter es id own.1, absent)
 
--- how the counts go on
-pub count-cons : (client : ℕ) (test : Kind → Bool) (e : ℕ × Node) (es : List (ℕ × Node)) → count_of client test (e ∷ es) ≡ cond (nat_eq client e.1.client && test e.1.kind) 1 0 + count_of client test es
-count-cons client test e es = sum_by-cons (λ (x : ℕ × Node). cond (nat_eq client x.1.client && test x.1.kind) 1 0) e es
+-- how many a row counts for, at the head of rows, and when it is taken out
+pub rows_counted-cons : (client : ℕ) (test : Kind → Bool) (row : Row) (rows : List Row) → rows_counted client test (row ∷ rows) ≡ cond (nat_eq client row.client && test row.kind) 1 0 + rows_counted client test rows
+rows_counted-cons client test row rows = sum_by-cons (λ (row : Row). cond (nat_eq client row.client && test row.kind) 1 0) row rows
 
-pub count-push : (client : ℕ) (test : Kind → Bool) (es : List (ℕ × Node)) (e : ℕ × Node) → count_of client test (es ++ e ∷ []) ≡ count_of client test es + cond (nat_eq client e.1.client && test e.1.kind) 1 0
-count-push client test es e = sum_by_push (λ (x : ℕ × Node). cond (nat_eq client x.1.client && test x.1.kind) 1 0) es e
-
-pub count_of-filter : (p : ℕ × Row → Bool) (client : ℕ) (test : Kind → Bool) (es : List (ℕ × Row)) → count_of client test (nodes (filter p es)) ≤ count_of client test (nodes es)
-count_of-filter p client test [] = omega arith
-count_of-filter p client test (e ∷ es) =
-    grind (arith, count_of-filter p client test es, count-cons client test (e.0, node_of e.1) (nodes es), count-cons client test (e.0, node_of e.1) (nodes (filter p es)))
-
--- what a row that is taken out counted for
-pub count_of-without_row : (client : ℕ) (test : Kind → Bool) (es : List (ℕ × Row)) (id : ℕ) (row : Row) → HaveOwnNumbers (nodes es) → row_at es id ≡ Some row → count_of client test (nodes es) ≡ cond (nat_eq client row.client && test row.kind) 1 0 + count_of client test (nodes (without_row id es))
-count_of-without_row client test [] id row own there = absurd (cc)
-count_of-without_row client test (e ∷ es) id row own there = by (count_of-without_row client test es id row own.1) (nat_eq id e.0) refl there
+pub rows_counted-without_row : (client : ℕ) (test : Kind → Bool) (es : List (ℕ × Row)) (id : ℕ) (row : Row) → HaveOwnNumbers (nodes es) → row_at es id ≡ Some row → rows_counted client test (rows_in es) ≡ cond (nat_eq client row.client && test row.kind) 1 0 + rows_counted client test (rows_in (without_row id es))
+rows_counted-without_row client test [] id row own there = absurd (cc)
+rows_counted-without_row client test (e ∷ es) id row own there = by (rows_counted-without_row client test es id row own.1) (nat_eq id e.0) refl there
   where
-    by : (row_at es id ≡ Some row → count_of client test (nodes es) ≡ cond (nat_eq client row.client && test row.kind) 1 0 + count_of client test (nodes (without_row id es))) → (b : Bool) → nat_eq id e.0 ≡ b → cond b (Some e.1) (row_at es id) ≡ Some row → count_of client test (nodes (e ∷ es)) ≡ cond (nat_eq client row.client && test row.kind) 1 0 + count_of client test (nodes (cond b (without_row id es) (e ∷ without_row id es)))
+    by : (row_at es id ≡ Some row → rows_counted client test (rows_in es) ≡ cond (nat_eq client row.client && test row.kind) 1 0 + rows_counted client test (rows_in (without_row id es))) → (b : Bool) → nat_eq id e.0 ≡ b → cond b (Some e.1) (row_at es id) ≡ Some row → rows_counted client test (rows_in (e ∷ es)) ≡ cond (nat_eq client row.client && test row.kind) 1 0 + rows_counted client test (rows_in (cond b (without_row id es) (e ∷ without_row id es)))
     by rest true q h =
         let same : e.1 ≡ row = cc in
         let absent : row_at es id ≡ None = row_at-absent es id (rw (eqb-true id e.0 q) own.0) in
-        rw (without_row-absent es id absent, ← same) (count-cons client test (e.0, node_of e.1) (nodes es))
-    by rest false q h = omega (arith, rest h, count-cons client test (e.0, node_of e.1) (nodes es), count-cons client test (e.0, node_of e.1) (nodes (without_row id es)))
+        rw (without_row-absent es id absent, ← same) (rows_counted-cons client test e.1 (rows_in es))
+    by rest false q h = omega (arith, rest h, rows_counted-cons client test e.1 (rows_in es), rows_counted-cons client test e.1 (rows_in (without_row id es)))
 
 -- with the rows of one client taken out, the others have as many as before
-pub count_of-others : (client : ℕ) (test : Kind → Bool) (es : List (ℕ × Row)) (gone : ℕ) → count_of client test (nodes (filter (λ (e : ℕ × Row). not (nat_eq gone e.1.client)) es)) ≡ cond (nat_eq client gone) 0 (count_of client test (nodes es))
-count_of-others client test [] gone = grind arith
-count_of-others client test (e ∷ es) gone =
-    grind (arith, nat_tests, count_of-others client test es gone, count-cons client test (e.0, node_of e.1) (nodes es), count-cons client test (e.0, node_of e.1) (nodes (filter (λ (e : ℕ × Row). not (nat_eq gone e.1.client)) es)))
+pub rows_counted-others : (client : ℕ) (test : Kind → Bool) (rows : List Row) (gone : ℕ) → rows_counted client test (rows_of_others gone rows) ≡ cond (nat_eq client gone) 0 (rows_counted client test rows)
+rows_counted-others client test [] gone = grind arith
+rows_counted-others client test (row ∷ rows) gone = grind (arith, nat_tests, rows_counted-others client test rows gone, rows_counted-cons client test row rows, rows_counted-cons client test row (rows_of_others gone rows))
 
 -- the numbers from `first` up to `id` are out
 abbrev pub is_left : ℕ → ℕ → ℕ → Bool

@@ -2,7 +2,8 @@
 use Rattle.std.specs.Prelude.{ℕ, ◌≡◌, ◌<◌, ◌+◌, ◌-◌, List, length, replicate, slice_index_or, slice_set, Option, Some, None}
 use Rattle.kind_core.specs.declared.kinds.Kind.{Kind}
 use Rattle.kind_core.specs.declared.kinds.Kind.TheVariants.{Window, VScreen}
-use Rattle.widget_model.specs.Nodes.{Node, count_of}
+use Rattle.widget_model.specs.Rows.{Row}
+use Rattle.widget_model.specs.Named.{rows_counted}
 use Rattle.widget_model.specs.Kinds.{any_kind, counts_with}
 use Rattle.row_store.specs.declared.count.Count.{Count}
 
@@ -44,10 +45,10 @@ lost client kind counts = slice_set counts client (one_less kind (count_in count
 abbrev pub forgotten : ℕ → List Count → List Count
 forgotten client counts = slice_set counts client no_count
 
--- Each client's count says how many nodes it has, how many of them are Windows and how many are VScreens.
+-- Each client's count says how many rows it has, how many of them are Windows and how many are VScreens.
 -- There are slots 0 to 16.
-pub record AreCounts (counts : List Count) (entries : List (ℕ × Node)) : Type 0 where
+pub record AreCounts (counts : List Count) (rows : List Row) : Type 0 where
   pub slots : length counts ≡ 17
-  pub widgets : (client : ℕ) → client < 17 → (count_in counts client).widgets ≡ count_of client any_kind entries
-  pub windows : (client : ℕ) → client < 17 → (count_in counts client).windows ≡ count_of client (counts_with Window) entries
-  pub screens : (client : ℕ) → client < 17 → (count_in counts client).screens ≡ count_of client (counts_with VScreen) entries
+  pub widgets : (client : ℕ) → client < 17 → (count_in counts client).widgets ≡ rows_counted client any_kind rows
+  pub windows : (client : ℕ) → client < 17 → (count_in counts client).windows ≡ rows_counted client (counts_with Window) rows
+  pub screens : (client : ℕ) → client < 17 → (count_in counts client).screens ≡ rows_counted client (counts_with VScreen) rows

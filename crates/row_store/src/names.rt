@@ -2,8 +2,9 @@ ghost use Rattle.std.specs.Prelude.{◌≡◌, ◌++◌, ◌∷◌, [], None, Is
 ghost use Rattle.std.specs.List.{filter};
 ghost use Rattle.widget_model.specs.Rows.{new_row};
 ghost use Rattle.widget_model.specs.Nodes.{id_named};
-ghost use Rattle.widget_model.specs.Widgets.{row_at, nodes, without_row};
-ghost use Rattle.widget_model.specs.Forest.{HaveOwnNumbers, HaveOwnNames};
+ghost use Rattle.widget_model.specs.Named.{AreNamedApart};
+ghost use Rattle.widget_model.specs.Widgets.{row_at, nodes, rows_in, without_row};
+ghost use Rattle.widget_model.specs.Forest.{HaveOwnNumbers};
 ghost use Rattle.row_store.specs.Index.{IsIndexed};
 
 use crate::row::Row;
@@ -78,7 +79,7 @@ pub fn put_new(
 pub fn take_out(names: &mut Names, store: &mut Store, id: u32)
     requires indexed { IsIndexed names.old (nodes store.old) }
     requires own_numbers { HaveOwnNumbers (nodes store.old) }
-    requires own_names { HaveOwnNames (nodes store.old) }
+    requires own_names { AreNamedApart (rows_in store.old) }
     requires live { IsSome (row_at store.old id) }
     ensures rows { store.new ≡ without_row id store.old }
     ensures indexed { IsIndexed names.new (nodes store.new) }

@@ -10,11 +10,11 @@ use Rattle.scene_model.specs.FitLaws.{WidgetsAreFit}
 pub widgets_are_fit : WidgetsAreFit
 widgets_are_fit widgets is =
     record {
-      planted = is.planted;
-      values = all_from fits_table (rows_of widgets) (λ i row there. (IsFit-is_fit row (all_at is_fit (rows_of widgets) i row is.fitting there)).table);
+      planted = is.rows.planted;
+      values = all_from fits_table (rows_of widgets) (λ i row there. (IsFit-is_fit row (all_at is_fit (rows_of widgets) i row is.rows.fitting there)).table);
       rules = all_from fits_rules (rows_of widgets)
           (λ i row there.
-          let fit = IsFit-is_fit row (all_at is_fit (rows_of widgets) i row is.fitting there) in
+          let fit = IsFit-is_fit row (all_at is_fit (rows_of widgets) i row is.rows.fitting there) in
           and_from (list_all fits_rule row.column_rules) (list_all fits_rule row.row_rules) fit.columns fit.rows);
-      films = is.films;
+      films = is.rows.films;
     }

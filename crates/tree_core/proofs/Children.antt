@@ -1,5 +1,5 @@
 -- Which widget hangs in which cell of which, said of the numbered rows.
-use Rattle.std.proofs.Common.{◌≡◌, ℕ, ◌+◌, ◌-◌, ◌*◌, ◌<◌, true, false, ◌&&◌, nat_eq, nat_le, List, Option, Some, None, refl, sym, ap, ◌∙◌, arith}
+use Rattle.std.proofs.Common.{◌≡◌, ℕ, ◌+◌, ◌-◌, ◌*◌, ◌<◌, true, false, ◌&&◌, nat_eq, List, Option, Some, None, refl, sym, ap, ◌∙◌, arith}
 use Rattle.std.proofs.lemmas.Bool.{true≢false, and_parts}
 use Rattle.std.proofs.lemmas.Bool.Decides.{nat_tests}
 use Rattle.std.specs.Option.{option_map_or, option_and_then}
@@ -15,7 +15,8 @@ use Rattle.widget_model.specs.Relatives.{child_id}
 use Rattle.widget_model.specs.Widgets.{row_at, nodes}
 use Rattle.widget_model.proofs.Naming.{row_named-found, row_named-none, id_named-row, row_named-parts}
 use Rattle.widget_model.specs.Rows.{IsIndex}
-use Rattle.tree_core.specs.Children.{cells_of, rows_in, widgets_in}
+use Rattle.widget_model.specs.Widgets.{rows_in}
+use Rattle.tree_core.specs.Children.{cells_of, widgets_in}
 use Rattle.tree_core.specs.Kept.{IsGrove}
 use Rattle.widget_model.proofs.Hanging.{all_at}
 use Rattle.tree_core.proofs.Listed.{find_place, listed_number, numbered_place}

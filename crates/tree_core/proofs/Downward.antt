@@ -13,7 +13,8 @@ use Rattle.widget_model.specs.Rows.{Row}
 use Rattle.widget_model.specs.Trees.{is_child, height_in, greatest_child}
 use Rattle.widget_model.specs.Relatives.{child_id}
 use Rattle.widget_model.specs.Widgets.{row_at}
-use Rattle.tree_core.specs.Children.{cells_of, rows_in, widgets_in, HasChildren}
+use Rattle.widget_model.specs.Widgets.{rows_in}
+use Rattle.tree_core.specs.Children.{cells_of, widgets_in, HasChildren}
 use Rattle.row_store.specs.CellTable.{cell_offset}
 use Rattle.widget_model.specs.Rows.{IsIndex}
 use Rattle.tree_core.specs.Kept.{IsGrove}

@@ -1,50 +1,52 @@
 -- That rows stand apart and hang right in one another, after a change of one of them.
 use Rattle.std.proofs.Common.{◌≡◌, ℕ, ◌+◌, Bool, true, false, cond, not, ◌&&◌, nat_lt, List, Option, Some, None, is_some, refl, sym, ap, ◌∙◌, subst}
-use Rattle.std.proofs.lemmas.Bool.{true≢false, and_parts, and_from}
+use Rattle.std.proofs.lemmas.Bool.{and_parts, and_from}
 use Rattle.std.specs.Option.{option_map, option_map_or, option_and_then}
 use Rattle.kind_core.specs.declared.kinds.Kind.{Kind}
 use Rattle.kind_core.specs.declared.shapes.Cell.{Cell}
 use Rattle.widget_model.specs.Rows.{Row, with_attached}
 use Rattle.widget_model.specs.Nodes.{Node, node_of}
-use Rattle.widget_model.specs.Named.{row_named, with_named}
+use Rattle.widget_model.specs.Named.{row_named, with_named, without_named, AreNamedApart}
 use Rattle.widget_model.specs.Trees.{hangs, has_children, can_be_child, child_in, depth_of, height_of, is_above, most_levels}
 use Rattle.widget_model.specs.Planted.{takes_cell, IsPlanted}
-use Rattle.widget_model.specs.Widgets.{row_at, with_row}
-use Rattle.widget_model.specs.Forest.{HaveOwnNumbers, HaveOwnNames}
-use Rattle.widget_model.proofs.Naming.{rows-with_row, id_named-row}
+use Rattle.widget_model.specs.Widgets.{row_at, with_row, without_row}
+use Rattle.widget_model.specs.Forest.{HaveOwnNumbers}
+use Rattle.widget_model.proofs.Naming.{rows-with_row, rows-without_row, id_named-row}
 use Rattle.tree_core.specs.declared.refusal.AttachRefusal.TheVariants.{WrongKind, HasParent, Cycle, TooDeep, CellTaken}
-use Rattle.tree_core.specs.Children.{rows_in, widgets_in}
+use Rattle.widget_model.specs.Widgets.{rows_in}
+use Rattle.tree_core.specs.Children.{widgets_in}
 use Rattle.tree_core.specs.Kept.{IsGrove}
 use Rattle.tree_core.specs.Refusals.{attach_refusal, attach_answer}
-use Rattle.tree_core.proofs.Listed.{AreNamedApart-rows, row_named-row}
+use Rattle.tree_core.proofs.Listed.{row_named-row}
 use Rattle.row_store.proofs.UnderNumbers.{nodes-with_row}
 use Rattle.row_store.proofs.Options.{is_none_of}
-use Rattle.widget_model.proofs.Leaves.{LeavesNode-node}
-use Rattle.widget_model.proofs.Planting.{LeavesPlace, IsPlanted-change, IsPlanted-attach, IsPlanted-detach}
+use Rattle.widget_model.proofs.Leaves.{LeavesNode-node, LeavesNode-changed}
+use Rattle.widget_model.proofs.ChangedRows.{AreNamedApart-map}
+use Rattle.widget_model.proofs.Hanging.{changed}
+use Rattle.widget_model.proofs.Planting.{IsPlanted-attach, IsPlanted-detach}
 use Rattle.widget_model.proofs.Cells.{CanHang}
 
 -- a change of the numbered row is a change of the row so named
 pub rows_in-with_row : (es : List (ℕ × Row)) (id : ℕ) (change : Row → Row) (row : Row) → IsGrove es → row_at es id ≡ Some row → rows_in (with_row id change es) ≡ with_named row.client row.name change (rows_in es)
 rows_in-with_row es id change row grove there = rows-with_row es row.client row.name id change grove.own_numbers grove.own_names (id_named-row es id row grove.own_names there)
 
+-- and the rows without it are those without the row so named
+pub rows_in-without_row : (es : List (ℕ × Row)) (id : ℕ) (row : Row) → IsGrove es → row_at es id ≡ Some row → rows_in (without_row id es) ≡ without_named row.client row.name (rows_in es)
+rows_in-without_row es id row grove there = rows-without_row es row.client row.name id grove.own_numbers grove.own_names (id_named-row es id row grove.own_names there)
+
 -- a change that leaves the nodes
 pub IsGrove-with_row : (es : List (ℕ × Row)) (id : ℕ) (change : Row → Row) (row : Row) → ((row : Row) → node_of (change row) ≡ node_of row) → IsGrove es → row_at es id ≡ Some row → IsPlanted (with_named row.client row.name change (rows_in es)) → IsGrove (with_row id change es)
 IsGrove-with_row es id change row same grove there planted =
     let nodes_same = nodes-with_row es id change same in
     let N : List (ℕ × Node) → Type 0 = λ ns. HaveOwnNumbers ns in
-    let M : List (ℕ × Node) → Type 0 = λ ns. HaveOwnNames ns in
+    let rows_same = rows_in-with_row es id change row grove there in
+    let M : List Row → Type 0 = λ rows. AreNamedApart rows in
     let P : List Row → Type 0 = λ rows. IsPlanted rows in
     record {
       own_numbers = subst N (sym nodes_same) grove.own_numbers;
-      own_names = subst M (sym nodes_same) grove.own_names;
-      planted = subst P (sym (rows_in-with_row es id change row grove there)) planted;
+      own_names = subst M (sym rows_same) (AreNamedApart-map (rows_in es) (changed row.client row.name change) (LeavesNode-changed row.client row.name change (LeavesNode-node change same)) grove.own_names);
+      planted = subst P (sym rows_same) planted;
     }
-
--- and the place of each row
-pub IsGrove-leaves : (es : List (ℕ × Row)) (id : ℕ) (change : Row → Row) (row : Row) → ((row : Row) → node_of (change row) ≡ node_of row) → ((row : Row) → (change row).attached ≡ row.attached) → IsGrove es → row_at es id ≡ Some row → IsGrove (with_row id change es)
-IsGrove-leaves es id change row same still grove there =
-    let leaves : LeavesPlace change = record { leaves = LeavesNode-node change same; attached = still } in
-    IsGrove-with_row es id change row same grove there (IsPlanted-change (rows_in es) row.client row.name change leaves grove.planted)
 
 pub IsGrove-unhang : (es : List (ℕ × Row)) (id : ℕ) (row : Row) → IsGrove es → row_at es id ≡ Some row → IsGrove (with_row id (with_attached None) es)
 IsGrove-unhang es id row grove there = IsGrove-with_row es id (with_attached None) row (λ row. refl) grove there (IsPlanted-detach (rows_in es) row.client row.name grove.planted)
@@ -112,4 +114,4 @@ IsGrove-hang es parent child cell upper lower grove may =
     let can = MayHang-CanHang es parent child cell upper lower grove may in
     let P : ℕ → Type 0 = λ client. IsPlanted (with_named client lower.name (with_attached (Some (upper.name, cell))) (rows_in es)) in
     IsGrove-with_row es child (with_attached (Some (upper.name, cell))) lower (λ row. refl) grove may.lower_there
-    (subst P (sym may.owner) (IsPlanted-attach (rows_in es) upper.client upper.name lower.name cell upper lower (AreNamedApart-rows es grove.own_names) can grove.planted))
+    (subst P (sym may.owner) (IsPlanted-attach (rows_in es) upper.client upper.name lower.name cell upper lower grove.own_names can grove.planted))

@@ -1,7 +1,6 @@
 pub mod Listed
 pub mod ForestLemmas
 pub mod Children
-pub mod LinkRows
 pub mod Groves
 pub mod Moves
 pub mod Parents

@@ -1,22 +1,19 @@
 -- Rows by number, by place and by name.
-use Rattle.std.proofs.Common.{◌≡◌, ◌<◌, ◌+◌, ℕ, zero, suc, length, take, get_or, Bool, true, false, cond, ◌||◌, nat_eq, List, [], ◌∷◌, ◌++◌, Option, Some, None, is_some, refl, sym, ap, ◌∙◌, subst, slice_get, arith}
-use Rattle.std.proofs.lemmas.Bool.{true≢false, eqb-true, eq-eqb, ne_eqb, and_parts}
+use Rattle.std.proofs.Common.{◌≡◌, ◌<◌, ◌+◌, ℕ, zero, suc, length, take, get_or, Bool, true, false, cond, ◌||◌, nat_eq, List, [], ◌∷◌, ◌++◌, Some, None, is_some, refl, sym, ap, ◌∙◌, subst, slice_get}
+use Rattle.std.proofs.lemmas.Bool.{true≢false, ne_eqb}
 use Rattle.std.proofs.lemmas.List.{take_more}
 use Rattle.std.proofs.lemmas.Option.{get_or_from_slice_get}
 use Rattle.std.specs.Cmp.{nat_eq_equiv}
 use Rattle.std.proofs.lemmas.List.Elements.{All-head, All-tail}
-use Rattle.std.specs.List.{All, find, list_any, list_all}
-use Rattle.std.specs.Option.{option_map}
+use Rattle.std.specs.List.{All, find, list_any}
 use Rattle.widget_model.specs.Rows.{Row}
-use Rattle.widget_model.specs.Nodes.{node_of, id_named, node_at}
-use Rattle.widget_model.specs.Named.{has_name, row_named}
-use Rattle.widget_model.specs.Widgets.{row_at, nodes, with_row, without_row}
-use Rattle.widget_model.specs.Forest.{HaveOwnNumbers, HaveOwnNames}
-use Rattle.widget_model.specs.Named.{AreNamedApart}
+use Rattle.widget_model.specs.Nodes.{id_named}
+use Rattle.widget_model.specs.Named.{has_name, row_named, AreNamedApart}
+use Rattle.widget_model.specs.Widgets.{row_at, nodes, rows_in}
+use Rattle.widget_model.specs.Forest.{HaveOwnNumbers}
 use Rattle.widget_model.proofs.Hanging.{find-element, find-passes, none_at}
 use Rattle.widget_model.proofs.Naming.{row_named-found, id_named-row, rows-push}
 use Rattle.row_store.proofs.UnderNumbers.{row_at-absent}
-use Rattle.tree_core.specs.Children.{rows_in}
 
 -- what is found stands somewhere, and passes the test
 pub find_place : {X : Type 0} (p : X → Bool) (xs : List X) (x : X) → find p xs ≡ Some x → (i : ℕ) × (slice_get xs i ≡ Some x) × (p x ≡ true)
@@ -64,17 +61,17 @@ numbered_place (e ∷ es) id row there = by (numbered_place es id row) (nat_eq i
     by rest false k = let r = rest k in (suc r.0, r.1)
 
 -- a numbered row is the one of its name
-pub row_named-row : (es : List (ℕ × Row)) (id : ℕ) (row : Row) → HaveOwnNumbers (nodes es) → HaveOwnNames (nodes es) → row_at es id ≡ Some row → row_named (rows_in es) row.client row.name ≡ Some row
+pub row_named-row : (es : List (ℕ × Row)) (id : ℕ) (row : Row) → HaveOwnNumbers (nodes es) → AreNamedApart (rows_in es) → row_at es id ≡ Some row → row_named (rows_in es) row.client row.name ≡ Some row
 row_named-row es id row numbers names there = row_named-found es row.client row.name id numbers (id_named-row es id row names there) ∙ there
 
--- no two rows of one client have one name
-list_any-named : (es : List (ℕ × Row)) (client : ℕ) (name : List ℕ) → id_named (nodes es) client name ≡ None → list_any (has_name client name) (rows_in es) ≡ false
-list_any-named [] client name absent = refl
-list_any-named (e ∷ es) client name absent = grind (arith, list_any-named es client name)
-
-pub AreNamedApart-rows : (es : List (ℕ × Row)) → HaveOwnNames (nodes es) → AreNamedApart (rows_in es)
-AreNamedApart-rows [] own = tt
-AreNamedApart-rows (e ∷ es) own = (list_any-named es e.1.client e.1.name own.0, AreNamedApart-rows es own.1)
+-- a name that is a row's is a number's
+pub named_live : (es : List (ℕ × Row)) (client : ℕ) (name : List ℕ) → is_some (id_named (nodes es) client name) ≡ is_some (row_named (rows_in es) client name)
+named_live [] client name = refl
+named_live (e ∷ es) client name = by (has_name client name e.1) (named_live es client name)
+  where
+    by : (b : Bool) → is_some (id_named (nodes es) client name) ≡ is_some (row_named (rows_in es) client name) → is_some (cond b (Some e.0) (id_named (nodes es) client name)) ≡ is_some (cond b (Some e.1) (row_named (rows_in es) client name))
+    by true rest = refl
+    by false rest = rest
 
 -- the rows are those of the entries, place by place
 pub rows_in-at : (es : List (ℕ × Row)) (i id : ℕ) (row : Row) → slice_get es i ≡ Some (id, row) → slice_get (rows_in es) i ≡ Some row

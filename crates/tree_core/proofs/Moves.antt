@@ -1,13 +1,13 @@
 -- What a change of the rows is to the table of children: one row changes, or hangs in another cell, a row is put last,
 -- and rows are taken out.
-use Rattle.std.proofs.Common.{◌≡◌, ◌≢◌, ℕ, ◌<◌, ◌⊎◌, inl, inr, Bool, true, false, cond, ◌&&◌, nat_eq, List, [], ◌∷◌, ◌++◌, length, get_or, Option, Some, None, refl, sym, ap, ◌∙◌, slice_get, subst, arith}
+use Rattle.std.proofs.Common.{◌≡◌, ◌≢◌, ℕ, ◌<◌, ◌⊎◌, inl, inr, Bool, true, false, cond, ◌&&◌, nat_eq, List, [], ◌∷◌, ◌++◌, length, get_or, Option, Some, None, refl, sym, ap, ◌∙◌, arith}
 use Rattle.std.proofs.Math.ListN.{set}
-use Rattle.std.proofs.lemmas.Bool.{true≢false, eqb-true, and_parts, cases_eq, cond-false, false_from_ne_true}
+use Rattle.std.proofs.lemmas.Bool.{eqb-true, and_parts, cases_eq, false_from_ne_true}
 use Rattle.std.proofs.lemmas.List.{get_or-set_same, get_or-set_other}
 use Rattle.std.proofs.lemmas.List.Folds.{find-append}
 use Rattle.std.proofs.lemmas.Option.{same_Some}
 use Rattle.std.proofs.lemmas.Slice.Eq.{bytes_eq-Decides}
-use Rattle.std.specs.List.{find, filter}
+use Rattle.std.specs.List.{find}
 use Rattle.std.specs.Option.{option_map, option_map_or, option_and_then, option_or}
 use Rattle.std.specs.Str.{bytes_eq}
 use Rattle.kind_core.specs.declared.shapes.Cell.{Cell}
@@ -20,13 +20,14 @@ use Rattle.widget_model.specs.Trees.{child_in, stands_at}
 use Rattle.widget_model.specs.Widgets.{row_at, with_row, nodes}
 use Rattle.widget_model.proofs.Cells.{child_in-stands, child_in-attach_same, child_in-attach_other, child_in-detach_same, child_in-detach_other, CanHang}
 use Rattle.widget_model.proofs.Hanging.{all_at, hangs_right-at}
-use Rattle.widget_model.proofs.Naming.{rows-push, rows-with_row, row_named-none, id_named-row}
+use Rattle.widget_model.proofs.Naming.{rows-push, rows-with_row, id_named-row}
 use Rattle.row_store.specs.CellTable.{cell_offset}
 use Rattle.row_store.proofs.UnderNumbers.{node_at-nodes, nodes-push, nodes-with_row, row_at-push, row_at-last}
-use Rattle.row_store.proofs.UnderNames.{or_last, id_named-push}
-use Rattle.tree_core.specs.Children.{rows_in, widgets_in, HasChildren}
+use Rattle.row_store.proofs.UnderNames.{id_named-push}
+use Rattle.widget_model.specs.Widgets.{rows_in}
+use Rattle.tree_core.specs.Children.{widgets_in, HasChildren}
 use Rattle.tree_core.specs.Kept.{IsGrove}
-use Rattle.tree_core.proofs.Listed.{find_place, row_named-row, AreNamedApart-rows}
+use Rattle.tree_core.proofs.Listed.{find_place, row_named-row}
 use Rattle.tree_core.proofs.Children.{child_in-number, own_number}
 
 -- the number of a row that was found
@@ -155,7 +156,7 @@ module _ (es : List (ℕ × Row)) (below : ℕ) (upper lower : Row) (cell : Cell
   pub IsPutIn-hang : CanHang (rows_in es) upper.client upper.name lower.name cell upper lower → IsPutIn es (with_row below (with_attached (Some (upper.name, cell))) es) upper cell (Some below)
   IsPutIn-hang can =
       let change = with_attached (Some (upper.name, cell)) in
-      let apart = AreNamedApart-rows es grove.own_names in
+      let apart = grove.own_names in
       record {
         same = nodes-with_row es below change (λ row. refl);
         here = ap (number_in (nodes es)) (seen change upper.client upper.name cell.column cell.row ∙ child_in-attach_same (rows_in es) upper.client upper.name lower.name cell upper lower apart can) ∙ id_named-row es below lower grove.own_names lower_there;
@@ -164,7 +165,7 @@ module _ (es : List (ℕ × Row)) (below : ℕ) (upper lower : Row) (cell : Cell
 
   pub IsPutIn-unhang : lower.attached ≡ Some (upper.name, cell) → IsPutIn es (with_row below (with_attached None) es) upper cell None
   IsPutIn-unhang attached =
-      let apart = AreNamedApart-rows es grove.own_names in
+      let apart = grove.own_names in
       record {
         same = nodes-with_row es below (with_attached None) (λ row. refl);
         here = ap (number_in (nodes es)) (seen (with_attached None) upper.client upper.name cell.column cell.row ∙ child_in-detach_same (rows_in es) upper.client lower.name upper.name cell lower apart grove.planted.own_cells named_lower attached);
@@ -172,7 +173,7 @@ module _ (es : List (ℕ × Row)) (below : ℕ) (upper lower : Row) (cell : Cell
       }
 
 -- a new row, which hangs nowhere
-module _ (es : List (ℕ × Row)) (id : ℕ) (row : Row) (absent : row_at es id ≡ None) (alone : row.attached ≡ None) (unnamed : id_named (nodes es) row.client row.name ≡ None) (grove : IsGrove es) where
+module _ (es : List (ℕ × Row)) (id : ℕ) (row : Row) (absent : row_at es id ≡ None) (alone : row.attached ≡ None) (unnamed : row_named (rows_in es) row.client row.name ≡ None) (grove : IsGrove es) where
   child_in-more : (client : ℕ) (name : List ℕ) (column line : ℕ) → child_in (rows_in (es ++ (id, row) ∷ [])) client name column line ≡ child_in (rows_in es) client name column line
   child_in-more client name column line =
       ap (find (stands_at client name column line)) (rows-push es id row)
@@ -195,7 +196,7 @@ module _ (es : List (ℕ × Row)) (id : ℕ) (row : Row) (absent : row_at es id 
       let stands = child_in-stands (rows_in es) row.client row.name column line child q in
       let place = find_place (stands_at row.client row.name column line) (rows_in es) child q in
       let right = hangs_right-at (rows_in es) child row.name stands.cell (all_at _ (rows_in es) place.0 child grove.planted.hang place.1) stands.attached in
-      let none : row_named (rows_in es) child.client row.name ≡ None = rw stands.owner (row_named-none es row.client row.name unnamed) in
+      let none : row_named (rows_in es) child.client row.name ≡ None = rw stands.owner unnamed in
       absurd (let both : None ≡ Some right.upper = sym none ∙ right.found in cc)
 
   same_number : (client : ℕ) (name : List ℕ) (column line : ℕ) (o : Option Row) → child_in (rows_in es) client name column line ≡ o → number_in (nodes (es ++ (id, row) ∷ [])) o ≡ number_in (nodes es) o

@@ -13,7 +13,8 @@ use Rattle.widget_model.specs.Widgets.{row_at, nodes, with_row}
 use Rattle.widget_model.specs.Rows.{IsIndex}
 use Rattle.widget_model.specs.Forest.{HaveOwnNumbers}
 use Rattle.row_store.specs.CellTable.{cell_offset}
-use Rattle.tree_core.specs.Children.{rows_in, widgets_in, HasChildren}
+use Rattle.widget_model.specs.Widgets.{rows_in}
+use Rattle.tree_core.specs.Children.{widgets_in, HasChildren}
 use Rattle.tree_core.specs.Kept.{IsGrove}
 use Rattle.widget_model.proofs.Naming.{row_at-named, with_row-absent}
 use Rattle.tree_core.proofs.Children.{child_id-hangs, attached-hangs, HangsUnder-HangsAt, hangs-child_id}

@@ -1,35 +1,33 @@
 -- What is left where a row that isn't used is taken out, or all rows of a client.
-use Rattle.std.proofs.Common.{◌≡◌, ◌≤◌, ◌<◌, ◌+◌, ◌-◌, ◌*◌, ◌⊎◌, inl, inr, ℕ, suc, Bool, true, false, cond, not, ◌&&◌, ◌||◌, nat_eq, length, get_or, List, [], ◌∷◌, Option, Some, None, refl, sym, ap, ◌∙◌, subst, slice_get, arith}
-use Rattle.std.proofs.lemmas.Bool.{true≢false, eqb-true, eqb-false, eq-eqb, and_parts, and_from, or_parts, cases_lt}
+use Rattle.std.proofs.Common.{◌≡◌, ◌≤◌, ◌<◌, ◌+◌, ◌-◌, ◌*◌, ◌⊎◌, inl, inr, ℕ, suc, Bool, true, false, cond, not, ◌&&◌, nat_eq, length, get_or, List, [], ◌∷◌, Option, Some, None, refl, sym, ap, ◌∙◌, slice_get, arith}
+use Rattle.std.proofs.lemmas.Bool.{true≢false, eqb-true, eq-eqb, and_parts, and_from, cases_lt}
 use Rattle.std.proofs.lemmas.Bool.Decides.{nat_tests}
-use Rattle.std.proofs.lemmas.Slice.Eq.{bytes_eq-Decides}
 use Rattle.std.specs.Cmp.Lexicographic.{nat_list_eq_equiv}
-use Rattle.std.specs.List.{list_any, find, filter}
+use Rattle.std.specs.List.{find, filter}
 use Rattle.std.specs.Option.{option_map_or, option_and_then}
 use Rattle.std.specs.Str.{bytes_eq}
 use Rattle.kind_core.specs.declared.shapes.Cell.{Cell}
 use Rattle.widget_model.specs.Rows.{Row, IsIndex}
-use Rattle.widget_model.specs.Nodes.{id_named, is_number_of, first_number}
-use Rattle.widget_model.specs.Named.{has_name, without_named, rows_of_others}
-use Rattle.widget_model.specs.Trees.{hangs, is_child, links_to, is_admitted, is_used, stands_at, child_in}
-use Rattle.widget_model.specs.Links.{ties, all_lead}
+use Rattle.widget_model.specs.Nodes.{id_named, is_number_of}
+use Rattle.widget_model.specs.Named.{has_name}
+use Rattle.widget_model.specs.Trees.{is_child, stands_at, child_in}
 use Rattle.widget_model.specs.Relatives.{child_id}
-use Rattle.widget_model.specs.Planted.{IsPlanted}
 use Rattle.widget_model.specs.Widgets.{row_at, nodes, without_row}
-use Rattle.widget_model.proofs.Cells.{attached_of_alone, child_in-stands}
-use Rattle.widget_model.proofs.Hanging.{none_at, find-filter, IsNamed-from}
-use Rattle.widget_model.proofs.Naming.{rows-without_row, rows-filter_others, id_named-row}
-use Rattle.widget_model.proofs.Planting.{IsPlanted-remove, IsPlanted-others}
+use Rattle.widget_model.proofs.Cells.{child_in-stands}
+use Rattle.widget_model.proofs.Hanging.{none_at, IsNamed-from, row_named-only}
+use Rattle.widget_model.proofs.Naming.{rows-filter_others}
+use Rattle.widget_model.proofs.LeftRows.{IsFree}
 use Rattle.row_store.specs.CellTable.{cell_offset}
 use Rattle.row_store.proofs.UnderNumbers.{row_at-without_row, row_at-filter}
 use Rattle.row_store.proofs.UnderNames.{id_named-without, id_named-others}
-use Rattle.tree_core.specs.Children.{rows_in, widgets_in, HasChildren}
+use Rattle.widget_model.specs.Widgets.{rows_in}
+use Rattle.tree_core.specs.Children.{widgets_in, HasChildren}
 use Rattle.tree_core.specs.Kept.{IsGrove}
-use Rattle.tree_core.proofs.Listed.{numbered_place, listed_number, row_named-row, find_place}
+use Rattle.tree_core.proofs.Listed.{row_named-row, find_place}
 use Rattle.tree_core.proofs.Children.{own_number, child_in-number}
 use Rattle.tree_core.proofs.ForestLemmas.{rows_but, number-client}
-use Rattle.tree_core.proofs.LinkRows.{linked-left}
-use Rattle.tree_core.proofs.Moves.{IsLeftOf, HasChildren-left, child_id-row, child_id-none}
+use Rattle.tree_core.proofs.Groves.{rows_in-without_row}
+use Rattle.tree_core.proofs.Moves.{HasChildren-left, child_id-row, child_id-none}
 
 -- a search among the rows that are left, where those that it passes are left
 find-left : {X : Type 0} (p stays : X → Bool) (xs : List X) → ((i : ℕ) (x : X) → slice_get xs i ≡ Some x → p x ≡ true → stays x ≡ true) → find p (filter stays xs) ≡ find p xs
@@ -42,69 +40,18 @@ find-left p stays (y ∷ ys) each = by (stays y) refl (p y) refl (find-left p st
     by false q true r rest = absurd (true≢false (sym (each 0 y refl r) ∙ q))
     by false q false r rest = rest
 
--- a row that isn't used
-pub record IsFree (es : List (ℕ × Row)) (id : ℕ) (row : Row) : Type 0 where
-  pub there : row_at es id ≡ Some row
-  pub alone : row.attached ≡ None
-  pub childless : list_any (is_child row.client row.name) (rows_in es) ≡ false
-  pub unlinked : list_any (links_to row.client row.name) (rows_in es) ≡ false
-  pub unused : is_used (rows_in es) row ≡ false
-
-pub IsFree-unused : (es : List (ℕ × Row)) (id : ℕ) (row : Row) → row_at es id ≡ Some row → is_used (rows_in es) row ≡ false → IsFree es id row
-IsFree-unused es id row there unused =
-    let parts = or_parts (hangs row) (list_any (is_child row.client row.name) (rows_in es) || (list_any (links_to row.client row.name) (rows_in es) || is_admitted row)) unused in
-    let rest = or_parts (list_any (is_child row.client row.name) (rows_in es)) (list_any (links_to row.client row.name) (rows_in es) || is_admitted row) parts.1 in
-    let last = or_parts (list_any (links_to row.client row.name) (rows_in es)) (is_admitted row) rest.1 in
-    record { there = there; alone = attached_of_alone row parts.0; childless = rest.0; unlinked = last.0; unused = unused }
-
-module _ (es : List (ℕ × Row)) (cells : List (Option ℕ)) (id : ℕ) (row : Row) (grove : IsGrove es) (free : IsFree es id row) where
-  rows_left : rows_in (without_row id es) ≡ without_named row.client row.name (rows_in es)
-  rows_left = rows-without_row es row.client row.name id grove.own_numbers grove.own_names (id_named-row es id row grove.own_names free.there)
-
-  pub planted-without : IsPlanted (rows_in (without_row id es))
-  planted-without =
-      let P : List Row → Type 0 = λ rows. IsPlanted rows in
-      subst P (sym rows_left) (IsPlanted-remove (rows_in es) row.client row.name row (row_named-row es id row grove.own_numbers grove.own_names free.there) free.unused grove.planted)
-
+module _ (es : List (ℕ × Row)) (cells : List (Option ℕ)) (id : ℕ) (row : Row) (grove : IsGrove es) (there : row_at es id ≡ Some row) (free : IsFree (rows_in es) row) where
   -- a row with its name is it
   only : (i : ℕ) (r : Row) → slice_get (rows_in es) i ≡ Some r → has_name row.client row.name r ≡ true → r ≡ row
-  only i r at named =
-      let is = IsNamed-from row.client row.name r named in
-      let number = listed_number es i r grove.own_numbers at in
-      let same = own_number es number.0 id r row grove number.1 free.there is.client_is is.name_is in
-      let one : Some r ≡ Some row = sym number.1 ∙ ap (row_at es) same ∙ free.there in
-      cc
-
-  -- no row that is left is linked to it
-  pub linked-without : all_lead (nodes es) (ties es) ≡ true → all_lead (nodes (without_row id es)) (ties (without_row id es)) ≡ true
-  linked-without = linked-left es (without_row id es) (λ (r : Row). not (has_name row.client row.name r)) rows_left each
-    where
-      each : (i : ℕ) (r : Row) (name : List ℕ) → slice_get (rows_in es) i ≡ Some r → not (has_name row.client row.name r) ≡ true → r.link ≡ Some name → (other : Row) → has_name r.client name other ≡ true → not (has_name row.client row.name other) ≡ true
-      each i r name at left link other named = by (has_name row.client row.name other) refl
-        where
-          by : (b : Bool) → has_name row.client row.name other ≡ b → not b ≡ true
-          by false q = refl
-          by true q =
-              let mine = IsNamed-from row.client row.name other q in
-              let theirs = IsNamed-from r.client name other named in
-              let client : r.client ≡ row.client = sym theirs.client_is ∙ mine.client_is in
-              let to : r.link ≡ Some row.name = link ∙ ap Some (sym theirs.name_is ∙ mine.name_is) in
-              let none : (nat_eq row.client r.client && (option_map_or (bytes_eq row.name) r.link false && not (bytes_eq row.name r.name))) ≡ false = none_at (links_to row.client row.name) (rows_in es) i r free.unlinked at in
-              let own : nat_eq row.client r.client ≡ true = eq-eqb row.client r.client (sym client) in
-              let linked : option_map_or (bytes_eq row.name) r.link false ≡ true = ap (λ (o : Option (List ℕ)). option_map_or (bytes_eq row.name) o false) to ∙ nat_list_eq_equiv.refl row.name in
-              absurd (itself (bytes_eq row.name r.name) refl (rw (own, linked) at none) (rw own at left))
-            where
-              itself : (b : Bool) → bytes_eq row.name r.name ≡ b → not (bytes_eq row.name r.name) ≡ false → not (true && bytes_eq row.name r.name) ≡ true → ⊥
-              itself true p k l = true≢false (sym l ∙ rw p refl)
-              itself false p k l = true≢false (sym (ap not p) ∙ k)
+  only i r at named = row_named-only (rows_in es) i r row row.client row.name grove.own_names (row_named-row es id row grove.own_numbers grove.own_names there) at named
 
   pub children-without : HasChildren es cells → HasChildren (without_row id es) cells
   children-without h =
       HasChildren-left es (without_row id es) cells cells
       (record {
         stays = λ above upper at. (was above upper (nat_eq id above) refl (sym (row_at-without_row es id above) ∙ at)).1;
-        found = λ above column line upper at. ap (find (stands_at upper.client upper.name column line)) rows_left ∙ find-left (stands_at upper.client upper.name column line) (λ (r : Row). not (has_name row.client row.name r)) (rows_in es) (λ i r there hung. other_than upper.client upper.name column line i r there hung);
-        number = λ above column line upper child at q. id_named-without es id row child.client child.name grove.own_numbers grove.own_names free.there ∙ ap (λ (b : Bool). cond b None (id_named (nodes es) child.client child.name)) (another upper.client upper.name column line child q);
+        found = λ above column line upper at. ap (find (stands_at upper.client upper.name column line)) (rows_in-without_row es id row grove there) ∙ find-left (stands_at upper.client upper.name column line) (λ (r : Row). not (has_name row.client row.name r)) (rows_in es) (λ i r there hung. other_than upper.client upper.name column line i r there hung);
+        number = λ above column line upper child at q. id_named-without es id row child.client child.name grove.own_numbers grove.own_names there ∙ ap (λ (b : Bool). cond b None (id_named (nodes es) child.client child.name)) (another upper.client upper.name column line child q);
         cell = λ above column line upper c l at. refl;
         empty = λ above column line c l at. h.each above column line c l ∙ gone above column line (nat_eq id above) refl (sym (row_at-without_row es id above) ∙ at);
       })
@@ -137,15 +84,15 @@ module _ (es : List (ℕ × Row)) (cells : List (Option ℕ)) (id : ℕ) (row : 
           by true r =
               let number = child_in-number es client name column line child grove q in
               let is = IsNamed-from child.client child.name row r in
-              let same = own_number es id number.0 row child grove free.there number.1 is.client_is is.name_is in
-              let one : Some row ≡ Some child = sym free.there ∙ ap (row_at es) same ∙ number.1 in
+              let same = own_number es id number.0 row child grove there number.1 is.client_is is.name_is in
+              let one : Some row ≡ Some child = sym there ∙ ap (row_at es) same ∙ number.1 in
               let stands = child_in-stands (rows_in es) client name column line child q in
               absurd (let none : None ≡ Some (name, stands.cell) = sym free.alone ∙ (let it : row ≡ child = cc in ap (λ (x : Row). x.attached) it) ∙ stands.attached in cc)
 
       -- nothing hung in it
       gone : (above column line : ℕ) (b : Bool) → nat_eq id above ≡ b → cond b None (row_at es above) ≡ None → child_id (widgets_in es) above column line ≡ None
       gone above column line false q none = child_id-none es above column line none
-      gone above column line true q none = child_id-row es above column line row (ap (row_at es) (sym (eqb-true id above q)) ∙ free.there) ∙ ap (option_and_then (λ (child : Row). id_named (nodes es) child.client child.name)) (by (child_in (rows_in es) row.client row.name column line) refl)
+      gone above column line true q none = child_id-row es above column line row (ap (row_at es) (sym (eqb-true id above q)) ∙ there) ∙ ap (option_and_then (λ (child : Row). id_named (nodes es) child.client child.name)) (by (child_in (rows_in es) row.client row.name column line) refl)
         where
           by : (o : Option Row) → child_in (rows_in es) row.client row.name column line ≡ o → o ≡ None
           by None p = refl
@@ -164,14 +111,6 @@ pub record IsEmptied (client : ℕ) (cells new_cells : List (Option ℕ)) : Type
   pub len : length new_cells ≡ length cells
 
 module _ (es : List (ℕ × Row)) (gone : ℕ) (grove : IsGrove es) where
-  pub planted-others : IsPlanted (rows_in (rows_but gone es))
-  planted-others =
-      let P : List Row → Type 0 = λ rows. IsPlanted rows in
-      subst P (sym (rows-filter_others es gone)) (IsPlanted-others (rows_in es) gone grove.planted)
-
-  pub linked-others : all_lead (nodes es) (ties es) ≡ true → all_lead (nodes (rows_but gone es)) (ties (rows_but gone es)) ≡ true
-  linked-others = linked-left es (rows_but gone es) (λ (r : Row). not (nat_eq gone r.client)) (rows-filter_others es gone) (λ i r name at left link other named. ap (λ (client : ℕ). not (nat_eq gone client)) (IsNamed-from r.client name other named).client_is ∙ left)
-
   module _ (cells new_cells : List (Option ℕ)) (low : 1 ≤ gone) (owned : (id : ℕ) (row : Row) → row_at es id ≡ Some row → is_number_of row.client id ≡ true) (emptied : IsEmptied gone cells new_cells) where
     was : (above : ℕ) (upper : Row) → row_at (rows_but gone es) above ≡ Some upper → (row_at es above ≡ Some upper) × (nat_eq gone upper.client ≡ false)
     was above upper at = by (row_at es above) refl (sym (row_at-filter (λ (e : ℕ × Row). not (nat_eq gone e.1.client)) es above grove.own_numbers) ∙ at)

@@ -1,7 +1,7 @@
 -- What each call leaves of the parts of a tree.
-use Rattle.std.proofs.Common.{rules, ◌≡◌, ◌≤◌, ◌<◌, ◌+◌, ◌-◌, ◌*◌, ◌||◌, ℕ, Bool, true, false, cond, not, nat_eq, is_some, length, get_or, IfSome, List, [], ◌∷◌, ◌++◌, Option, Some, None, refl, sym, ap, ◌∙◌, subst, arith}
+use Rattle.std.proofs.Common.{rules, ◌≡◌, ◌≤◌, ◌<◌, ◌+◌, ◌-◌, ◌*◌, ℕ, Bool, true, false, cond, not, nat_eq, is_some, length, get_or, IfSome, List, [], ◌∷◌, ◌++◌, Option, Some, None, refl, sym, ap, ◌∙◌, subst, arith}
 use Rattle.std.proofs.Math.ListN.{length-set}
-use Rattle.std.proofs.lemmas.Bool.{true≢false, eqb-true, eqb-false, and_parts, and_from}
+use Rattle.std.proofs.lemmas.Bool.{true≢false, eqb-true, and_parts, and_from, le-leb}
 use Rattle.std.proofs.lemmas.Bool.Decides.{nat_tests}
 use Rattle.std.proofs.lemmas.List.{get_or-set_same, get_or-set_other, length-replicate}
 use Rattle.std.specs.List.{filter, list_all}
@@ -13,19 +13,23 @@ use Rattle.kind_core.specs.declared.shapes.Cell.{Cell}
 use Rattle.vscreen_core.specs.FilmState.{FilmState, IsFilm}
 use Rattle.widget_model.specs.Rows.{Row, IsIndex, with_link, with_attached, with_film, new_row}
 use Rattle.widget_model.specs.Nodes.{Node, node_of, is_number_of, first_number}
+use Rattle.widget_model.specs.Named.{with_named}
 use Rattle.widget_model.specs.Planted.{IsPlanted}
 use Rattle.widget_model.specs.KeptPlaces.{no_places, most_numbers, place_in, placed, unplaced}
-use Rattle.widget_model.specs.Fitting.{is_fit, IsFitFilm, HaveFitFilms}
-use Rattle.widget_model.specs.Links.{ties, leads, all_lead}
+use Rattle.widget_model.specs.Fitting.{is_fit, IsFitFilm}
 use Rattle.widget_model.specs.Trees.{is_used}
-use Rattle.widget_model.specs.Widgets.{Widgets, row_at, nodes, with_row, without_row, row_kind, IsLive}
+use Rattle.widget_model.specs.Widgets.{Widgets, row_at, nodes, rows_in, rows_of, with_row, without_row, row_kind, IsLive}
 use Rattle.widget_model.specs.Clients.{is_joined, is_client}
-use Rattle.widget_model.specs.Forest.{HaveOwnNumbers, IsForest, ArePlaces}
+use Rattle.widget_model.specs.RowFacts.{links_right, AreRows}
+use Rattle.widget_model.specs.Forest.{HaveOwnNumbers, AreNumbered, ArePlaces, IsWidgets}
 use Rattle.widget_model.proofs.Fit.{is_fit-new}
-use Rattle.widget_model.proofs.FitFilms.{HaveFitFilms-with_row, HaveFitFilms-push, HaveFitFilms-filter}
-use Rattle.widget_model.proofs.Hanging.{all_at, all-filter}
-use Rattle.widget_model.proofs.Naming.{with_row-absent, rows-push, row_named-none}
-use Rattle.widget_model.proofs.Planting.{IsPlanted-push}
+use Rattle.widget_model.proofs.Hanging.{all_at}
+use Rattle.widget_model.proofs.Leaves.{LeavesNode-node}
+use Rattle.widget_model.proofs.ChangedRows.{Suits, AreRows-with_named}
+use Rattle.widget_model.proofs.NewRows.{IsNew, all-push, AreRows-push, AreRows-joined}
+use Rattle.widget_model.proofs.LeftRows.{all-kept, IsFree-unused, AreRows-remove, AreRows-others}
+use Rattle.widget_model.proofs.Naming.{rows-push, rows-filter_others}
+use Rattle.widget_model.proofs.Planting.{IsPlanted-change}
 use Rattle.widget_model.proofs.Slots.{most_numbers-is, emptied_slot, still_empty, length-unplaced, unplaced-none, unplaced-own}
 use Rattle.row_store.specs.CellTable.{cell_offset}
 use Rattle.row_store.specs.declared.count.Count.{Count}
@@ -33,19 +37,18 @@ use Rattle.row_store.specs.Counts.{AreCounts, no_counts, lost, forgotten}
 use Rattle.row_store.specs.Index.{IsIndexed}
 use Rattle.row_store.specs.KeptSlots.{Kept}
 use Rattle.row_store.proofs.Options.{none_or_some}
-use Rattle.row_store.proofs.CountsLemmas.{AreCounts-none, AreCounts-lose, AreCounts-forget}
+use Rattle.row_store.proofs.CountsLemmas.{AreCounts-none, AreCounts-with_named, AreCounts-lose, AreCounts-forget}
 use Rattle.row_store.proofs.FilledUp.{none_anywhere}
-use Rattle.row_store.proofs.UnderNumbers.{node_at-nodes, nodes-push, nodes-with_row, row_at-with_row, row_at-without_row, row_at-filter, without_row-filter}
+use Rattle.row_store.proofs.UnderNumbers.{nodes-with_row, row_at-with_row, row_at-without_row, row_at-filter, without_row-filter}
 use Rattle.row_store.proofs.UnderNames.{IsIndexed-others}
-use Rattle.tree_core.specs.Children.{rows_in, HasChildren}
-use Rattle.tree_core.specs.Kept.{IsGrove, Parts, IsTree}
+use Rattle.tree_core.specs.Children.{HasChildren}
+use Rattle.tree_core.specs.Kept.{IsGrove, Parts, IsTree, widgets_of}
 use Rattle.tree_core.specs.Refusals.{add_refusal}
-use Rattle.tree_core.proofs.Listed.{numbered_place, All-at}
-use Rattle.tree_core.proofs.ForestLemmas.{live-with_row, list_all-push, IsForest-join, IsForest-push, IsForest-filter, owners-filter, no_refusal, joined_in_range, was_joined, clients_but, rows_but, joined-before, owners-left, rows-departed}
-use Rattle.tree_core.proofs.LinkRows.{ties-with_row, linked-with_link, linked-push}
-use Rattle.tree_core.proofs.Groves.{IsGrove-leaves}
+use Rattle.tree_core.proofs.Listed.{numbered_place, All-at, row_named-row}
+use Rattle.tree_core.proofs.ForestLemmas.{live-with_row, AreNumbered-push, AreNumbered-filter, no_refusal, joined_in_range, was_joined, clients_but, rows_but, joined-before, rows-departed}
+use Rattle.tree_core.proofs.Groves.{rows_in-with_row, rows_in-without_row}
 use Rattle.tree_core.proofs.Moves.{HasChildren-still, HasChildren-push}
-use Rattle.tree_core.proofs.Taken.{IsFree, IsFree-unused, planted-without, linked-without, children-without, IsEmptied, planted-others, linked-others, children-others}
+use Rattle.tree_core.proofs.Taken.{children-without, IsEmptied, children-others}
 
 -- a live number has a row, whose values fit, and stays live when a row changes
 pub live_row : {clients : List ℕ} {es : List (ℕ × Row)} {places : List (Option Rect)} {widgets : Widgets} → record { clients = clients; entries = es; places = places } ≡ widgets → (id : ℕ) → IsLive widgets id → (row : Row) × (row_at es id ≡ Some row)
@@ -65,21 +68,6 @@ pub fits_at : (es : List (ℕ × Row)) (id : ℕ) (row : Row) → list_all is_fi
 fits_at es id row fitting there =
     let place = numbered_place es id row there in
     all_at is_fit (rows_in es) place.0 row fitting place.1
-
--- all rows pass a test after the numbered one has changed so that it passes, and after rows are taken out
-rows_all-with_row : (p : Row → Bool) (es : List (ℕ × Row)) (id : ℕ) (change : Row → Row) (row : Row) → HaveOwnNumbers (nodes es) → row_at es id ≡ Some row → p (change row) ≡ true → list_all p (rows_in es) ≡ true → list_all p (rows_in (with_row id change es)) ≡ true
-rows_all-with_row p [] id change row own there new old = refl
-rows_all-with_row p (e ∷ es) id change row own there new old = by (rows_all-with_row p es id change row own.1) (nat_eq id e.0) refl there (and_parts (p e.1) (list_all p (rows_in es)) old)
-  where
-    by : (row_at es id ≡ Some row → p (change row) ≡ true → list_all p (rows_in es) ≡ true → list_all p (rows_in (with_row id change es)) ≡ true) → (b : Bool) → nat_eq id e.0 ≡ b → cond b (Some e.1) (row_at es id) ≡ Some row → (p e.1 ≡ true) × (list_all p (rows_in es) ≡ true) → list_all p (rows_in (cond b (e.0, change e.1) e ∷ with_row id change es)) ≡ true
-    by rest true q h parts =
-        let same : e.1 ≡ row = cc in
-        rw (with_row-absent es id change (rw (eqb-true id e.0 q) own.0)) (and_from (p (change e.1)) (list_all p (rows_in es)) (ap (λ (r : Row). p (change r)) same ∙ new) parts.1)
-    by rest false q h parts = and_from (p e.1) (list_all p (rows_in (with_row id change es))) parts.0 (rest h new parts.1)
-
-rows_all-filter : (t : Row → Bool) (p : ℕ × Row → Bool) (es : List (ℕ × Row)) → list_all t (rows_in es) ≡ true → list_all t (rows_in (filter p es)) ≡ true
-rows_all-filter t p [] h = refl
-rows_all-filter t p (e ∷ es) h = grind (arith, rows_all-filter t p es)
 
 -- what holds of all nodes holds of a numbered row's
 pub nodes-all : (p : ℕ × Node → Bool) (es : List (ℕ × Row)) (id : ℕ) (row : Row) → list_all p (nodes es) ≡ true → row_at es id ≡ Some row → p (id, node_of row) ≡ true
@@ -101,11 +89,12 @@ pub record IsOwned (clients : List ℕ) (id : ℕ) (row : Row) : Type 0 where
   pub to : id < 128 * row.client
   pub joined : is_joined clients row.client ≡ true
 
-pub row-owned : (clients : List ℕ) (es : List (ℕ × Row)) (id : ℕ) (row : Row) → IsForest clients (nodes es) → row_at es id ≡ Some row → IsOwned clients id row
-row-owned clients es id row forest there =
-    let joined : is_joined clients row.client ≡ true = nodes-all (λ (e : ℕ × Node). is_joined clients e.1.client) es id row forest.owners there in
-    let range = joined_in_range clients row.client joined forest.clients_in_range in
-    let own : is_number_of row.client id ≡ true = nodes-all (λ (e : ℕ × Node). is_number_of e.1.client e.0) es id row forest.numbers there in
+pub row-owned : (w : Widgets) (id : ℕ) (row : Row) → IsWidgets w → row_at w.entries id ≡ Some row → IsOwned w.clients id row
+row-owned w id row widgets there =
+    let place = numbered_place w.entries id row there in
+    let joined : is_joined w.clients row.client ≡ true = all_at (λ (row : Row). is_joined w.clients row.client) (rows_of w) place.0 row widgets.rows.owners place.1 in
+    let range = joined_in_range w.clients row.client joined widgets.clients in
+    let own : is_number_of row.client id ≡ true = nodes-all (λ (e : ℕ × Node). is_number_of e.1.client e.0) w.entries id row widgets.numbered.numbers there in
     record { low = range.0; high = range.1; own = own; from = from row.client id own; to = to row.client id own; joined = joined }
   where
     from : (client id : ℕ) → is_number_of client id ≡ true → 128 * (client - 1) ≤ id
@@ -131,14 +120,15 @@ pub record LeavesTies (change : Row → Row) : Type 0 where
 pub IsTree-none : (kept : Kept) → kept.slots ≡ no_places → IsTree (record { clients = []; names = []; entries = []; cells = []; counts = no_counts; kept = kept })
 IsTree-none kept same =
     let placed : ArePlaces [] kept.slots = record { slots = ap length same ∙ length-replicate most_numbers None; live = λ id none. ap (λ (slots : List (Option Rect)). place_in slots id) same ∙ none_anywhere most_numbers id } in
-    record { widgets = record { forest = search rules; linked = refl; planted = search rules; fitting = refl; films = search rules; placed = placed }; indexed = search rules; counted = AreCounts-none; children = search rules; reach = λ client joined. absurd (true≢false (sym joined)); made = λ client joined. absurd (true≢false (sym joined)) }
+    let rows : AreRows [] [] = record { owners = refl; names = tt; most = λ client. omega arith; most_alike = λ client kind. omega arith; planted = search rules; linked = refl; fitting = refl; films = search rules } in
+    record { widgets = record { clients = refl; rows = rows; numbered = record { own_numbers = tt; numbers = refl }; placed = placed }; indexed = search rules; counted = AreCounts-none; children = search rules; reach = λ client joined. absurd (true≢false (sym joined)); made = λ client joined. absurd (true≢false (sym joined)) }
 
 pub IsGrove-tree : {parts : Parts} → IsTree parts → IsGrove parts.entries
-IsGrove-tree tree = record { own_numbers = tree.widgets.forest.own_numbers; own_names = tree.widgets.forest.own_names; planted = tree.widgets.planted }
+IsGrove-tree tree = record { own_numbers = tree.widgets.numbered.own_numbers; own_names = tree.widgets.rows.names; planted = tree.widgets.rows.planted }
 
 module _ {parts : Parts} (tree : IsTree parts) where
   pub owned : (id : ℕ) (row : Row) → row_at parts.entries id ≡ Some row → IsOwned parts.clients id row
-  owned id row there = row-owned parts.clients parts.entries id row tree.widgets.forest there
+  owned id row there = row-owned (widgets_of parts) id row tree.widgets there
 
   pub client-below : (id : ℕ) (row : Row) → row_at parts.entries id ≡ Some row → row.client < 17
   client-below id row there = let own = owned id row there in omega (arith, own.high)
@@ -146,7 +136,7 @@ module _ {parts : Parts} (tree : IsTree parts) where
   pub member : {widgets : Widgets} → record { clients = parts.clients; entries = parts.entries; places = parts.kept.slots } ≡ widgets → (client : ℕ) → is_joined widgets.clients client ≡ true → IsMember parts.clients client
   member view client there =
       let joined = ap (λ (w : Widgets). is_joined w.clients client) view ∙ there in
-      let range = joined_in_range parts.clients client joined tree.widgets.forest.clients_in_range in
+      let range = joined_in_range parts.clients client joined tree.widgets.clients in
       record { joined = joined; low = range.0; high = range.1; below = omega (arith, range.1) }
 
   -- the cells and the slot of a live number are there
@@ -175,30 +165,29 @@ module _ {parts : Parts} (tree : IsTree parts) where
           let place = numbered_place parts.entries id row p in
           let same : row.film ≡ film = cc in
           let W : Option FilmState → Type 0 = λ o. IfSome o (λ film. IsFilm film) in
-          subst W same (whole row.film row.kind (All-at IsFitFilm (rows_in parts.entries) place.0 row tree.widgets.films place.1))
+          subst W same (whole row.film row.kind (All-at IsFitFilm (rows_in parts.entries) place.0 row tree.widgets.rows.films place.1))
 
   -- a row changes
-  IsTree-with_row : (id : ℕ) (change : Row → Row) (row : Row) → row_at parts.entries id ≡ Some row → ((row : Row) → node_of (change row) ≡ node_of row) → all_lead (nodes parts.entries) (ties (with_row id change parts.entries)) ≡ true → IsPlanted (rows_in (with_row id change parts.entries)) → is_fit (change row) ≡ true → ((r : Row) → row_at parts.entries id ≡ Some r → IsFitFilm r → IsFitFilm (change r)) → (cells : List (Option ℕ)) → HasChildren (with_row id change parts.entries) cells → length cells ≡ length parts.cells → IsTree (record parts { entries = with_row id change parts.entries; cells = cells })
-  IsTree-with_row id change row there node linked planted fits films cells children len =
-      let same = nodes-with_row parts.entries id change node in
-      let forest = tree.widgets.forest in
+  IsTree-with_row : (id : ℕ) (change : Row → Row) (row : Row) → row_at parts.entries id ≡ Some row → ((row : Row) → node_of (change row) ≡ node_of row) → Suits (rows_in parts.entries) row.client row.name row change → (cells : List (Option ℕ)) → HasChildren (with_row id change parts.entries) cells → length cells ≡ length parts.cells → IsTree (record parts { entries = with_row id change parts.entries; cells = cells })
+  IsTree-with_row id change row there node suits cells children len =
+      let es = parts.entries in
+      let old = tree.widgets in
+      let nodes_same = nodes-with_row es id change node in
+      let rows_same = rows_in-with_row es id change row (IsGrove-tree tree) there in
+      let named = row_named-row es id row old.numbered.own_numbers old.rows.names there in
+      let R : List Row → Type 0 = λ rows. AreRows parts.clients rows in
+      let N : List (ℕ × Node) → Type 0 = λ ns. AreNumbered ns in
       let I : List (ℕ × Node) → Type 0 = λ ns. IsIndexed parts.names ns in
-      let F : List (ℕ × Node) → Type 0 = λ ns. IsForest parts.clients ns in
-      let C : List (ℕ × Node) → Type 0 = λ ns. AreCounts parts.counts ns in
+      let C : List Row → Type 0 = λ rows. AreCounts parts.counts rows in
       record {
         widgets = record {
-          forest = subst F (sym same) forest;
-          linked = ap (λ (ns : List (ℕ × Node)). all_lead ns (ties (with_row id change parts.entries))) same ∙ linked;
-          planted = planted;
-          fitting = rows_all-with_row is_fit parts.entries id change row forest.own_numbers there fits tree.widgets.fitting;
-          films = HaveFitFilms-with_row parts.entries id change forest.own_numbers films tree.widgets.films;
-          placed = record {
-            slots = tree.widgets.placed.slots;
-            live = λ other none. tree.widgets.placed.live other (unmapped other (row_at parts.entries other) (sym (row_at-with_row parts.entries id change other) ∙ none));
-          };
+          clients = old.clients;
+          rows = subst R (sym rows_same) (AreRows-with_named parts.clients (rows_in es) row.client row.name row change old.rows named suits);
+          numbered = subst N (sym nodes_same) old.numbered;
+          placed = record { slots = old.placed.slots; live = λ other none. old.placed.live other (unmapped other (row_at es other) (sym (row_at-with_row es id change other) ∙ none)) };
         };
-        indexed = subst I (sym same) tree.indexed;
-        counted = subst C (sym same) tree.counted;
+        indexed = subst I (sym nodes_same) tree.indexed;
+        counted = subst C (sym rows_same) (AreCounts-with_named parts.counts (rows_in es) row.client row.name change suits.leaves tree.counted);
         children = children;
         reach = λ client joined. omega (arith, tree.reach client joined, len);
         made = tree.made;
@@ -209,35 +198,34 @@ module _ {parts : Parts} (tree : IsTree parts) where
       unmapped other (Some r) h = absurd (cc)
 
   module _ (id : ℕ) (row : Row) (there : row_at parts.entries id ≡ Some row) where
-    pub IsTree-leaves : (change : Row → Row) → LeavesTies change → (is_fit row ≡ true → is_fit (change row) ≡ true) → ((r : Row) → row_at parts.entries id ≡ Some r → IsFitFilm r → IsFitFilm (change r)) → IsTree (record parts { entries = with_row id change parts.entries })
+    -- a change that leaves how the row hangs
+    IsTree-still : (change : Row → Row) → ((row : Row) → node_of (change row) ≡ node_of row) → ((row : Row) → (change row).attached ≡ row.attached) → (links_right (rows_in parts.entries) row ≡ true → links_right (rows_in parts.entries) (change row) ≡ true) → (is_fit row ≡ true → is_fit (change row) ≡ true) → (IsFitFilm row → IsFitFilm (change row)) → IsTree (record parts { entries = with_row id change parts.entries })
+    IsTree-still change node attached linked fits films =
+        let leaves = LeavesNode-node change node in
+        let planted = IsPlanted-change (rows_in parts.entries) row.client row.name change (record { leaves = leaves; attached = attached }) tree.widgets.rows.planted in
+        IsTree-with_row id change row there node (record { leaves = leaves; planted = planted; linked = linked; fitting = fits; films = films }) parts.cells
+        (HasChildren-still id change node attached parts.entries parts.cells tree.children) refl
+
+    pub IsTree-leaves : (change : Row → Row) → LeavesTies change → (is_fit row ≡ true → is_fit (change row) ≡ true) → (IsFitFilm row → IsFitFilm (change row)) → IsTree (record parts { entries = with_row id change parts.entries })
     IsTree-leaves change leaves fits films =
-        IsTree-with_row id change row there leaves.node
-        (ap (all_lead (nodes parts.entries)) (ties-with_row parts.entries id change leaves.node leaves.link) ∙ tree.widgets.linked)
-        (IsGrove-leaves parts.entries id change row leaves.node leaves.attached (IsGrove-tree tree) there).planted
-        (fits (fits_at parts.entries id row tree.widgets.fitting there)) films parts.cells
-        (HasChildren-still id change leaves.node leaves.attached parts.entries parts.cells tree.children) refl
+        IsTree-still change leaves.node leaves.attached (λ h. rw (ap (λ (n : Node). n.client) (leaves.node row), leaves.link row) h) fits films
 
     -- another film of a VScreen, or none
     pub IsTree-film : (film : Option FilmState) → IfSome film (λ film. (row.kind ≡ VScreen) × IsFilm film) → IsTree (record parts { entries = with_row id (with_film film) parts.entries })
-    IsTree-film film whole =
-        IsTree-leaves (with_film film) (record { node = λ r. refl; link = λ r. refl; attached = λ r. refl }) (λ fits. fits)
-        (λ r at fit. let same : row ≡ r = (let one : Some row ≡ Some r = sym there ∙ at in cc) in let F : Row → Type 0 = λ x. IsFitFilm (with_film film x) in subst F same whole)
+    IsTree-film film whole = IsTree-leaves (with_film film) (record { node = λ r. refl; link = λ r. refl; attached = λ r. refl }) (λ fits. fits) (λ fit. whole)
 
     -- a link to a Variable
-    pub IsTree-link : (link : Option (List ℕ)) → leads (nodes parts.entries) row.client link ≡ true → IsTree (record parts { entries = with_row id (with_link link) parts.entries })
-    IsTree-link link new =
-        IsTree-with_row id (with_link link) row there (λ r. refl)
-        (linked-with_link (nodes parts.entries) parts.entries id row link tree.widgets.forest.own_numbers there new tree.widgets.linked)
-        (IsGrove-leaves parts.entries id (with_link link) row (λ r. refl) (λ r. refl) (IsGrove-tree tree) there).planted
-        (fits_at parts.entries id row tree.widgets.fitting there) (λ r at fit. fit) parts.cells
-        (HasChildren-still id (with_link link) (λ r. refl) (λ r. refl) parts.entries parts.cells tree.children) refl
+    pub IsTree-link : (link : Option (List ℕ)) → links_right (rows_in parts.entries) (with_link link row) ≡ true → IsTree (record parts { entries = with_row id (with_link link) parts.entries })
+    IsTree-link link new = IsTree-still (with_link link) (λ r. refl) (λ r. refl) (λ old. new) (λ fits. fits) (λ fit. fit)
 
     -- a widget is hung in another, or taken out of one
     pub IsTree-attached : (attached : Option (List ℕ × Cell)) (cells : List (Option ℕ)) → IsGrove (with_row id (with_attached attached) parts.entries) → HasChildren (with_row id (with_attached attached) parts.entries) cells → length cells ≡ length parts.cells → IsTree (record parts { entries = with_row id (with_attached attached) parts.entries; cells = cells })
     IsTree-attached attached cells grove children len =
+        let P : List Row → Type 0 = λ rows. IsPlanted rows in
+        let planted : P (with_named row.client row.name (with_attached attached) (rows_in parts.entries)) = subst P (rows_in-with_row parts.entries id (with_attached attached) row (IsGrove-tree tree) there) grove.planted in
         IsTree-with_row id (with_attached attached) row there (λ r. refl)
-        (ap (all_lead (nodes parts.entries)) (ties-with_row parts.entries id (with_attached attached) (λ r. refl) (λ r. refl)) ∙ tree.widgets.linked)
-        grove.planted (fits_at parts.entries id row tree.widgets.fitting there) (λ r at fit. fit) cells children len
+        (record { leaves = LeavesNode-node (with_attached attached) (λ r. refl); planted = planted; linked = λ h. h; fitting = λ fits. fits; films = λ fit. fit })
+        cells children len
 
     -- the place of a live number is set
     pub IsTree-placed : (place : Option Rect) (new : Kept) → new.slots ≡ placed id place parts.kept.slots → new.made ≡ parts.kept.made → IsTree (record parts { kept = new })
@@ -245,11 +233,9 @@ module _ {parts : Parts} (tree : IsTree parts) where
         let old = tree.widgets in
         record {
           widgets = record {
-            forest = old.forest;
-            linked = old.linked;
-            planted = old.planted;
-            fitting = old.fitting;
-            films = old.films;
+            clients = old.clients;
+            rows = old.rows;
+            numbered = old.numbered;
             placed = record {
               slots = ap length slots ∙ length-set parts.kept.slots id place ∙ old.placed.slots;
               live = λ other none. ap (λ (all : List (Option Rect)). place_in all other) slots ∙ get_or-set_other parts.kept.slots id other place None (λ same. let gone : None ≡ Some row = sym none ∙ ap (row_at parts.entries) same ∙ there in absurd (cc)) ∙ old.placed.live other none;
@@ -268,25 +254,21 @@ module _ {parts : Parts} (tree : IsTree parts) where
         let es = parts.entries in
         let old = tree.widgets in
         let grove = IsGrove-tree tree in
-        let free = IsFree-unused es id row there unused in
-        let left = without_row-filter es id in
-        let F : List (ℕ × Row) → Type 0 = λ rest. IsForest parts.clients (nodes rest) in
-        let other = λ (e : ℕ × Row). not (nat_eq id e.0) in
+        let R : List Row → Type 0 = λ rows. AreRows parts.clients rows in
+        let N : List (ℕ × Row) → Type 0 = λ rest. AreNumbered (nodes rest) in
         record {
           widgets = record {
-            forest = subst F (sym left) (IsForest-filter parts.clients parts.clients other es old.forest (owners-filter parts.clients other es old.forest) old.forest.clients_in_range);
-            linked = linked-without es parts.cells id row grove free old.linked;
-            planted = planted-without es parts.cells id row grove free;
-            fitting = ap (λ (rest : List (ℕ × Row)). list_all is_fit (rows_in rest)) left ∙ rows_all-filter is_fit other es old.fitting;
-            films = let H : List (ℕ × Row) → Type 0 = λ rest. HaveFitFilms (rows_in rest) in subst H (sym left) (HaveFitFilms-filter other es old.films);
+            clients = old.clients;
+            rows = subst R (sym (rows_in-without_row es id row grove there)) (AreRows-remove parts.clients (rows_in es) row.client row.name row old.rows (row_named-row es id row grove.own_numbers grove.own_names there) unused);
+            numbered = subst N (sym (without_row-filter es id)) (AreNumbered-filter (λ (e : ℕ × Row). not (nat_eq id e.0)) es old.numbered);
             placed = record {
               slots = ap length slots ∙ length-set parts.kept.slots id None ∙ old.placed.slots;
               live = λ other none. ap (λ (all : List (Option Rect)). place_in all other) slots ∙ by other (nat_eq id other) refl (sym (row_at-without_row es id other) ∙ none);
             };
           };
           indexed = indexed;
-          counted = AreCounts-lose parts.counts es id row (client-below id row there) old.forest.own_numbers there tree.counted;
-          children = children-without es parts.cells id row grove free tree.children;
+          counted = AreCounts-lose parts.counts es id row (client-below id row there) old.numbered.own_numbers there tree.counted;
+          children = children-without es parts.cells id row grove there (IsFree-unused (rows_in es) row unused) tree.children;
           reach = tree.reach;
           made = λ client joined. omega (arith, made, tree.made client joined);
         }
@@ -296,22 +278,20 @@ module _ {parts : Parts} (tree : IsTree parts) where
         by other false q none = still_empty parts.kept.slots id other (tree.widgets.placed.live other none)
 
   -- a new row of a joined client, where there was memory for it
-  pub IsTree-added : (added : Bool) (names : List ((ℕ × List ℕ) × ℕ)) (counts : List Count) (id client : ℕ) (name : List ℕ) (kind : Kind) → row_at parts.entries id ≡ None → add_refusal (nodes parts.entries) client name kind ≡ None → is_number_of client id ≡ true → is_joined parts.clients client ≡ true → IsIndexed names (nodes (cond added (parts.entries ++ (id, new_row client name kind) ∷ []) parts.entries)) → AreCounts counts (nodes (cond added (parts.entries ++ (id, new_row client name kind) ∷ []) parts.entries)) → IsTree (record parts { names = names; entries = cond added (parts.entries ++ (id, new_row client name kind) ∷ []) parts.entries; counts = counts })
+  pub IsTree-added : (added : Bool) (names : List ((ℕ × List ℕ) × ℕ)) (counts : List Count) (id client : ℕ) (name : List ℕ) (kind : Kind) → row_at parts.entries id ≡ None → add_refusal (rows_in parts.entries) client name kind ≡ None → is_number_of client id ≡ true → is_joined parts.clients client ≡ true → IsIndexed names (nodes (cond added (parts.entries ++ (id, new_row client name kind) ∷ []) parts.entries)) → AreCounts counts (rows_in (cond added (parts.entries ++ (id, new_row client name kind) ∷ []) parts.entries)) → IsTree (record parts { names = names; entries = cond added (parts.entries ++ (id, new_row client name kind) ∷ []) parts.entries; counts = counts })
   unfolding new_row
   IsTree-added true names counts id client name kind absent allowed own joined indexed counted =
       let es = parts.entries in
       let row = new_row client name kind in
-      let checks = no_refusal (nodes es) client name kind allowed in
+      let checks = no_refusal (rows_in es) client name kind allowed in
       let old = tree.widgets in
-      let F : List (ℕ × Node) → Type 0 = λ ns. IsForest parts.clients ns in
-      let P : List Row → Type 0 = λ rows. IsPlanted rows in
+      let new : IsNew parts.clients (rows_in es) row = record { owner = joined; free = checks.0; few = checks.1; few_alike = checks.2; loose = refl; unlinked = refl; fitting = is_fit-new client name kind; no_film = refl } in
+      let R : List Row → Type 0 = λ rows. AreRows parts.clients rows in
       record {
         widgets = record {
-          forest = subst F (sym (nodes-push es id row)) (IsForest-push parts.clients (nodes es) id (node_of row) old.forest (node_at-nodes es id ∙ ap (option_map node_of) absent) checks.0 own joined checks.1 checks.2);
-          linked = linked-push es id row refl old.linked;
-          planted = subst P (sym (rows-push es id row)) (IsPlanted-push (rows_in es) row refl (row_named-none es client name checks.0) old.planted);
-          fitting = ap (list_all is_fit) (rows-push es id row) ∙ list_all-push is_fit (rows_in es) row old.fitting (is_fit-new client name kind);
-          films = HaveFitFilms-push es id row refl old.films;
+          clients = old.clients;
+          rows = subst R (sym (rows-push es id row)) (AreRows-push parts.clients (rows_in es) row old.rows new);
+          numbered = AreNumbered-push es id row old.numbered absent own;
           placed = record { slots = old.placed.slots; live = λ other none. old.placed.live other (before row es other none) };
         };
         indexed = indexed;
@@ -333,21 +313,21 @@ module _ {parts : Parts} (tree : IsTree parts) where
       let es = parts.entries in
       let old = tree.widgets in
       let grove = IsGrove-tree tree in
-      let others = λ (e : ℕ × Row). not (nat_eq gone e.1.client) in
+      let same = rows-filter_others es gone in
+      let R : List Row → Type 0 = λ rows. AreRows (clients_but gone parts.clients) rows in
+      let C : List Row → Type 0 = λ rows. AreCounts (forgotten gone parts.counts) rows in
       record {
         widgets = record {
-          forest = IsForest-filter parts.clients (clients_but gone parts.clients) others es old.forest (owners-left parts.clients gone es old.forest.owners) (all-filter is_client (λ (c : ℕ). not (nat_eq gone c)) parts.clients (λ i c there passes. all_at is_client parts.clients i c old.forest.clients_in_range there));
-          linked = linked-others es gone grove old.linked;
-          planted = planted-others es gone grove;
-          fitting = rows_all-filter is_fit others es old.fitting;
-          films = HaveFitFilms-filter others es old.films;
+          clients = all-kept is_client (λ (c : ℕ). not (nat_eq gone c)) parts.clients old.clients;
+          rows = subst R (sym same) (AreRows-others parts.clients (rows_in es) gone old.rows);
+          numbered = AreNumbered-filter (λ (e : ℕ × Row). not (nat_eq gone e.1.client)) es old.numbered;
           placed = record {
             slots = ap length slots ∙ length-unplaced gone parts.kept.slots ∙ old.placed.slots;
-            live = λ other none. ap (λ (all : List (Option Rect)). place_in all other) slots ∙ by other (is_number_of gone other) refl (ap (λ (rest : List (ℕ × Row)). row_at rest other) (rows-departed es gone low old.forest.numbers) ∙ none);
+            live = λ other none. ap (λ (all : List (Option Rect)). place_in all other) slots ∙ by other (is_number_of gone other) refl (ap (λ (rest : List (ℕ × Row)). row_at rest other) (rows-departed es gone low old.numbered.numbers) ∙ none);
           };
         };
         indexed = IsIndexed-others parts.names es gone tree.indexed;
-        counted = AreCounts-forget parts.counts es gone below tree.counted;
+        counted = subst C (sym same) (AreCounts-forget parts.counts (rows_in es) gone below tree.counted);
         children = children-others es gone grove parts.cells cells low (λ id row there. (owned id row there).own) emptied tree.children;
         reach = λ other joined. omega (arith, emptied.len, tree.reach other (joined-before parts.clients gone other joined));
         made = λ other joined. omega (arith, made, tree.made other (joined-before parts.clients gone other joined));
@@ -373,11 +353,9 @@ module _ {parts : Parts} (tree : IsTree parts) where
       let old = tree.widgets in
       record {
         widgets = record {
-          forest = forest joins;
-          linked = old.linked;
-          planted = old.planted;
-          fitting = old.fitting;
-          films = old.films;
+          clients = members joins;
+          rows = rows joins;
+          numbered = old.numbered;
           placed = record { slots = ap length slots ∙ old.placed.slots; live = λ id none. ap (λ (all : List (Option Rect)). place_in all id) slots ∙ old.placed.live id none };
         };
         indexed = tree.indexed;
@@ -387,9 +365,13 @@ module _ {parts : Parts} (tree : IsTree parts) where
         made = λ other joined. slotted joins other joined (nat_eq other client) refl;
       }
     where
-      forest : (b : Bool) → IsForest (cond b (parts.clients ++ client ∷ []) parts.clients) (nodes parts.entries)
-      forest true = IsForest-join parts.clients client (nodes parts.entries) tree.widgets.forest low high
-      forest false = tree.widgets.forest
+      members : (b : Bool) → list_all is_client (cond b (parts.clients ++ client ∷ []) parts.clients) ≡ true
+      members true = all-push is_client parts.clients client tree.widgets.clients (and_from _ _ (le-leb 1 client low) (le-leb client 16 high))
+      members false = tree.widgets.clients
+
+      rows : (b : Bool) → AreRows (cond b (parts.clients ++ client ∷ []) parts.clients) (rows_in parts.entries)
+      rows true = AreRows-joined parts.clients client (rows_in parts.entries) tree.widgets.rows
+      rows false = tree.widgets.rows
 
       member_was : (b : Bool) (other : ℕ) → is_joined (cond b (parts.clients ++ client ∷ []) parts.clients) other ≡ true → nat_eq other client ≡ false → is_joined parts.clients other ≡ true
       member_was true other joined q = was_joined parts.clients client other joined q

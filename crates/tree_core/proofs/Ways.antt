@@ -9,7 +9,7 @@ use Rattle.widget_model.specs.Named.{row_named}
 use Rattle.widget_model.specs.Trees.{parent_of, root_in}
 use Rattle.widget_model.specs.Widgets.{row_at, nodes}
 use Rattle.widget_model.proofs.Naming.{row_named-found, row_named-none}
-use Rattle.tree_core.specs.Children.{rows_in}
+use Rattle.widget_model.specs.Widgets.{rows_in}
 use Rattle.tree_core.specs.Kept.{IsGrove}
 use Rattle.tree_core.proofs.Listed.{row_named-row}
 use Rattle.widget_model.proofs.Planting.{row_named-root}

@@ -1,5 +1,5 @@
 -- The table of children has the number of each child, at the place of its cell.
-use Rattle.std.specs.Prelude.{ℕ, ◌≡◌, List, [], map, Option, None, slice_index_or}
+use Rattle.std.specs.Prelude.{ℕ, ◌≡◌, List, [], Option, None, slice_index_or}
 use Rattle.kind_core.specs.declared.kinds.Kind.{Kind}
 use Rattle.kind_core.specs.declared.kinds.Kind.TheVariants.{Window, Grid, Frame}
 use Rattle.widget_model.specs.Rows.{Row, IsIndex}
@@ -13,10 +13,6 @@ cells_of Window = 1
 cells_of Grid = 256
 cells_of Frame = 1
 cells_of _ = 0
-
--- the rows in the order of making
-abbrev pub rows_in : List (ℕ × Row) → List Row
-rows_in entries = map (λ entry. entry.1) entries
 
 -- the numbered rows with no word on clients and kept places
 abbrev pub widgets_in : List (ℕ × Row) → Widgets

@@ -1,6 +1,6 @@
 -- The pointer as definitions have it: the widgets that it holds are named by their keys. A number that names no row
 -- holds nothing.
-use Rattle.std.specs.Prelude.{ℕ, List, Option}
+use Rattle.std.specs.Prelude.{ℕ, List}
 use Rattle.std.specs.Option.{option_map_or, option_and_then}
 use Rattle.widget_model.specs.Rows.{Row}
 use Rattle.widget_model.specs.Widgets.{key_at}

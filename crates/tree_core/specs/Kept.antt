@@ -2,20 +2,22 @@
 -- of children's cells, the counts of each client and the kept places.
 use Rattle.std.specs.Prelude.{ℕ, ◌≡◌, ◌≤◌, ◌*◌, true, List, Option, length}
 use Rattle.widget_model.specs.Rows.{Row}
+use Rattle.widget_model.specs.Named.{AreNamedApart}
 use Rattle.widget_model.specs.Widgets.{Widgets, nodes}
 use Rattle.widget_model.specs.Clients.{is_joined}
-use Rattle.widget_model.specs.Forest.{HaveOwnNumbers, HaveOwnNames, IsWidgets}
+use Rattle.widget_model.specs.Forest.{HaveOwnNumbers, IsWidgets}
 use Rattle.widget_model.specs.Planted.{IsPlanted}
 use Rattle.row_store.specs.declared.count.Count.{Count}
 use Rattle.row_store.specs.Counts.{AreCounts}
 use Rattle.row_store.specs.Index.{IsIndexed}
 use Rattle.row_store.specs.KeptSlots.{Kept}
-use Rattle.tree_core.specs.Children.{rows_in, HasChildren}
+use Rattle.widget_model.specs.Widgets.{rows_in}
+use Rattle.tree_core.specs.Children.{HasChildren}
 
 -- The rows have their own numbers and names and hang right in one another.
 pub record IsGrove (entries : List (ℕ × Row)) : Type 0 where
   pub own_numbers : HaveOwnNumbers (nodes entries)
-  pub own_names : HaveOwnNames (nodes entries)
+  pub own_names : AreNamedApart (rows_in entries)
   pub planted : IsPlanted (rows_in entries)
 
 -- The parts of a tree.
@@ -36,7 +38,7 @@ widgets_of parts = record { clients = parts.clients; entries = parts.entries; pl
 pub record IsTree (parts : Parts) : Type 0 where
   pub widgets : IsWidgets (widgets_of parts)
   pub indexed : IsIndexed parts.names (nodes parts.entries)
-  pub counted : AreCounts parts.counts (nodes parts.entries)
+  pub counted : AreCounts parts.counts (rows_in parts.entries)
   pub children : HasChildren parts.entries parts.cells
   pub reach : (client : ℕ) → is_joined parts.clients client ≡ true → 32768 * client ≤ length parts.cells
   pub made : (client : ℕ) → is_joined parts.clients client ≡ true → 128 * client ≤ parts.kept.made

@@ -4,7 +4,7 @@ use Rattle.std.specs.Option.{option_map, option_and_then}
 use Rattle.kind_core.specs.declared.kinds.Kind.{Kind}
 use Rattle.kind_core.specs.declared.shapes.Cell.{Cell}
 use Rattle.widget_model.specs.Rows.{Row}
-use Rattle.widget_model.specs.Nodes.{Node, id_named, count_of}
+use Rattle.widget_model.specs.Named.{row_named, rows_counted}
 use Rattle.widget_model.specs.Kinds.{any_kind, counts_with}
 use Rattle.widget_model.specs.Widgets.{Widgets, rows_of, row_at}
 use Rattle.widget_model.specs.Trees.{hangs, has_children, can_be_child, child_in, depth_of, height_of, is_above, most_levels}
@@ -20,12 +20,12 @@ first_of (refusal ∷ refusals) = if refusal.0 then Some refusal.1 else first_of
 
 -- A new widget is refused where the client has one of the name, then where it has 128, then where it would
 -- be the ninth Window or the ninth VScreen.
-abbrev pub add_refusal : List (ℕ × Node) → ℕ → List ℕ → Kind → Option AddRefusal
-add_refusal entries client name kind =
+abbrev pub add_refusal : List Row → ℕ → List ℕ → Kind → Option AddRefusal
+add_refusal rows client name kind =
     first_of (
-    (is_some (id_named entries client name), NameTaken)
-    ∷ (nat_le 128 (count_of client any_kind entries), Full 128)
-    ∷ (nat_le 8 (count_of client (counts_with kind) entries), Full 8)
+    (is_some (row_named rows client name), NameTaken)
+    ∷ (nat_le 128 (rows_counted client any_kind rows), Full 128)
+    ∷ (nat_le 8 (rows_counted client (counts_with kind) rows), Full 8)
     ∷ []
     )
 

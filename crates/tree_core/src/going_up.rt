@@ -2,7 +2,8 @@ ghost use Rattle.std.specs.Prelude.{◌≡◌, ◌≤◌, Some, IsSome};
 ghost use Rattle.widget_model.specs.Trees.{parent_of, depth_in, is_above_in, root_in, most_levels};
 ghost use Rattle.widget_model.specs.Relatives.{parent_id, root_id};
 ghost use Rattle.widget_model.specs.Widgets.{row_at, nodes};
-ghost use Rattle.tree_core.specs.Children.{rows_in, widgets_in};
+ghost use Rattle.widget_model.specs.Widgets.{rows_in};
+ghost use Rattle.tree_core.specs.Children.{widgets_in};
 ghost use Rattle.row_store.specs.Index.{IsIndexed};
 ghost use Rattle.tree_core.specs.Kept.{IsGrove};
 

@@ -17,15 +17,17 @@ pub(crate) fn cells_of(kind: Kind) -> u32
     }
 }
 
-/// Whether widgets of the kind have children.
-pub(crate) fn has_children(kind: Kind) -> bool
+/// Whether widgets of the kind have children: true exactly for a Window, a Grid and a Frame. See docs/MACHINE.md,
+/// "Widgets".
+pub fn has_children(kind: Kind) -> bool
     ensures { result ≡ has_children kind }
 {
     matches!(kind, Kind::Window | Kind::Grid | Kind::Frame)
 }
 
-/// Whether a widget of the kind can be a child.
-pub(crate) fn can_be_child(kind: Kind) -> bool
+/// Whether a widget of the kind can be a child: false exactly for a Window and a Variable. See docs/MACHINE.md,
+/// "Widgets".
+pub fn can_be_child(kind: Kind) -> bool
     ensures { result ≡ can_be_child kind }
 {
     !matches!(kind, Kind::Window | Kind::Variable)

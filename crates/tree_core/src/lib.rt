@@ -15,6 +15,7 @@ mod removing;
 mod tree;
 
 pub use id::Id;
+pub use kinds::{can_be_child, has_children};
 pub use pointer::{Grab, Pointer};
 pub use refusal::{AddRefusal, AttachRefusal, InUse, NoMemory};
 pub use tree::Tree;

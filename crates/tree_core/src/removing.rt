@@ -3,7 +3,8 @@ ghost use Rattle.std.specs.Option.{option_map};
 ghost use Rattle.std.specs.List.{list_any, filter};
 ghost use Rattle.widget_model.specs.Trees.{links_to, is_admitted, is_used};
 ghost use Rattle.widget_model.specs.Widgets.{row_at};
-ghost use Rattle.tree_core.specs.Children.{rows_in, HasChildren};
+ghost use Rattle.widget_model.specs.Widgets.{rows_in};
+ghost use Rattle.tree_core.specs.Children.{HasChildren};
 ghost use Rattle.tree_core.specs.Kept.{IsGrove};
 
 use crate::going_down::has_child;

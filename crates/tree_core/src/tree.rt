@@ -5,7 +5,8 @@ ghost use Rattle.kind_core.specs.declared.kinds.Kind.TheVariants.{VScreen};
 ghost use Rattle.kind_core.specs.Attributes.{domain_of, judged};
 ghost use Rattle.vscreen_core.specs.FilmState.{IsFilm};
 ghost use Rattle.widget_model.specs.Rows.{new_row, attr_of, with_attr, column_rule_of, with_column_rule, row_rule_of, with_row_rule, binding_of, with_binding, with_link, with_attached, with_film};
-ghost use Rattle.widget_model.specs.Nodes.{id_named, count_of};
+ghost use Rattle.widget_model.specs.Nodes.{id_named};
+ghost use Rattle.widget_model.specs.Named.{rows_counted};
 ghost use Rattle.widget_model.specs.Kinds.{any_kind};
 ghost use Rattle.widget_model.specs.Widgets.{no_widgets, row_at, nodes, rows_of, IsLive, IsGrid, KeepsLive, edited, with_new, removed, joined, departed, place_at, with_place, row_kind, row_client};
 ghost use Rattle.widget_model.specs.Clients.{is_joined};
@@ -124,8 +125,8 @@ impl Tree {
         ensures fresh { IfOk result (λ id. row_at self.old.entries id.key ≡ None) }
         ensures number { IfOk result (λ id. id.key < 2048) }
         ensures unplaced { IfOk result (λ id. place_at self.new id.key ≡ None) }
-        ensures allowed { OnOk result (add_refusal (nodes self.old.entries) client name kind ≡ None) }
-        ensures refused { IfErr result (AnswersRefusal (add_refusal (nodes self.old.entries) client name kind)) }
+        ensures allowed { OnOk result (add_refusal (rows_of self.old) client name kind ≡ None) }
+        ensures refused { IfErr result (AnswersRefusal (add_refusal (rows_of self.old) client name kind)) }
         ensures err { OnErr result (self.new ≡ self.old) }
         ensures kept { KeepsLive self.old self.new }
         ensures valid { IsWidgets self.new }
@@ -152,7 +153,7 @@ impl Tree {
     /// How many widgets the client, 0 to 16, has. It reads a counter.
     pub fn count(&self, client: u32) -> u32
         requires { client ≤ 16 }
-        ensures count { result ≡ count_of client any_kind (nodes self.now.entries) }
+        ensures count { result ≡ rows_counted client any_kind (rows_of self.now) }
         ensures valid { IsWidgets self.now }
     {
         self.counts.has(client, None)

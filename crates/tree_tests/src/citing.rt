@@ -1,10 +1,11 @@
 //! What a caller may cite of the tree with no word on its fields.
 ghost use Rattle.std.specs.Prelude.{◌≡◌, true, false, IfSome};
 ghost use Rattle.std.specs.List.{list_all};
+ghost use Rattle.widget_model.specs.Named.{AreNamedApart};
 ghost use Rattle.widget_model.specs.Fitting.{is_fit};
-ghost use Rattle.widget_model.specs.Forest.{HaveOwnNumbers, HaveOwnNames};
-ghost use Rattle.widget_model.specs.Links.{all_lead, ties};
+ghost use Rattle.widget_model.specs.Forest.{HaveOwnNumbers};
 ghost use Rattle.widget_model.specs.Planted.{hangs_right, HaveOwnCells};
+ghost use Rattle.widget_model.specs.RowFacts.{links_right};
 ghost use Rattle.widget_model.specs.Trees.{ends_within, most_levels};
 ghost use Rattle.widget_model.specs.Widgets.{IsLive, nodes, rows_of};
 ghost use Rattle.widget_model.specs.Clients.{is_joined};
@@ -19,11 +20,11 @@ use tree_core::{Id, Tree};
 fn in_root(tree: &Tree, client: u32, name: &Name, column: u32, row: u32) -> Option<Id>
     ensures live { IfSome result (λ id. IsLive tree.now id.key) }
     ensures own_numbers { HaveOwnNumbers (nodes tree.now.entries) }
-    ensures own_names { HaveOwnNames (nodes tree.now.entries) }
+    ensures own_names { AreNamedApart (rows_of tree.now) }
     ensures parents { list_all (hangs_right (rows_of tree.now)) (rows_of tree.now) ≡ true }
     ensures own_cells { HaveOwnCells (rows_of tree.now) }
     ensures low { list_all (λ row. ends_within most_levels (rows_of tree.now) row.client row.name) (rows_of tree.now) ≡ true }
-    ensures linked { all_lead (nodes tree.now.entries) (ties tree.now.entries) ≡ true }
+    ensures linked { list_all (links_right (rows_of tree.now)) (rows_of tree.now) ≡ true }
     ensures fitting { list_all is_fit (rows_of tree.now) ≡ true }
 {
     let id = tree.find(client, name)?;

@@ -1,5 +1,4 @@
 pub mod Naming
-pub mod Counting
 pub mod Hanging
 pub mod Cells
 pub mod Levels
@@ -7,6 +6,8 @@ pub mod Planting
 pub mod OwnRows
 pub mod ValuesFit
 pub mod Fit
-pub mod FitFilms
 pub mod Slots
 pub mod Leaves
+pub mod ChangedRows
+pub mod NewRows
+pub mod LeftRows

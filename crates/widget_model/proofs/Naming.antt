@@ -1,23 +1,18 @@
 -- From numbers to names: what the definitions on numbered rows are over the rows alone, where the client and name
 -- that are asked for are those of a number.
-use Rattle.std.proofs.Common.{◌≡◌, ℕ, Bool, true, false, cond, not, ◌&&◌, nat_eq, List, [], ◌∷◌, ◌++◌, ◌+◌, map, Some, None, is_some, refl, sym, ap, ◌∙◌}
+use Rattle.std.proofs.Common.{◌≡◌, ℕ, Bool, true, false, cond, not, ◌&&◌, ◌||◌, nat_eq, List, [], ◌∷◌, ◌++◌, ◌+◌, map, Some, None, is_some, refl, sym, ap, ◌∙◌}
 use Rattle.std.proofs.lemmas.Bool.{true≢false, eqb-true, eq-eqb, ne_eqb, and_parts, and_from}
-use Rattle.std.proofs.lemmas.List.Sums.{sum_by-cons}
 use Rattle.std.proofs.lemmas.Slice.Eq.{bytes_eq-Decides}
 use Rattle.std.specs.Cmp.{nat_eq_equiv}
 use Rattle.std.specs.Cmp.Lexicographic.{nat_list_eq_equiv}
-use Rattle.std.specs.List.{filter}
+use Rattle.std.specs.List.{filter, list_any}
 use Rattle.std.specs.Str.{bytes_eq}
 use Rattle.kind_core.specs.declared.kinds.Kind.{Kind}
 use Rattle.widget_model.specs.Rows.{Row}
-use Rattle.widget_model.specs.Nodes.{Node, node_of, id_named, node_at, count_of}
-use Rattle.widget_model.specs.Widgets.{Widgets, row_at, nodes, rows_of, with_row, without_row, departed}
-use Rattle.widget_model.specs.Forest.{HaveOwnNumbers, HaveOwnNames}
-use Rattle.widget_model.specs.Named.{has_name, row_named, with_named, without_named, rows_of_others, rows_counted}
-
--- the rows in the order of making, which `rows_of` has of all widgets
-abbrev pub rows : List (ℕ × Row) → List Row
-rows es = map (λ e. e.1) es
+use Rattle.widget_model.specs.Nodes.{Node, node_of, id_named, node_at}
+use Rattle.widget_model.specs.Widgets.{Widgets, row_at, nodes, rows_in, rows_of, with_row, without_row, departed}
+use Rattle.widget_model.specs.Forest.{HaveOwnNumbers}
+use Rattle.widget_model.specs.Named.{has_name, row_named, with_named, without_named, rows_of_others, AreNamedApart}
 
 -- a test that is true, and one that is false, decide equality of names
 pub has_name-parts : (client : ℕ) (name : List ℕ) (row : Row) → has_name client name row ≡ true → (row.client ≡ client) × (row.name ≡ name)
@@ -66,31 +61,53 @@ other_number e es client name id own found =
     (λ same. true≢false (sym (row_at-named es client name id found) ∙ ap is_some (ap (row_at es) same ∙ row_at-absent es e.0 own.0)))
 
 -- the row of a name is the row with the name's number
-pub row_named-found : (es : List (ℕ × Row)) (client : ℕ) (name : List ℕ) (id : ℕ) → HaveOwnNumbers (nodes es) → id_named (nodes es) client name ≡ Some id → row_named (rows es) client name ≡ row_at es id
+pub row_named-found : (es : List (ℕ × Row)) (client : ℕ) (name : List ℕ) (id : ℕ) → HaveOwnNumbers (nodes es) → id_named (nodes es) client name ≡ Some id → row_named (rows_in es) client name ≡ row_at es id
 row_named-found [] client name id own found = absurd (cc)
 row_named-found (e ∷ es) client name id own found = by (row_named-found es client name id own.1) (has_name client name e.1) found
   where
-    by : (id_named (nodes es) client name ≡ Some id → row_named (rows es) client name ≡ row_at es id) → (b : Bool) → cond b (Some e.0) (id_named (nodes es) client name) ≡ Some id → cond b (Some e.1) (row_named (rows es) client name) ≡ row_at (e ∷ es) id
+    by : (id_named (nodes es) client name ≡ Some id → row_named (rows_in es) client name ≡ row_at es id) → (b : Bool) → cond b (Some e.0) (id_named (nodes es) client name) ≡ Some id → cond b (Some e.1) (row_named (rows_in es) client name) ≡ row_at (e ∷ es) id
     by rest true h = let same : e.0 ≡ id = cc in rw (eq-eqb id e.0 (sym same)) refl
     by rest false h = rw (other_number e es client name id own h) (rest h)
 
-pub row_named-none : (es : List (ℕ × Row)) (client : ℕ) (name : List ℕ) → id_named (nodes es) client name ≡ None → row_named (rows es) client name ≡ None
+pub row_named-none : (es : List (ℕ × Row)) (client : ℕ) (name : List ℕ) → id_named (nodes es) client name ≡ None → row_named (rows_in es) client name ≡ None
 row_named-none [] client name absent = refl
 row_named-none (e ∷ es) client name absent = by (row_named-none es client name) (has_name client name e.1) absent
   where
-    by : (id_named (nodes es) client name ≡ None → row_named (rows es) client name ≡ None) → (b : Bool) → cond b (Some e.0) (id_named (nodes es) client name) ≡ None → cond b (Some e.1) (row_named (rows es) client name) ≡ None
+    by : (id_named (nodes es) client name ≡ None → row_named (rows_in es) client name ≡ None) → (b : Bool) → cond b (Some e.0) (id_named (nodes es) client name) ≡ None → cond b (Some e.1) (row_named (rows_in es) client name) ≡ None
     by rest true h = absurd (cc)
     by rest false h = rest h
 
+-- a name that no row has is no number's, and the converse
+pub id_named-none : (es : List (ℕ × Row)) (client : ℕ) (name : List ℕ) → list_any (has_name client name) (rows_in es) ≡ false → id_named (nodes es) client name ≡ None
+id_named-none [] client name none = refl
+id_named-none (e ∷ es) client name none = by (id_named-none es client name) (has_name client name e.1) none
+  where
+    by : (list_any (has_name client name) (rows_in es) ≡ false → id_named (nodes es) client name ≡ None) → (b : Bool) → (b || list_any (has_name client name) (rows_in es)) ≡ false → cond b (Some e.0) (id_named (nodes es) client name) ≡ None
+    by rest true h = absurd (true≢false h)
+    by rest false h = rest h
+
+pub any_named-none : (es : List (ℕ × Row)) (client : ℕ) (name : List ℕ) → id_named (nodes es) client name ≡ None → list_any (has_name client name) (rows_in es) ≡ false
+any_named-none [] client name none = refl
+any_named-none (e ∷ es) client name none = by (any_named-none es client name) (has_name client name e.1) none
+  where
+    by : (id_named (nodes es) client name ≡ None → list_any (has_name client name) (rows_in es) ≡ false) → (b : Bool) → cond b (Some e.0) (id_named (nodes es) client name) ≡ None → (b || list_any (has_name client name) (rows_in es)) ≡ false
+    by rest true h = absurd (cc)
+    by rest false h = rest h
+
+-- behind an entry its name is no number's
+name_behind : (e : ℕ × Row) (es : List (ℕ × Row)) (client : ℕ) (name : List ℕ) → AreNamedApart (rows_in (e ∷ es)) → has_name client name e.1 ≡ true → id_named (nodes es) client name ≡ None
+name_behind e es client name own q =
+    let parts = has_name-parts client name e.1 q in
+    rw (← parts.0, ← parts.1) (id_named-none es e.1.client e.1.name own.0)
+
 -- a numbered row is found under its own client and name
-pub id_named-row : (es : List (ℕ × Row)) (id : ℕ) (row : Row) → HaveOwnNames (nodes es) → row_at es id ≡ Some row → id_named (nodes es) row.client row.name ≡ Some id
+pub id_named-row : (es : List (ℕ × Row)) (id : ℕ) (row : Row) → AreNamedApart (rows_in es) → row_at es id ≡ Some row → id_named (nodes es) row.client row.name ≡ Some id
 id_named-row [] id row own there = absurd (cc)
 id_named-row (e ∷ es) id row own there = by (id_named-row es id row own.1) (nat_eq id e.0) refl there
   where
     other : (b : Bool) → has_name row.client row.name e.1 ≡ b → id_named (nodes es) row.client row.name ≡ Some id → cond b (Some e.0) (id_named (nodes es) row.client row.name) ≡ Some id
     other true q rest =
-        let parts = has_name-parts row.client row.name e.1 q in
-        let absent : id_named (nodes es) row.client row.name ≡ None = rw (← parts.0, ← parts.1) own.0 in
+        let absent : id_named (nodes es) row.client row.name ≡ None = name_behind e es row.client row.name own q in
         absurd (cc)
     other false q rest = rest
 
@@ -135,60 +152,50 @@ without_named-absent (r ∷ rs) client name absent = by (without_named-absent rs
     by rest false h = rw (rest h) refl
 
 -- behind the entry of a name there is neither its number nor its name again
-nothing_behind : (e : ℕ × Row) (es : List (ℕ × Row)) (client : ℕ) (name : List ℕ) (id : ℕ) → HaveOwnNumbers (nodes (e ∷ es)) → HaveOwnNames (nodes (e ∷ es)) → has_name client name e.1 ≡ true → e.0 ≡ id → (node_at (nodes es) id ≡ None) × (row_named (rows es) client name ≡ None)
+nothing_behind : (e : ℕ × Row) (es : List (ℕ × Row)) (client : ℕ) (name : List ℕ) (id : ℕ) → HaveOwnNumbers (nodes (e ∷ es)) → AreNamedApart (rows_in (e ∷ es)) → has_name client name e.1 ≡ true → e.0 ≡ id → (node_at (nodes es) id ≡ None) × (row_named (rows_in es) client name ≡ None)
 nothing_behind e es client name id numbers names q same =
-    let parts = has_name-parts client name e.1 q in
-    let absent : id_named (nodes es) client name ≡ None = rw (← parts.0, ← parts.1) names.0 in
-    (rw (← same) numbers.0, row_named-none es client name absent)
+    (rw (← same) numbers.0, row_named-none es client name (name_behind e es client name names q))
 
 -- a change of the numbered row is a change of the named one
-pub rows-with_row : (es : List (ℕ × Row)) (client : ℕ) (name : List ℕ) (id : ℕ) (change : Row → Row) → HaveOwnNumbers (nodes es) → HaveOwnNames (nodes es) → id_named (nodes es) client name ≡ Some id → rows (with_row id change es) ≡ with_named client name change (rows es)
+pub rows-with_row : (es : List (ℕ × Row)) (client : ℕ) (name : List ℕ) (id : ℕ) (change : Row → Row) → HaveOwnNumbers (nodes es) → AreNamedApart (rows_in es) → id_named (nodes es) client name ≡ Some id → rows_in (with_row id change es) ≡ with_named client name change (rows_in es)
 rows-with_row [] client name id change numbers names found = refl
 rows-with_row (e ∷ es) client name id change numbers names found = by (rows-with_row es client name id change numbers.1 names.1) (has_name client name e.1) refl found
   where
-    by : (id_named (nodes es) client name ≡ Some id → rows (with_row id change es) ≡ with_named client name change (rows es)) → (b : Bool) → has_name client name e.1 ≡ b → cond b (Some e.0) (id_named (nodes es) client name) ≡ Some id → rows (with_row id change (e ∷ es)) ≡ cond b (change e.1) e.1 ∷ with_named client name change (rows es)
+    by : (id_named (nodes es) client name ≡ Some id → rows_in (with_row id change es) ≡ with_named client name change (rows_in es)) → (b : Bool) → has_name client name e.1 ≡ b → cond b (Some e.0) (id_named (nodes es) client name) ≡ Some id → rows_in (with_row id change (e ∷ es)) ≡ cond b (change e.1) e.1 ∷ with_named client name change (rows_in es)
     by rest true q h =
         let same : e.0 ≡ id = cc in
         let behind = nothing_behind e es client name id numbers names q same in
-        rw (eq-eqb id e.0 (sym same), with_row-absent es id change behind.0, with_named-absent (rows es) client name change behind.1) refl
+        rw (eq-eqb id e.0 (sym same), with_row-absent es id change behind.0, with_named-absent (rows_in es) client name change behind.1) refl
     by rest false q h = rw (other_number e es client name id numbers h, rest h) refl
 
 -- without the numbered row there is none of the name
-pub rows-without_row : (es : List (ℕ × Row)) (client : ℕ) (name : List ℕ) (id : ℕ) → HaveOwnNumbers (nodes es) → HaveOwnNames (nodes es) → id_named (nodes es) client name ≡ Some id → rows (without_row id es) ≡ without_named client name (rows es)
+pub rows-without_row : (es : List (ℕ × Row)) (client : ℕ) (name : List ℕ) (id : ℕ) → HaveOwnNumbers (nodes es) → AreNamedApart (rows_in es) → id_named (nodes es) client name ≡ Some id → rows_in (without_row id es) ≡ without_named client name (rows_in es)
 rows-without_row [] client name id numbers names found = refl
 rows-without_row (e ∷ es) client name id numbers names found = by (rows-without_row es client name id numbers.1 names.1) (has_name client name e.1) refl found
   where
-    by : (id_named (nodes es) client name ≡ Some id → rows (without_row id es) ≡ without_named client name (rows es)) → (b : Bool) → has_name client name e.1 ≡ b → cond b (Some e.0) (id_named (nodes es) client name) ≡ Some id → rows (without_row id (e ∷ es)) ≡ cond (not b) (e.1 ∷ without_named client name (rows es)) (without_named client name (rows es))
+    by : (id_named (nodes es) client name ≡ Some id → rows_in (without_row id es) ≡ without_named client name (rows_in es)) → (b : Bool) → has_name client name e.1 ≡ b → cond b (Some e.0) (id_named (nodes es) client name) ≡ Some id → rows_in (without_row id (e ∷ es)) ≡ cond (not b) (e.1 ∷ without_named client name (rows_in es)) (without_named client name (rows_in es))
     by rest true q h =
         let same : e.0 ≡ id = cc in
         let behind = nothing_behind e es client name id numbers names q same in
-        rw (eq-eqb id e.0 (sym same), without_row-absent es id behind.0, without_named-absent (rows es) client name behind.1) refl
+        rw (eq-eqb id e.0 (sym same), without_row-absent es id behind.0, without_named-absent (rows_in es) client name behind.1) refl
     by rest false q h = rw (other_number e es client name id numbers h, rest h) refl
 
 -- a new row is last
-pub rows-push : (es : List (ℕ × Row)) (id : ℕ) (row : Row) → rows (es ++ (id, row) ∷ []) ≡ rows es ++ row ∷ []
+pub rows-push : (es : List (ℕ × Row)) (id : ℕ) (row : Row) → rows_in (es ++ (id, row) ∷ []) ≡ rows_in es ++ row ∷ []
 rows-push [] id row = refl
 rows-push (e ∷ es) id row = rw (rows-push es id row) refl
 
 -- a client leaves with its rows
-pub rows-filter_others : (es : List (ℕ × Row)) (client : ℕ) → rows (filter (λ (e : ℕ × Row). not (nat_eq client e.1.client)) es) ≡ rows_of_others client (rows es)
+pub rows-filter_others : (es : List (ℕ × Row)) (client : ℕ) → rows_in (filter (λ (e : ℕ × Row). not (nat_eq client e.1.client)) es) ≡ rows_of_others client (rows_in es)
 rows-filter_others [] client = refl
 rows-filter_others (e ∷ es) client = by (rows-filter_others es client) (not (nat_eq client e.1.client))
   where
-    by : rows (filter (λ (e : ℕ × Row). not (nat_eq client e.1.client)) es) ≡ rows_of_others client (rows es) → (b : Bool) → rows (cond b (e ∷ filter (λ (e : ℕ × Row). not (nat_eq client e.1.client)) es) (filter (λ (e : ℕ × Row). not (nat_eq client e.1.client)) es)) ≡ cond b (e.1 ∷ rows_of_others client (rows es)) (rows_of_others client (rows es))
+    by : rows_in (filter (λ (e : ℕ × Row). not (nat_eq client e.1.client)) es) ≡ rows_of_others client (rows_in es) → (b : Bool) → rows_in (cond b (e ∷ filter (λ (e : ℕ × Row). not (nat_eq client e.1.client)) es) (filter (λ (e : ℕ × Row). not (nat_eq client e.1.client)) es)) ≡ cond b (e.1 ∷ rows_of_others client (rows_in es)) (rows_of_others client (rows_in es))
     by rest true = rw rest refl
     by rest false = rest
 
 pub rows_of-departed : (widgets : Widgets) (client : ℕ) → rows_of (departed client widgets) ≡ rows_of_others client (rows_of widgets)
 rows_of-departed widgets client = rows-filter_others widgets.entries client
-
--- nodes are counted as rows are
-pub count_of-nodes : (es : List (ℕ × Row)) (client : ℕ) (test : Kind → Bool) → count_of client test (nodes es) ≡ rows_counted client test (rows es)
-count_of-nodes [] client test = refl
-count_of-nodes (e ∷ es) client test =
-    sum_by-cons (λ (x : ℕ × Node). cond (nat_eq client x.1.client && test x.1.kind) 1 0) (e.0, node_of e.1) (nodes es)
-    ∙ ap (λ n. cond (nat_eq client e.1.client && test e.1.kind) 1 0 + n) (count_of-nodes es client test)
-    ∙ sym (sum_by-cons (λ (row : Row). cond (nat_eq client row.client && test row.kind) 1 0) e.1 (rows es))
 
 -- the named row's change is seen in the rows exactly where it changes the row
 pub with_named-kept : (rs : List Row) (client : ℕ) (name : List ℕ) (change : Row → Row) (row : Row) → row_named rs client name ≡ Some row → with_named client name change rs ≡ rs → change row ≡ row
@@ -202,15 +209,13 @@ with_named-kept (r ∷ rs) client name change row found same = by (with_named-ke
         ap change (sym here) ∙ first ∙ here
     by rest false h k = let later : with_named client name change rs ≡ rs = cc in rest h later
 
-pub with_named-same : (es : List (ℕ × Row)) (client : ℕ) (name : List ℕ) (change : Row → Row) (row : Row) → HaveOwnNames (nodes es) → row_named (rows es) client name ≡ Some row → change row ≡ row → with_named client name change (rows es) ≡ rows es
+pub with_named-same : (es : List (ℕ × Row)) (client : ℕ) (name : List ℕ) (change : Row → Row) (row : Row) → AreNamedApart (rows_in es) → row_named (rows_in es) client name ≡ Some row → change row ≡ row → with_named client name change (rows_in es) ≡ rows_in es
 with_named-same [] client name change row names found same = refl
 with_named-same (e ∷ es) client name change row names found same = by (with_named-same es client name change row names.1) (has_name client name e.1) refl found
   where
-    by : (row_named (rows es) client name ≡ Some row → change row ≡ row → with_named client name change (rows es) ≡ rows es) → (b : Bool) → has_name client name e.1 ≡ b → cond b (Some e.1) (row_named (rows es) client name) ≡ Some row → cond b (change e.1) e.1 ∷ with_named client name change (rows es) ≡ rows (e ∷ es)
+    by : (row_named (rows_in es) client name ≡ Some row → change row ≡ row → with_named client name change (rows_in es) ≡ rows_in es) → (b : Bool) → has_name client name e.1 ≡ b → cond b (Some e.1) (row_named (rows_in es) client name) ≡ Some row → cond b (change e.1) e.1 ∷ with_named client name change (rows_in es) ≡ rows_in (e ∷ es)
     by rest true q h =
         let here : e.1 ≡ row = cc in
         let first : change e.1 ≡ e.1 = ap change here ∙ same ∙ sym here in
-        let parts = has_name-parts client name e.1 q in
-        let absent : id_named (nodes es) client name ≡ None = rw (← parts.0, ← parts.1) names.0 in
-        rw (first, with_named-absent (rows es) client name change (row_named-none es client name absent)) refl
+        rw (first, with_named-absent (rows_in es) client name change (row_named-none es client name (name_behind e es client name names q))) refl
     by rest false q h = rw (rest h same) refl

@@ -4,12 +4,13 @@ pub mod Rows
 pub mod Nodes
 pub mod KeptPlaces
 pub mod Widgets
-pub mod Links
-pub mod Forest
 pub mod Named
+pub mod Links
 pub mod Trees
 pub mod Keys
 pub mod Pointer
 pub mod Planted
 pub mod Fitting
+pub mod RowFacts
+pub mod Forest
 pub mod Relatives

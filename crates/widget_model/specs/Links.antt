@@ -1,34 +1,9 @@
--- A row may be linked to a Variable of the same client, by that Variable's name.
-use Rattle.std.specs.Prelude.{ℕ, Bool, true, false, List, [], ◌∷◌, Option, Some, None}
-use Rattle.std.specs.List.{list_all}
+-- A row may be linked to a Variable of the same client, by that Variable's name: the same by numbers.
+use Rattle.std.specs.Prelude.{ℕ, List, Option}
 use Rattle.std.specs.Option.{option_map, option_and_then}
-use Rattle.kind_core.specs.declared.kinds.Kind.{Kind}
-use Rattle.kind_core.specs.declared.kinds.Kind.TheVariants.{Variable}
 use Rattle.widget_model.specs.Rows.{Row}
-use Rattle.widget_model.specs.Nodes.{Node, id_named, kind_named}
+use Rattle.widget_model.specs.Nodes.{id_named}
 use Rattle.widget_model.specs.Widgets.{Widgets, nodes, row_at}
-
--- a row's client and link
-pub record Tie : Type 0 where
-  pub client : ℕ
-  pub link : Option (List ℕ)
-
-abbrev pub ties : List (ℕ × Row) → List Tie
-ties [] = []
-ties (entry ∷ entries) = record { client = entry.1.client; link = entry.1.link } ∷ ties entries
-
-abbrev pub is_variable : Option Kind → Bool
-is_variable None = false
-is_variable (Some Variable) = true
-is_variable (Some _) = false
-
--- a link leads to a Variable of the client
-abbrev pub leads : List (ℕ × Node) → ℕ → Option (List ℕ) → Bool
-leads entries client None = true
-leads entries client (Some name) = is_variable (kind_named entries client name)
-
-abbrev pub all_lead : List (ℕ × Node) → List Tie → Bool
-all_lead entries tied = list_all (λ tie. leads entries tie.client tie.link) tied
 
 -- the number of the row that the numbered row is linked to
 abbrev pub linked_id : Widgets → ℕ → Option ℕ

@@ -1,6 +1,5 @@
 -- The node of a row is what names it: its client, name and kind. No call changes the node of a row.
 use Rattle.std.specs.Prelude.{ℕ, ◌+◌, ◌-◌, ◌*◌, Bool, ◌&&◌, nat_eq, nat_lt, nat_le, List, [], ◌∷◌, Option, Some, None, if◌then◌else◌}
-use Rattle.std.specs.List.{count_by}
 use Rattle.std.specs.Str.{bytes_eq}
 use Rattle.kind_core.specs.declared.kinds.Kind.{Kind}
 use Rattle.widget_model.specs.Rows.{Row}
@@ -22,19 +21,10 @@ abbrev pub id_named : List (ℕ × Node) → ℕ → List ℕ → Option ℕ
 id_named [] client name = None
 id_named (entry ∷ entries) client name = if is_named client name entry.1 then Some entry.0 else id_named entries client name
 
--- the kind of the node with this client and name
-abbrev pub kind_named : List (ℕ × Node) → ℕ → List ℕ → Option Kind
-kind_named [] client name = None
-kind_named (entry ∷ entries) client name = if is_named client name entry.1 then Some entry.1.kind else kind_named entries client name
-
 -- the node with this number
 abbrev pub node_at : List (ℕ × Node) → ℕ → Option Node
 node_at [] id = None
 node_at (entry ∷ entries) id = if nat_eq id entry.0 then Some entry.1 else node_at entries id
-
--- how many nodes of the client have a kind that passes the test
-abbrev pub count_of : ℕ → (Kind → Bool) → List (ℕ × Node) → ℕ
-count_of client test entries = count_by (λ entry. nat_eq client entry.1.client && test entry.1.kind) entries
 
 -- The numbers of a client are 128 of its own, so that all numbers are below 2,048.
 abbrev pub first_number : ℕ → ℕ

@@ -21,9 +21,12 @@ pub record Widgets : Type 0 where
 abbrev pub no_widgets : Widgets
 no_widgets = record { clients = []; entries = []; places = no_places }
 
--- the rows in the order of making
+-- the rows in the order of making, of numbered rows and of all widgets
+abbrev pub rows_in : List (ℕ × Row) → List Row
+rows_in entries = map (λ entry. entry.1) entries
+
 abbrev pub rows_of : Widgets → List Row
-rows_of widgets = map (λ entry. entry.1) widgets.entries
+rows_of widgets = rows_in widgets.entries
 
 -- the nodes of the numbered rows
 abbrev pub nodes : List (ℕ × Row) → List (ℕ × Node)

@@ -1,8 +1,6 @@
-use Rattle.std.proofs.Common.{◌≡◌, ◌<◌, ◌++◌, ◌∷◌, [], length, Option, None, sym, ap, ◌∙◌, arith}
+use Rattle.std.proofs.Common.{◌<◌, length, None, ◌∙◌, arith}
 use Rattle.std.proofs.lemmas.List.{length_push}
-use Rattle.geom_core.specs.declared.rectangle.Rect.{Rect}
 use Rattle.widget_model.specs.KeptPlaces.{most_numbers}
-use Rattle.row_store.specs.KeptSlots.{filled_up}
 use Rattle.row_store.proofs.FilledUp.{filled_up-push}
 use Rattle.row_store.proofs.kept_places.make_slots.Goals as goal
 

@@ -3,9 +3,10 @@ use Rattle.std.proofs.lemmas.Bool.{true≢false}
 use Rattle.std.specs.Map.{lookup}
 use Rattle.indexmap.proofs.CallerLemmas.{insert_entry-new}
 use Rattle.widget_model.specs.Rows.{Row, new_row}
+use Rattle.widget_model.specs.Keys.{same_key}
 use Rattle.widget_model.specs.Nodes.{Node, node_of}
 use Rattle.widget_model.specs.Widgets.{nodes}
-use Rattle.row_store.specs.Index.{same_key, IsIndexed}
+use Rattle.row_store.specs.Index.{IsIndexed}
 use Rattle.row_store.proofs.UnderNumbers.{nodes-push}
 use Rattle.row_store.proofs.UnderNames.{IsIndexed-push}
 use Rattle.row_store.proofs.names.put_new.Goals as goal

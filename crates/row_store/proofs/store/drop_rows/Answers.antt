@@ -1,4 +1,4 @@
-use Rattle.std.proofs.Common.{◌≡◌, ◌≤◌, ◌*◌, ◌-◌, false, None, is_some, sym, ap, ◌∙◌, arith}
+use Rattle.std.proofs.Common.{◌≡◌, ◌≤◌, ◌*◌, ◌-◌, false, is_some, sym, ap, ◌∙◌, arith}
 use Rattle.widget_model.specs.Widgets.{row_at, without_row}
 use Rattle.row_store.proofs.Options.{is_some-copied, is_none_of}
 use Rattle.row_store.proofs.UnderNumbers.{left-none, left-next, without_row-absent}

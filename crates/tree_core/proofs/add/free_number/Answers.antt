@@ -1,8 +1,7 @@
-use Rattle.std.proofs.Common.{◌≡◌, ℕ, ◌<◌, ◌≤◌, ◌+◌, ◌-◌, ◌*◌, ◌%◌, Bool, true, false, is_some, nat_le, refl, sym, ◌∙◌, subst, arith}
+use Rattle.std.proofs.Common.{◌≡◌, ℕ, ◌<◌, ◌≤◌, ◌+◌, ◌-◌, ◌*◌, ◌%◌, Bool, true, false, is_some, nat_le, refl, subst, arith}
 use Rattle.std.proofs.lemmas.Bool.{leb-true, leb-false}
-use Rattle.widget_model.specs.Widgets.{nodes, row_at}
+use Rattle.widget_model.specs.Widgets.{row_at}
 use Rattle.tree_core.proofs.ForestLemmas.{one_is_free}
-use Rattle.row_store.proofs.UnderNumbers.{row_live}
 use Rattle.tree_core.proofs.add.free_number.Goals as goal
 
 -- each of the 128 numbers is tried
@@ -19,8 +18,8 @@ tried first start id below low high = by (nat_le (first + start) id) refl
 
 pub unreachable-requires : goal.unreachable-requires
 unreachable-requires c =
-    one_is_free c.args.client (nodes c.args.store.now) c.requires.low c.requires.numbers c.requires.room
+    one_is_free c.args.client c.args.store.now c.requires.low c.requires.numbers c.requires.room
     (λ id low high.
     let there = tried (128 * (c.args.client - 1)) c.args.start id c.requires.start low high in
     let L : ℕ → Type 0 = λ number. is_some (row_at c.args.store.now number) ≡ true in
-    sym (row_live c.args.store.now id) ∙ subst L there.1.1 (c.loop-k.invariant there.0 (omega (arith, there.1.0))))
+    subst L there.1.1 (c.loop-k.invariant there.0 (omega (arith, there.1.0))))

@@ -2,7 +2,8 @@ use Rattle.std.proofs.Common.{rules, ◌≡◌, ◌<◌, ◌+◌, ◌-◌, ℕ, 
 use Rattle.std.specs.Option.{option_map}
 use Rattle.widget_model.specs.Rows.{Row}
 use Rattle.widget_model.specs.Trees.{height_in}
-use Rattle.tree_core.specs.Children.{cells_of, rows_in}
+use Rattle.widget_model.specs.Widgets.{rows_in}
+use Rattle.tree_core.specs.Children.{cells_of}
 use Rattle.tree_core.proofs.Downward.{IsGreatest, cell-child, IsGreatest-empty, IsGreatest-child, IsGreatest-height, ord_max-nat}
 use Rattle.tree_core.proofs.going_down.+height_in.Goals as goal
 use Rattle.tree_core.proofs.going_down.+height_in.Goals.{in-Some, in-None}

@@ -3,7 +3,8 @@ use Rattle.std.specs.List.{list_any}
 use Rattle.std.specs.Option.{option_map}
 use Rattle.widget_model.specs.Rows.{Row}
 use Rattle.widget_model.specs.Trees.{is_child}
-use Rattle.tree_core.specs.Children.{cells_of, rows_in}
+use Rattle.widget_model.specs.Widgets.{rows_in}
+use Rattle.tree_core.specs.Children.{cells_of}
 use Rattle.row_store.proofs.Options.{none_or_some}
 use Rattle.tree_core.proofs.Downward.{any-child, no-child}
 use Rattle.tree_core.proofs.going_down.has_child.Goals as goal

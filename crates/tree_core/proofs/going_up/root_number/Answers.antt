@@ -4,7 +4,7 @@ use Rattle.widget_model.specs.Rows.{Row}
 use Rattle.widget_model.specs.Nodes.{id_named}
 use Rattle.widget_model.specs.Trees.{root_in, root_of, most_levels}
 use Rattle.widget_model.specs.Widgets.{nodes}
-use Rattle.tree_core.specs.Children.{rows_in}
+use Rattle.widget_model.specs.Widgets.{rows_in}
 use Rattle.tree_core.proofs.Ways.{root-numbered}
 use Rattle.tree_core.proofs.going_up.root_number.Goals as goal
 

@@ -6,7 +6,8 @@ use Rattle.widget_model.specs.Rows.{Row}
 use Rattle.widget_model.specs.Relatives.{child_id}
 use Rattle.widget_model.specs.Planted.{takes_cell}
 use Rattle.widget_model.specs.Trees.{height_in, depth_of, height_of, most_levels}
-use Rattle.tree_core.specs.Children.{rows_in, widgets_in}
+use Rattle.widget_model.specs.Widgets.{rows_in}
+use Rattle.tree_core.specs.Children.{widgets_in}
 use Rattle.tree_core.proofs.Children.{child_in-free, takes_cell-index}
 use Rattle.row_store.proofs.Options.{is_none_of}
 use Rattle.tree_core.proofs.Groves.{attach_answer-none}

@@ -1,7 +1,7 @@
 use Rattle.std.proofs.Common.{◌≡◌, ◌<◌, ◌++◌, ◌∷◌, [], ◌+◌, take, length, false, refl, sym, ◌∙◌, arith}
 use Rattle.std.proofs.lemmas.List.Folds.{list_any-append}
 use Rattle.widget_model.specs.Trees.{links_to}
-use Rattle.tree_core.specs.Children.{rows_in}
+use Rattle.widget_model.specs.Widgets.{rows_in}
 use Rattle.tree_core.proofs.Listed.{any_at, rows_in-at, rows_in-take_more}
 use Rattle.tree_core.proofs.removing.is_linked.Goals as goal
 

@@ -2,7 +2,7 @@
 use Rattle.std.proofs.Common.{◌≡◌, false, take}
 use Rattle.std.specs.List.{list_any}
 use Rattle.widget_model.specs.Trees.{links_to}
-use Rattle.tree_core.specs.Children.{rows_in}
+use Rattle.widget_model.specs.Widgets.{rows_in}
 use Rattle.tree_core.proofs.removing.is_linked.Given as goal
 
 abbrev pub invariant-loop-i : goal.invariant-loop-i

@@ -1,5 +1,4 @@
-use Rattle.std.proofs.Common.{◌≡◌, ◌≤◌, ◌+◌, ◌*◌, ◌-◌, ℕ, List, Option, length, sym, ap, ◌∙◌, subst, arith}
-use Rattle.geom_core.specs.declared.rectangle.Rect.{Rect}
+use Rattle.std.proofs.Common.{◌≤◌, ◌*◌, ◌-◌, length, sym, ap, ◌∙◌, subst, arith}
 use Rattle.widget_model.specs.KeptPlaces.{most_numbers, unplaced}
 use Rattle.row_store.specs.KeptSlots.{Kept, filled_up}
 use Rattle.row_store.proofs.FilledUp.{filled_up-unplaced}

@@ -1,4 +1,4 @@
-use Rattle.std.proofs.Common.{◌≡◌, ◌<◌, length, sym, ap, ◌∙◌, subst}
+use Rattle.std.proofs.Common.{◌<◌, length, sym, ap, ◌∙◌, subst}
 use Rattle.widget_model.specs.KeptPlaces.{most_numbers, placed}
 use Rattle.row_store.specs.KeptSlots.{Kept}
 use Rattle.row_store.proofs.FilledUp.{filled_up-placed}

@@ -1,4 +1,4 @@
-use Rattle.std.proofs.Common.{◌≡◌, ℕ, List, None, refl, subst}
+use Rattle.std.proofs.Common.{ℕ, List, None, subst}
 use Rattle.widget_model.specs.Rows.{Row}
 use Rattle.tree_core.specs.Children.{HasChildren}
 use Rattle.tree_core.specs.Kept.{IsGrove, IsTree}

@@ -33,7 +33,7 @@ forget-requires c = (member c.self.invariant c.self.view_is c.args.client c.requ
 kept : (c : After-clear-2) → IsTree (record { clients = c.drop_number.new.clients.items; names = c.drop_names.new.names; entries = c.drop_rows.new.store; cells = c.clear.new.self; counts = c.forget.new.self; kept = c.clear-2.new.self })
 kept c =
     let joined = member c.self.invariant c.self.view_is c.args.client c.requires in
-    rw (c.drop_number.ensures, c.drop_names.ensures, c.drop_rows.ensures, c.forget.ensures, rows-departed c.self.inside.store c.args.client joined.low c.self.invariant.widgets.forest.numbers)
+    rw (c.drop_number.ensures, c.drop_names.ensures, c.drop_rows.ensures, c.forget.ensures, rows-departed c.self.inside.store c.args.client joined.low c.self.invariant.widgets.numbered.numbers)
     (IsTree-departed c.self.invariant c.clear.new.self c.clear-2.new.self c.args.client joined.low joined.below (record { inside = c.clear.ensures.empty; under = c.clear.ensures.below; above = c.clear.ensures.above; len = c.clear.ensures.length }) c.clear-2.ensures.slots c.clear-2.ensures.made)
 
 pub invariant_of-self : goal.invariant_of-self
@@ -45,10 +45,10 @@ returns-clause-valid c = (kept (goal.at.returns-clause-valid c).After-clear-2).w
 pub returns-clause-left : goal.returns-clause-left
 returns-clause-left c =
     let joined = member c.self.invariant c.self.view_is c.args.client c.requires in
-    rw (c.drop_number.ensures, c.drop_rows.ensures, c.clear-2.ensures.slots, rows-departed c.self.inside.store c.args.client joined.low c.self.invariant.widgets.forest.numbers) (ap (departed c.args.client) c.self.view_is)
+    rw (c.drop_number.ensures, c.drop_rows.ensures, c.clear-2.ensures.slots, rows-departed c.self.inside.store c.args.client joined.low c.self.invariant.widgets.numbered.numbers) (ap (departed c.args.client) c.self.view_is)
 
 pub returns-clause-others : goal.returns-clause-others
 returns-clause-others c = λ other live apart.
     let joined = member c.self.invariant c.self.view_is c.args.client c.requires in
     let found = live_row c.self.view_is other live in
-    rw (c.drop_rows.ensures, rows-departed c.self.inside.store c.args.client joined.low c.self.invariant.widgets.forest.numbers) (live-departed c.self.inside.store c.args.client other c.self.invariant.widgets.forest.own_numbers (ap is_some found.1) (λ same. apart (ap (λ (w : Widgets). row_client w.entries other) (sym c.self.view_is) ∙ same)))
+    rw (c.drop_rows.ensures, rows-departed c.self.inside.store c.args.client joined.low c.self.invariant.widgets.numbered.numbers) (live-departed c.self.inside.store c.args.client other c.self.invariant.widgets.numbered.own_numbers (ap is_some found.1) (λ same. apart (ap (λ (w : Widgets). row_client w.entries other) (sym c.self.view_is) ∙ same)))

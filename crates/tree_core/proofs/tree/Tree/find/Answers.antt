@@ -1,4 +1,4 @@
-use Rattle.std.proofs.Common.{sym, ◌∙◌}
+use Rattle.std.proofs.Common.{sym}
 use Rattle.widget_model.proofs.Naming.{row_at-named}
 use Rattle.tree_core.proofs.tree.Tree.find.Goals as goal
 

@@ -8,7 +8,7 @@ use Rattle.widget_model.specs.Widgets.{Widgets, row_at, nodes, without_row}
 use Rattle.row_store.specs.Index.{IsIndexed}
 use Rattle.row_store.proofs.CountsLemmas.{has_one}
 use Rattle.row_store.proofs.UnderNumbers.{row_at-without_row}
-use Rattle.tree_core.specs.Children.{rows_in}
+use Rattle.widget_model.specs.Widgets.{rows_in}
 use Rattle.tree_core.specs.Kept.{IsTree}
 use Rattle.tree_core.proofs.TreeKept.{client-below, slot_made, IsTree-without}
 use Rattle.tree_core.proofs.tree.Tree.remove.Goals as goal
@@ -21,14 +21,14 @@ pub lose-requires-clause-any : goal.lose-requires-clause-any
 lose-requires-clause-any c =
     let row = c.row-row.result.now in
     let below = client-below c.self.invariant c.args.id.key row c.row-row.ensures in
-    rw c.client-client.ensures (has_one c.self.inside.counts c.self.inside.store c.args.id.key row None below c.self.invariant.widgets.forest.own_numbers c.row-row.ensures refl c.self.invariant.counted)
+    rw c.client-client.ensures (has_one c.self.inside.counts c.self.inside.store c.args.id.key row None below c.self.invariant.widgets.numbered.own_numbers c.row-row.ensures refl c.self.invariant.counted)
 
 pub lose-requires-clause-alike : goal.lose-requires-clause-alike
 lose-requires-clause-alike c = λ alike.
     let row = c.row-row.result.now in
     let below = client-below c.self.invariant c.args.id.key row c.row-row.ensures in
     let passes : counts_with c.kind-kind.result row.kind ≡ true = rw (← c.kind-kind.ensures) alike in
-    rw c.client-client.ensures (has_one c.self.inside.counts c.self.inside.store c.args.id.key row (Some c.kind-kind.result) below c.self.invariant.widgets.forest.own_numbers c.row-row.ensures passes c.self.invariant.counted)
+    rw c.client-client.ensures (has_one c.self.inside.counts c.self.inside.store c.args.id.key row (Some c.kind-kind.result) below c.self.invariant.widgets.numbered.own_numbers c.row-row.ensures passes c.self.invariant.counted)
 
 pub put-requires : goal.put-requires
 put-requires c = slot_made c.self.invariant c.args.id.key c.row-row.result.now c.row-row.ensures

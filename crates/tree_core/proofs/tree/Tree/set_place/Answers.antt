@@ -1,6 +1,3 @@
-use Rattle.std.proofs.Common.{ap, ◌∙◌}
-use Rattle.std.proofs.lemmas.Bool.{eqb-false}
-use Rattle.std.proofs.lemmas.List.{get_or-set_other}
 use Rattle.tree_core.proofs.TreeKept.{live_row, slot_made, placed_there, IsTree-placed}
 use Rattle.tree_core.proofs.tree.Tree.set_place.Goals as goal
 
