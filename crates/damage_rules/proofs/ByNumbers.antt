@@ -1,15 +1,14 @@
 -- What two shots give of a row is what its widget gives the reach.
 use Rattle.std.proofs.Common.{◌≡◌, ℕ, ℤ, Bool, true, false, cond, ◌&&◌, ◌||◌, not, nat_eq, List, [], ◌∷◌, ◌++◌, map, Option, Some, None, IfSome, IsSomeAnd, refl, sym, ap, ◌∙◌, ◌⊎◌, inl, inr, subst}
+use Rattle.std.proofs.Math.Bool.{or-false}
 use Rattle.std.specs.Cmp.{both_ways}
 use Rattle.std.specs.List.{list_any}
-use Rattle.std.specs.Option.{option_map}
-use Rattle.std.proofs.lemmas.Bool.{true≢false, and_parts, and_from, and_left, and_right, and_cases, cases_Bool, cond-true, cond-false, false_from_ne_true}
+use Rattle.std.proofs.lemmas.Bool.{true≢false, and_parts, and_from, and_left, and_right, and_cases, cases_Bool, false_from_ne_true}
 use Rattle.std.proofs.lemmas.List.Folds.{list_any-append}
 use Rattle.geom_core.specs.declared.rectangle.Rect.{Rect}
 use Rattle.geom_core.specs.Rect.{in_rect}
 use Rattle.look_core.specs.Same.{same_look}
 use Rattle.widget_model.specs.Keys.{same_key, root_key}
-use Rattle.widget_model.specs.Planted.{IsPlanted}
 use Rattle.widget_model.proofs.Hanging.{HangsIn-from}
 use Rattle.scene_model.specs.Scene.{Scene}
 use Rattle.scene_model.specs.Showing.{place_of, parent_in, shows_at, is_open_in, is_under}
@@ -27,7 +26,7 @@ use Rattle.machine_model.proofs.OutsideDamage.{IsSteady-unshifted}
 use Rattle.shot_core.specs.Shot.{Seen, spot_at, windows_in, numbers_of}
 use Rattle.shot_core.specs.declared.spot.Spot.{Spot}
 use Rattle.damage_rules.specs.Areas.{same_number, is_placed_alike, is_higher_in, is_shifted, is_kept, is_altered, is_named, area_of, areas_of}
-use Rattle.damage_rules.specs.Numbering.{IsNumbering, IsSpotOf, IsShotOf, is_shown, AreLooksOf, AreNumbered, in_areas, ReachByNumbers, NothingOfOtherNumbers, ReachIsTheirUnion}
+use Rattle.damage_rules.specs.Numbering.{IsNumbering, IsSpotOf, IsShotOf, is_shown, AreLooksOf, in_areas, ReachByNumbers, NothingOfOtherNumbers, ReachIsTheirUnion}
 use Rattle.damage_rules.proofs.Numbers.{Stands, nat_eq-number, same_number-parent, higher-number, numbers-placed, any-number}
 use Rattle.machine_model.proofs.DamageByKeys.{reach_is_by_keys}
 
@@ -211,10 +210,6 @@ named-is number keys before after shot shot' looks window key are there key_ther
 holds : ℤ → ℤ → List Rect → Bool
 holds x y areas = list_any (λ area. in_rect area x y) areas
 
-or_nothing : (b : Bool) → (b || false) ≡ b
-or_nothing true = refl
-or_nothing false = refl
-
 area-is : (number : ℕ × List ℕ → ℕ) (keys : List (ℕ × List ℕ)) (before after : Scene) (shot shot' : Seen) (looks : List ℕ) (scene : Scene) (one : Seen) (key : ℕ × List ℕ) (x y : ℤ) → AreShots number keys before after shot shot' looks → IsMine number keys scene one → Stands key keys → holds x y (area_of shot shot' looks (number key) (spot_at one (number key))) ≡ named_shows before after scene x y key
 unfolding holds keyed.is_named
 area-is number keys before after shot shot' looks scene one key x y are mine there = by (is_shown scene key) refl
@@ -223,7 +218,7 @@ area-is number keys before after shot shot' looks scene one key x y are mine the
     root = root_key scene.rows key
 
     given : (n : Bool) (area : Rect) → holds x y (cond n (area ∷ []) []) ≡ (n && in_rect area x y)
-    given true area = or_nothing (in_rect area x y)
+    given true area = or-false (in_rect area x y)
     given false area = refl
 
     nothing : is_shown scene key ≡ false → ((is_open_in scene root && is_named_in before after root key) && shows_at scene key x y) ≡ false

@@ -1,7 +1,8 @@
 -- The windows that are put higher, of two orders that are the same or not.
-use Rattle.std.proofs.Common.{◌≡◌, ℕ, zero, suc, ◌+◌, ◌<◌, ◌≤◌, Bool, true, false, cond, ◌&&◌, ◌||◌, nat_eq, List, [], ◌∷◌, ◌++◌, map, take, length, get_or, length-append, refl, sym, ap, ◌∙◌, arith, subst}
+use Rattle.std.proofs.Common.{◌≡◌, ℕ, zero, suc, ◌+◌, ◌<◌, ◌≤◌, Bool, true, false, cond, ◌&&◌, ◌||◌, nat_eq, List, [], ◌∷◌, ◌++◌, take, length, get_or, length-append, refl, sym, ap, ◌∙◌, arith, subst}
+use Rattle.std.proofs.Math.Bool.{and-or_distrib_right}
 use Rattle.std.specs.List.{list_any}
-use Rattle.std.proofs.lemmas.Bool.{true≢false, and_left, and_right, and_cases, or_parts, or_from, eqb-true, eq-eqb, cases_Bool}
+use Rattle.std.proofs.lemmas.Bool.{and_left, and_right, or_from, eqb-true}
 use Rattle.std.proofs.lemmas.List.{take_more}
 use Rattle.std.proofs.lemmas.List.Folds.{list_any-append, list_any_more}
 use Rattle.geom_core.specs.declared.rectangle.Rect.{Rect}
@@ -83,7 +84,7 @@ higher-more before after i d higher old new less are is put = record {
   few = subst (λ (windows : List ℕ). length windows ≤ i + 1) (sym put) (grown higher);
   each = λ window. ap (list_any (nat_eq window)) put ∙ list_any-append (nat_eq window) old (cond higher ((get_or before i d).0 ∷ []) [])
       ∙ (λ j. are.each window j || last window j)
-      ∙ shared (list_any (nat_eq window) (take i (numbers_of before))) (nat_eq window (get_or before i d).0) (is_higher_in (numbers_of before) (numbers_of after) window)
+      ∙ sym (and-or_distrib_right (list_any (nat_eq window) (take i (numbers_of before))) (nat_eq window (get_or before i d).0) (is_higher_in (numbers_of before) (numbers_of after) window))
       ∙ ap (λ (b : Bool). b && is_higher_in (numbers_of before) (numbers_of after) window) (sym (first window));
 }
   where
@@ -108,12 +109,6 @@ higher-more before after i d higher old new less are is put = record {
         by : (e : Bool) → nat_eq window (get_or before i d).0 ≡ e → list_any (nat_eq window) (cond higher ((get_or before i d).0 ∷ []) []) ≡ (e && is_higher_in (numbers_of before) (numbers_of after) window)
         by true q = given higher true q ∙ is ∙ ap (is_higher_in (numbers_of before) (numbers_of after)) (sym (eqb-true window (get_or before i d).0 q))
         by false q = given higher false q
-
-    shared : (a b h : Bool) → ((a && h) || (b && h)) ≡ ((a || b) && h)
-    shared true b true = refl
-    shared true true false = refl
-    shared true false false = refl
-    shared false b h = refl
 
 pub higher-all : (before after : List (ℕ × Rect)) (i : ℕ) (windows : List ℕ) → length before ≤ i → AreHigher before after i windows → (window : ℕ) → list_any (nat_eq window) windows ≡ is_higher_in (numbers_of before) (numbers_of after) window
 higher-all before after i windows past are window =

@@ -1,15 +1,15 @@
 -- The widgets of a view by their keys and by their numbers.
-use Rattle.std.proofs.Common.{◌≡◌, ℕ, suc, zero, ◌+◌, ◌<◌, Bool, true, false, ◌&&◌, ◌||◌, nat_eq, List, [], ◌∷◌, map, length, slice_get, Option, Some, None, IsSome, is_some, refl, sym, ap, ◌∙◌, arith, All, subst}
+use Rattle.std.proofs.Common.{◌≡◌, ℕ, suc, zero, Bool, true, false, ◌&&◌, ◌||◌, nat_eq, List, [], ◌∷◌, map, slice_get, Option, Some, None, IsSome, is_some, refl, sym, ap, ◌∙◌, All, subst}
 use Rattle.std.specs.Cmp.{both_ways}
 use Rattle.std.specs.List.{list_any, list_all}
 use Rattle.std.specs.Option.{option_map, option_map_or, option_and_then}
-use Rattle.std.proofs.lemmas.Bool.{true≢false, and_parts, and_from, eqb-true, eq-eqb, or_left, or_right, false_from_ne_true}
+use Rattle.std.proofs.lemmas.Bool.{true≢false, and_from, eqb-true, eq-eqb, false_from_ne_true}
 use Rattle.std.proofs.lemmas.List.Elements.{All-head, All-tail}
 use Rattle.kind_core.specs.declared.shapes.Cell.{Cell}
 use Rattle.kind_core.specs.declared.kinds.Kind.TheVariants.{Window}
 use Rattle.widget_model.specs.Rows.{Row}
 use Rattle.widget_model.specs.Nodes.{id_named}
-use Rattle.widget_model.specs.Named.{row_named, is_kind_of}
+use Rattle.widget_model.specs.Named.{is_kind_of}
 use Rattle.widget_model.specs.Kinds.{is_window_kind}
 use Rattle.widget_model.specs.Keys.{key_of, same_key, row_of, parent_key, root_key}
 use Rattle.widget_model.specs.Trees.{root_of}
@@ -18,9 +18,8 @@ use Rattle.widget_model.specs.Relatives.{parent_id, root_id}
 use Rattle.widget_model.specs.Forest.{IsWidgets}
 use Rattle.widget_model.proofs.Naming.{row_named-parts, row_at-named, row_named-found, id_named-row}
 use Rattle.tree_core.specs.declared.pointer.Pointer.{Pointer}
-use Rattle.tree_core.proofs.Listed.{any_place, listed_number, AreNamedApart-rows}
+use Rattle.tree_core.proofs.Listed.{any_place, listed_number}
 use Rattle.scene_model.specs.Scene.{Scene}
-use Rattle.scene_model.specs.Showing.{is_open_in}
 use Rattle.scene_core.specs.View.{keys_of, scene_from}
 use Rattle.view_shots.specs.Shots.{is_shown_id}
 use Rattle.machine_model.specs.Damage.{keys_in}
@@ -50,7 +49,7 @@ key-live widgets id key at = let has = row-of widgets id key at in subst (λ (o 
 pub named-at : (widgets : Widgets) (id : ℕ) (key : ℕ × List ℕ) → IsWidgets widgets → key_at widgets.entries id ≡ Some key → id_named (nodes widgets.entries) key.0 key.1 ≡ Some id
 named-at widgets id key valid at =
     let has = row-of widgets id key at in
-    ap (λ (k : ℕ × List ℕ). id_named (nodes widgets.entries) k.0 k.1) (sym has.is) ∙ id_named-row widgets.entries id has.row valid.forest.own_names has.there
+    ap (λ (k : ℕ × List ℕ). id_named (nodes widgets.entries) k.0 k.1) (sym has.is) ∙ id_named-row widgets.entries id has.row valid.rows.names has.there
 
 pub at-named : (widgets : Widgets) (id : ℕ) (key : ℕ × List ℕ) → IsWidgets widgets → id_named (nodes widgets.entries) key.0 key.1 ≡ Some id → key_at widgets.entries id ≡ Some key
 at-named widgets id key valid named = by (row_at widgets.entries id) refl (row_at-named widgets.entries key.0 key.1 id named)
@@ -58,12 +57,12 @@ at-named widgets id key valid named = by (row_at widgets.entries id) refl (row_a
     by : (o : Option Row) → row_at widgets.entries id ≡ o → is_some o ≡ true → key_at widgets.entries id ≡ Some key
     by None q there = absurd (true≢false (sym there))
     by (Some row) q there =
-        let parts = row_named-parts (rows_of widgets) key.0 key.1 row (row_named-found widgets.entries key.0 key.1 id valid.forest.own_numbers named ∙ q) in
+        let parts = row_named-parts (rows_of widgets) key.0 key.1 row (row_named-found widgets.entries key.0 key.1 id valid.numbered.own_numbers named ∙ q) in
         ap (option_map key_of) q ∙ (λ i. Some (parts.0 i, parts.1 i))
 
 -- the row of a key is that of its number
 pub row-same : (widgets : Widgets) (id : ℕ) (key : ℕ × List ℕ) → IsWidgets widgets → key_at widgets.entries id ≡ Some key → row_of (rows_of widgets) key ≡ row_at widgets.entries id
-row-same widgets id key valid at = row_named-found widgets.entries key.0 key.1 id valid.forest.own_numbers (named-at widgets id key valid at)
+row-same widgets id key valid at = row_named-found widgets.entries key.0 key.1 id valid.numbered.own_numbers (named-at widgets id key valid at)
 
 -- one of the keys has a number
 pub stands-at : (widgets : Widgets) (key : ℕ × List ℕ) → IsWidgets widgets → Stands key (map key_of (rows_of widgets)) → (id : ℕ) × (key_at widgets.entries id ≡ Some key)
@@ -71,7 +70,7 @@ stands-at widgets key valid stands =
     let place = any_place (same_key key) (map key_of (rows_of widgets)) stands in
     let same : key ≡ place.1 = same_key-is key place.1 place.3 in
     let at = row-at (rows_of widgets) place.0 place.1 place.2 in
-    let number = listed_number widgets.entries place.0 at.0 valid.forest.own_numbers at.1 in
+    let number = listed_number widgets.entries place.0 at.0 valid.numbered.own_numbers at.1 in
     (number.0, ap (option_map key_of) number.1 ∙ ap (λ (k : ℕ × List ℕ). Some k) (at.2 ∙ sym same))
   where
     row-at : (rows : List Row) (i : ℕ) (k : ℕ × List ℕ) → slice_get (map key_of rows) i ≡ Some k → (row : Row) × (slice_get rows i ≡ Some row) × (key_of row ≡ k)
@@ -172,8 +171,8 @@ shown-live widgets windows id shown = by (row_at widgets.entries id) refl shown
 -- the scene of a view is sound
 pub sound-view : (widgets : Widgets) (windows : List ℕ) (pointer : Pointer) (width height : ℕ) → IsWidgets widgets → All (λ (id : ℕ). row_kind widgets.entries id ≡ Some Window) windows → IsSound (scene_from widgets windows pointer width height)
 sound-view widgets windows pointer width height valid each = record {
-  names = AreNamedApart-rows widgets.entries valid.forest.own_names;
-  planted = valid.planted;
+  names = valid.rows.names;
+  planted = valid.rows.planted;
   windows = all windows each;
 }
   where

@@ -1,9 +1,9 @@
 -- What the shots of two views give of all numbers is the reach between their scenes.
-use Rattle.std.proofs.Common.{◌≡◌, ℕ, suc, zero, ◌+◌, ◌<◌, ◌≤◌, ℤ, pos, Bool, true, false, ◌&&◌, ◌||◌, not, nat_eq, List, [], ◌∷◌, ◌++◌, map, slice_get, Option, Some, None, IsSomeAnd, zero-add, ◌⊎◌, inl, inr, refl, sym, ap, ◌∙◌, arith, All, subst}
+use Rattle.std.proofs.Common.{◌≡◌, ℕ, suc, zero, ◌<◌, pos, Bool, true, false, ◌&&◌, ◌||◌, not, nat_eq, List, [], ◌∷◌, ◌++◌, map, slice_get, Option, Some, None, IsSomeAnd, zero-add, ◌⊎◌, inl, inr, refl, sym, ap, ◌∙◌, All, subst}
 use Rattle.std.specs.Cmp.{both_ways}
 use Rattle.std.specs.List.{list_any, range_with_len}
 use Rattle.std.specs.Option.{option_map, option_map_or, option_and_then}
-use Rattle.std.proofs.lemmas.Bool.{true≢false, cases_Bool, eqb-true, eq-eqb, or_left, or_right, false_from_ne_true}
+use Rattle.std.proofs.lemmas.Bool.{true≢false, and_parts, cases_Bool, eqb-true, eq-eqb, or_left, or_right}
 use Rattle.std.proofs.lemmas.List.Folds.{list_any-append}
 use Rattle.std.proofs.lemmas.List.FromFn.{length-range_with_len, get_or-range_with_len}
 use Rattle.std.proofs.lemmas.Option.{slice_get-get_or}
@@ -11,32 +11,26 @@ use Rattle.std.proofs.lemmas.List.Elements.{All-head, All-tail}
 use Rattle.geom_core.specs.declared.rectangle.Rect.{Rect}
 use Rattle.geom_core.specs.Rect.{in_rect}
 use Rattle.kind_core.specs.declared.kinds.Kind.TheVariants.{Window}
-use Rattle.kind_core.specs.declared.shapes.Cell.{Cell}
 use Rattle.look_core.specs.Seen as drawn
 use Rattle.look_core.specs.Same.{same_look}
 use Rattle.widget_model.specs.Rows.{Row}
 use Rattle.widget_model.specs.Nodes.{id_named}
-use Rattle.widget_model.specs.Keys.{key_of, same_key, row_of, parent_key, root_key}
-use Rattle.widget_model.specs.Trees.{parent_of}
-use Rattle.widget_model.specs.Widgets.{Widgets, rows_of, row_at, row_kind, key_at, nodes, IsLive}
-use Rattle.widget_model.specs.Relatives.{parent_id, root_id}
+use Rattle.widget_model.specs.Keys.{key_of, same_key, parent_key, root_key}
+use Rattle.widget_model.specs.Widgets.{Widgets, rows_of, row_at, row_kind, key_at, nodes}
 use Rattle.widget_model.specs.Forest.{IsWidgets}
 use Rattle.tree_core.specs.declared.pointer.Pointer.{Pointer}
 use Rattle.tree_core.proofs.Listed.{any_at, any_place}
-use Rattle.scene_model.specs.Scene.{Scene}
 use Rattle.scene_model.specs.Placing.{place_in}
 use Rattle.scene_model.specs.Showing.{place_of, parent_in, shows_at}
 use Rattle.scene_model.specs.Colours.{look_at}
 use Rattle.scene_core.specs.View.{keys_of, scene_from}
-use Rattle.view_shots.specs.Shots.{place_by, shows_by, is_shown_id, IsSpotBy, IsShotBy}
+use Rattle.view_shots.specs.Shots.{place_by, is_shown_id, IsSpotBy, IsShotBy}
 use Rattle.view_shots.proofs.ShotSteps.{number-low}
-use Rattle.machine_model.specs.Damage.{keys_in}
 use Rattle.machine_model.proofs.DamageKeys.{same_key-own, same_key-is, joined_left, joined_right}
 use Rattle.machine_model.proofs.DamageScenes.{parent_stands}
 use Rattle.shot_core.specs.Shot as shots
 use Rattle.shot_core.specs.Shot.{Seen, spot_at}
 use Rattle.shot_core.specs.declared.spot.Spot.{Spot}
-use Rattle.damage_rules.specs.Areas.{areas_of}
 use Rattle.damage_rules.specs.Numbering.{IsNumbering, IsSpotOf, IsShotOf, is_shown, AreLooksOf, AreNumbered, in_areas}
 use Rattle.damage_rules.specs.Views.{KeepsNumbers, Sight, scene_in, look_by, has_other_look, AreSeen, ReachOfViews}
 use Rattle.damage_rules.proofs.Numbers.{Stands}
@@ -82,7 +76,7 @@ module _ (number : ℕ × List ℕ → ℕ) (keys : List (ℕ × List ℕ)) (wid
 
       parents : (o : Option (ℕ × List ℕ)) → parent_key (rows_of widgets) key ≡ o → option_and_then (λ (k : ℕ × List ℕ). id_named (nodes widgets.entries) k.0 k.1) o ≡ option_map number o
       parents None q = refl
-      parents (Some k) q = upper k (stands-at widgets k tells.valid (parent_stands (scene_from widgets windows pointer width height) key k tells.valid.planted q))
+      parents (Some k) q = upper k (stands-at widgets k tells.valid (parent_stands (scene_from widgets windows pointer width height) key k tells.valid.rows.planted q))
 
   shot-of : All (λ (id : ℕ). row_kind widgets.entries id ≡ Some Window) windows → IsShotOf number keys (scene_from widgets windows pointer width height) shot
   unfolding place_of
@@ -115,11 +109,7 @@ module _ (number : ℕ × List ℕ → ℕ) (keys : List (ℕ × List ℕ)) (wid
               ∙ sym (ap (λ (o : Option (ℕ × List ℕ)). map (λ (key : ℕ × List ℕ). let e : ℕ × Rect = (number key, place_of (scene_from widgets windows pointer width height) key) in e) (option_map_or (λ (k : ℕ × List ℕ). k ∷ keys_of widgets.entries ids) o (keys_of widgets.entries ids))) at)
 
       stands : (key : ℕ × List ℕ) → is_shown (scene_from widgets windows pointer width height) key ≡ true → Stands key (map key_of (rows_of widgets))
-      stands key shown = first (list_any (same_key key) (map key_of (rows_of widgets))) (list_any (same_key (root_key (rows_of widgets) key)) (keys_of widgets.entries windows)) shown
-        where
-          first : (a b : Bool) → (a && b) ≡ true → a ≡ true
-          first true b h = refl
-          first false b h = h
+      stands key shown = (and_parts (list_any (same_key key) (map key_of (rows_of widgets))) (list_any (same_key (root_key (rows_of widgets) key)) (keys_of widgets.entries windows)) shown).0
 
       found : (key : ℕ × List ℕ) → is_shown (scene_from widgets windows pointer width height) key ≡ true → (id : ℕ) × (key_at widgets.entries id ≡ Some key) → IsSomeAnd (spot_at shot (number key)) (IsSpotOf number (scene_from widgets windows pointer width height) key)
       found key shown at =
@@ -227,8 +217,8 @@ looks-of : (before after : Sight) (width height : ℕ) (looks_now : List ℕ) �
     → AreLooksOf (number_in before.widgets after.widgets) (scene_in before width height) (scene_in after width height) looks_now
 unfolding has_other_look
 looks-of before after width height looks_now kept differ key shown shown' =
-    let at = stands-at before.widgets key kept.valid (first (list_any (same_key key) (map key_of (rows_of before.widgets))) (list_any (same_key (root_key (rows_of before.widgets) key)) (keys_of before.widgets.entries before.windows)) shown) in
-    let at' = stands-at after.widgets key kept.valid' (first (list_any (same_key key) (map key_of (rows_of after.widgets))) (list_any (same_key (root_key (rows_of after.widgets) key)) (keys_of after.widgets.entries after.windows)) shown') in
+    let at = stands-at before.widgets key kept.valid (and_parts (list_any (same_key key) (map key_of (rows_of before.widgets))) (list_any (same_key (root_key (rows_of before.widgets) key)) (keys_of before.widgets.entries before.windows)) shown).0 in
+    let at' = stands-at after.widgets key kept.valid' (and_parts (list_any (same_key key) (map key_of (rows_of after.widgets))) (list_any (same_key (root_key (rows_of after.widgets) key)) (keys_of after.widgets.entries after.windows)) shown').0 in
     let id = number_in before.widgets after.widgets key in
     let here : key_at before.widgets.entries id ≡ Some key = ap (key_at before.widgets.entries) (number-before before.widgets after.widgets at.0 key kept.valid at.1) ∙ at.1 in
     let here' : key_at after.widgets.entries id ≡ Some key = ap (key_at after.widgets.entries) (number-after before.widgets after.widgets at'.0 key kept.valid kept.valid' kept.numbers at'.1) ∙ at'.1 in
@@ -237,10 +227,6 @@ looks-of before after width height looks_now kept differ key shown shown' =
     let look : look_by before width height id ≡ look_at (scene_in before width height) key = ap (λ (o : Option (ℕ × List ℕ)). option_map_or (look_at (scene_in before width height)) o drawn.no_film) here in
     let look' : look_by after width height id ≡ look_at (scene_in after width height) key = ap (λ (o : Option (ℕ × List ℕ)). option_map_or (look_at (scene_in after width height)) o drawn.no_film) here' in
     differ id ∙ (λ i. is i && (is' i && not (same_look (look i) (look' i))))
-  where
-    first : (a b : Bool) → (a && b) ≡ true → a ≡ true
-    first true b h = refl
-    first false b h = h
 
 -- two views under one numbering
 views-numbered : (before after : Sight) (width height : ℕ) (shot shot' : Seen) (looks_now : List ℕ) → AreSeen before after width height shot shot' looks_now → AreKept before.widgets after.widgets

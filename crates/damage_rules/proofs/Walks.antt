@@ -1,6 +1,8 @@
 -- Walking through the windows from top to bottom.
 use Rattle.std.proofs.Common.{◌≡◌, ℕ, zero, suc, ◌+◌, ◌<◌, ◌≤◌, Bool, true, false, cond, ◌&&◌, ◌||◌, nat_eq, List, [], ◌∷◌, drop, length, get_or, add-one, refl, sym, ap, ◌∙◌, arith}
+use Rattle.std.specs.Cmp.{nat_eq_equiv}
 use Rattle.std.specs.List.{list_any}
+use Rattle.std.proofs.Math.Bool.{and-false, or-false}
 use Rattle.std.proofs.lemmas.Bool.{true≢false, or_parts, or_from, eqb-true, eq-eqb, cond-true, cond-false}
 use Rattle.machine_model.specs.Damage.{is_over}
 use Rattle.shot_core.specs.Shot.{AreOnce, numbers_of}
@@ -47,9 +49,6 @@ not_over (window ∷ windows) upper lower absent = by (nat_eq upper window) (not
     by true rest = parts.1
     by false rest = rest
 
-turned : (a b : ℕ) → nat_eq a b ≡ false → nat_eq b a ≡ false
-turned a b differ = grind arith
-
 -- the tests that the definition makes, from here on
 abbrev tested : List ℕ → (ℕ → Bool) → ℕ → ℕ → Bool
 tested windows below window other = is_over nat_eq windows other window && below other
@@ -59,7 +58,7 @@ skip_first : (first window : ℕ) (below : ℕ → Bool) (all others : List ℕ)
 skip_first first window below all [] absent = refl
 skip_first first window below all (other ∷ others) absent =
     let parts = or_parts (nat_eq first other) (list_any (nat_eq first) others) absent in
-    let same : tested (first ∷ all) below window other ≡ tested all below window other = ap (λ b. b && below other) (cond-false (nat_eq other first) _ _ (turned first other parts.0)) in
+    let same : tested (first ∷ all) below window other ≡ tested all below window other = ap (λ b. b && below other) (cond-false (nat_eq other first) _ _ (nat_eq_equiv.symm other first ∙ parts.0)) in
     λ i. same i || skip_first first window below all others parts.1 i
 
 -- nothing of a list is over a window that isn't in it
@@ -75,10 +74,6 @@ regrouped true false true l = refl
 regrouped true false false l = refl
 regrouped false h p l = refl
 
-or_nothing : (b : Bool) → (b || (false || false)) ≡ b
-or_nothing true = refl
-or_nothing false = refl
-
 higher_is : (below : ℕ → Bool) (window : ℕ) (higher : Bool) (windows : List ℕ) → AreOnce windows → higher_from below window higher windows ≡ ((list_any (nat_eq window) windows && higher) || list_any (tested windows below window) windows)
 higher_is below window higher [] once = refl
 higher_is below window higher (other ∷ others) once = by (nat_eq other window) refl (higher_is below window (higher || below other) others once.1)
@@ -93,18 +88,14 @@ higher_is below window higher (other ∷ others) once = by (nat_eq other window)
     by true same step =
         let turn : nat_eq window other ≡ true = eq-eqb window other (sym (eqb-true other window same)) in
         let absent : list_any (nat_eq window) others ≡ false = ap (λ (n : ℕ). list_any (nat_eq n) others) (sym (eqb-true other window same)) ∙ once.0 in
-        sym ((λ i. ((turn i || list_any (nat_eq window) others) && higher) || (((first ∙ absent) i && below other) || (rest ∙ none_tested window below others others absent) i)) ∙ or_nothing higher)
+        sym ((λ i. ((turn i || list_any (nat_eq window) others) && higher) || (((first ∙ absent) i && below other) || (rest ∙ none_tested window below others others absent) i)) ∙ or-false higher)
     by false differ step =
         step
         ∙ (regrouped (list_any (nat_eq window) others) higher (below other) (list_any (tested others below window) others)
-        ∙ (λ i. ((sym (turned other window differ) i || list_any (nat_eq window) others) && higher) || ((sym first i && below other) || sym rest i)))
+        ∙ (λ i. ((sym (nat_eq_equiv.symm window other ∙ differ) i || list_any (nat_eq window) others) && higher) || ((sym first i && below other) || sym rest i)))
 
 pub higher_from-start : (below : ℕ → Bool) (window : ℕ) (windows : List ℕ) → AreOnce windows → higher_from below window false windows ≡ list_any (tested windows below window) windows
-higher_from-start below window windows once = higher_is below window false windows once ∙ ap (λ b. b || list_any (tested windows below window) windows) (none (list_any (nat_eq window) windows))
-  where
-    none : (b : Bool) → (b && false) ≡ false
-    none true = refl
-    none false = refl
+higher_from-start below window windows once = higher_is below window false windows once ∙ ap (λ b. b || list_any (tested windows below window) windows) (and-false (list_any (nat_eq window) windows))
 
 -- the same along the walk of a loop
 pub over_stops : (windows : List (ℕ × Rect)) (i : ℕ) (d : ℕ × Rect) (upper lower : ℕ) (found : Bool) → i < length windows → (found && nat_eq lower (get_or windows i d).0) ≡ true → over_from upper lower found (drop i (numbers_of windows)) ≡ true

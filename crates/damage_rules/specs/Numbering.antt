@@ -1,6 +1,6 @@
 -- The reach by numbers is the reach: what two shots give of a row, where they are those of two scenes under one numbering
 -- of their widgets.
-use Rattle.std.specs.Prelude.{ℕ, ℤ, ◌≡◌, Bool, true, false, ◌&&◌, not, nat_eq, List, [], ◌++◌, map, Option, None, IsSomeAnd}
+use Rattle.std.specs.Prelude.{ℕ, ℤ, ◌≡◌, Bool, true, false, ◌&&◌, not, nat_eq, List, [], ◌++◌, map, None, IsSomeAnd}
 use Rattle.std.specs.List.{list_any}
 use Rattle.std.specs.Option.{option_map}
 use Rattle.geom_core.specs.Rect.{in_rect}

@@ -3,7 +3,9 @@ use Rattle.std.proofs.Common.{◌≡◌, ℕ, zero, suc, ◌+◌, ◌*◌, ◌<�
 use Rattle.std.specs.Prelude.{Option, Some, None, nat_eq}
 use Rattle.std.specs.List.{list_any}
 use Rattle.std.specs.Option.{option_map, option_map_or}
-use Rattle.std.proofs.lemmas.Bool.{true≢false, false≢true, eq-eqb, eqb-true, and_parts, or_parts}
+use Rattle.std.specs.Cmp.{nat_eq_equiv}
+use Rattle.std.proofs.Math.Bool.{and-false, or-false}
+use Rattle.std.proofs.lemmas.Bool.{true≢false, false≢true, eq-eqb, and_parts, or_parts, or_from, false_from_ne_true}
 use Rattle.std.proofs.lemmas.List.{take_more}
 use Rattle.std.proofs.lemmas.List.Folds.{list_any-append}
 use Rattle.canvas_core.specs.Screen.{Screen, IsScreen, pixel_of}
@@ -23,21 +25,10 @@ use Rattle.scene_core.specs.declared.view.View.{View}
 use Rattle.scene_core.specs.View.{scene_of}
 use Rattle.painter_core.specs.Banding.{view_shows_band}
 use Rattle.painter_core.specs.Painting.{ShowsScene}
-use Rattle.painter_core.proofs.KeyLemmas.{same_key-true, number_of-key}
+use Rattle.scene_core.proofs.OneNumber.{number_of-key}
+use Rattle.machine_model.proofs.DamageKeys.{same_key-is}
 use Rattle.painter_core.proofs.PartLemmas.{count_rows-most}
 use Rattle.drawing_core.specs.Banding.{shows_a_band, AreOfOneEach, BandsDrawn}
-
-never : (b : Bool) → (b ≡ true → ⊥) → b ≡ false
-never true h = absurd (h refl)
-never false h = refl
-
-and_none : (a : Bool) → (a && false) ≡ false
-and_none true = refl
-and_none false = refl
-
-or_none : (a : Bool) → (a || false) ≡ a
-or_none true = refl
-or_none false = refl
 
 -- where a band is shown, its widget is on top
 shows-top : (scene : Scene) (key : ℕ × List ℕ) (band : Band) (x y : ℤ) → shows_band scene key band x y ≡ true → is_top scene key x y ≡ true
@@ -46,7 +37,7 @@ shows-top scene key band x y e = (and_parts (is_top scene key x y) (film_in_band
 
 one_top : (top : Option (ℕ × List ℕ)) (a b : ℕ × List ℕ) → option_map_or (same_key a) top false ≡ true → option_map_or (same_key b) top false ≡ true → a ≡ b
 one_top None a b e f = absurd (false≢true e)
-one_top (Some top) a b e f = same_key-true a top e ∙ sym (same_key-true b top f)
+one_top (Some top) a b e f = same_key-is a top e ∙ sym (same_key-is b top f)
 
 -- no pixel shows bands of two widgets
 bands_apart : (view : View) (a b : ℕ) (band other : Band) (x y : ℤ) → IsWidgets view.tree.now → nat_eq a b ≡ false → (view_shows_band view a band x y && view_shows_band view b other x y) ≡ false
@@ -55,8 +46,8 @@ bands_apart view a b band other x y valid differ = by (row_at view.tree.now.entr
     by : (o : Option Row) → row_at view.tree.now.entries a ≡ o → (p : Option Row) → row_at view.tree.now.entries b ≡ p
         → (option_map_or (λ (key : ℕ × List ℕ). shows_band (scene_of view) key band x y) (option_map key_of o) false && option_map_or (λ (key : ℕ × List ℕ). shows_band (scene_of view) key other x y) (option_map key_of p) false) ≡ false
     by None at p at' = refl
-    by (Some row) at None at' = and_none (shows_band (scene_of view) (key_of row) band x y)
-    by (Some row) at (Some row') at' = never (shows_band (scene_of view) (key_of row) band x y && shows_band (scene_of view) (key_of row') other x y) (λ both.
+    by (Some row) at None at' = and-false (shows_band (scene_of view) (key_of row) band x y)
+    by (Some row) at (Some row') at' = false_from_ne_true (shows_band (scene_of view) (key_of row) band x y && shows_band (scene_of view) (key_of row') other x y) (λ both.
         let parts = and_parts (shows_band (scene_of view) (key_of row) band x y) (shows_band (scene_of view) (key_of row') other x y) both in
         let one : key_of row ≡ key_of row' = one_top (top_of (scene_of view) x y) (key_of row) (key_of row') (shows-top (scene_of view) (key_of row) band x y parts.0) (shows-top (scene_of view) (key_of row') other x y parts.1) in
         true≢false (sym (eq-eqb a b (number_of-key view.tree.now a b row row' valid at at' one)) ∙ differ))
@@ -79,12 +70,6 @@ not_any-at test [] i d none h = absurd (omega arith)
 not_any-at test (x ∷ xs) zero d none h = (or_parts (test x) (list_any test xs) none).0
 not_any-at test (x ∷ xs) (suc i) d none h = not_any-at test xs i d (or_parts (test x) (list_any test xs) none).1 (omega arith)
 
-or_from : (a b : Bool) → a ≡ false → b ≡ false → (a || b) ≡ false
-or_from a b e f = ap (λ (t : Bool). t || b) e ∙ f
-
-differ-flip : (a b : ℕ) → nat_eq a b ≡ false → nat_eq b a ≡ false
-differ-flip a b e = never (nat_eq b a) (λ same. true≢false (sym (eq-eqb a b (sym (eqb-true b a same))) ∙ e))
-
 -- the widgets of the first bands are others than the next one's
 one_each-at : (bands : List (Id × Band)) (i : ℕ) (d : Id × Band) → AreOfOneEach bands → i < length bands → list_any (λ (other : Id × Band). nat_eq (get_or bands i d).0.key other.0.key) (take i bands) ≡ false
 one_each-at [] i d each h = absurd (omega arith)
@@ -92,7 +77,7 @@ one_each-at (band ∷ bands) zero d each h = refl
 one_each-at (band ∷ bands) (suc i) d each h =
     let next = get_or bands i d in
     or_from (nat_eq next.0.key band.0.key) (list_any (λ (other : Id × Band). nat_eq next.0.key other.0.key) (take i bands))
-    (differ-flip band.0.key next.0.key (not_any-at (λ (other : Id × Band). nat_eq band.0.key other.0.key) bands i d each.0 (omega arith)))
+    (nat_eq_equiv.symm next.0.key band.0.key ∙ not_any-at (λ (other : Id × Band). nat_eq band.0.key other.0.key) bands i d each.0 (omega arith))
     (one_each-at bands i d each.1 (omega arith))
 
 shows-more : (view : View) (bands : List (Id × Band)) (i : ℕ) (d : Id × Band) (x y : ℤ) → i < length bands → shows_a_band view (take (i + 1) bands) x y ≡ (shows_a_band view (take i bands) x y || view_shows_band view (get_or bands i d).0.key (get_or bands i d).1 x y)
@@ -100,7 +85,7 @@ shows-more view bands i d x y h =
     let test : Id × Band → Bool = λ entry. view_shows_band view entry.0.key entry.1 x y in
     ap (list_any test) (take_more bands i d h)
     ∙ list_any-append test (take i bands) (get_or bands i d ∷ [])
-    ∙ ap (λ t. list_any test (take i bands) || t) (or_none (test (get_or bands i d)))
+    ∙ ap (λ t. list_any test (take i bands) || t) (or-false (test (get_or bands i d)))
 
 drawn_either : (some next : Bool) (now between before drawn : ℕ) → now ≡ cond next drawn between → between ≡ cond some drawn before → now ≡ cond (some || next) drawn before
 drawn_either true true now between before drawn e f = e

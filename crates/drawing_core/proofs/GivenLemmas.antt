@@ -1,6 +1,7 @@
 -- What the numbers that two shots list give is what all numbers give.
 use Rattle.std.proofs.Common.{◌≡◌, ℕ, ◌+◌, ◌<◌, ℤ, Bool, true, false, ◌&&◌, ◌||◌, nat_eq, nat_lt, List, [], ◌∷◌, ◌++◌, slice_get, Option, Some, None, is_some, refl, sym, ap, ◌∙◌, subst, inl, inr, arith}
 use Rattle.std.specs.List.{list_any, range_with_len}
+use Rattle.std.proofs.Math.Bool.{or-false}
 use Rattle.std.proofs.lemmas.Bool.{true≢false, and_parts, and_from, or_left, or_right, eqb-true, lt-ltb, ltb-true}
 use Rattle.std.proofs.lemmas.List.FromFn.{get_or-range_with_len, length-range_with_len}
 use Rattle.std.proofs.lemmas.Option.{slice_get_cases}
@@ -94,11 +95,7 @@ module _ (before after : Seen) (looks : List ℕ) (x y : ℤ) where
   -- what one number gives
   pub one_given : (key : ℕ) → key < most_numbers → in_areas before after looks x y key ≡ is_given_of before after looks (key ∷ []) x y
   one_given key below =
-      sym (or_none (in_areas before after looks x y key)) ∙ ap (λ t. (t && in_areas before after looks x y key) || false) (sym (lt-ltb key most_numbers below))
-    where
-      or_none : (a : Bool) → (a || false) ≡ a
-      or_none true = refl
-      or_none false = refl
+      sym (or-false (in_areas before after looks x y key)) ∙ ap (λ t. (t && in_areas before after looks x y key) || false) (sym (lt-ltb key most_numbers below))
 
   pub none_beyond : (key : ℕ) → (key < most_numbers → ⊥) → is_given_of before after looks (key ∷ []) x y ≡ false
   none_beyond key beyond = by (nat_lt key most_numbers) refl

@@ -1,19 +1,14 @@
 -- Marking: nothing marked, and one test after another.
 use Rattle.std.proofs.Common.{◌≡◌, ℕ, ◌<◌, ℤ, pos, Bool, false, ◌||◌, refl, sym, ap, ◌∙◌, arith}
+use Rattle.std.proofs.Math.Bool.{or-false, or_assoc}
 use Rattle.shot_core.specs.Shot.{most_numbers}
 use Rattle.redraw_core.specs.Dirt.{Dirt, IsDirt, is_dirty}
 use Rattle.drawing_core.specs.Marking.{Marked}
 
-or_false : (a : Bool) → a ≡ (a || false)
-or_false a = grind arith
-
-or_assoc : (a b c : Bool) → ((a || b) || c) ≡ (a || (b || c))
-or_assoc a b c = grind arith
-
 -- a test that nothing passes marks nothing
 pub Marked-nothing : (test : ℤ → ℤ → Bool) (dirt : Dirt) → ((x y : ℤ) → test x y ≡ false) → IsDirt dirt → Marked test dirt dirt
 Marked-nothing test dirt none is = record {
-  pixels = λ x y hx hy. or_false (is_dirty dirt x y) ∙ ap (λ b. is_dirty dirt x y || b) (sym (none (pos x) (pos y)));
+  pixels = λ x y hx hy. sym (or-false (is_dirty dirt x y)) ∙ ap (λ b. is_dirty dirt x y || b) (sym (none (pos x) (pos y)));
   width = refl;
   height = refl;
   valid = is;

@@ -1,5 +1,5 @@
 -- The rows of the table once their case is known, and what contracts see of the events that are posted.
-use Rattle.std.proofs.Common.{ℕ, ℤ, pos, ◌-ℤ◌, ◌≡◌, Bool, true, false, cond, ◌&&◌, int_lt, List, [], ◌∷◌, ◌++◌, map, length, Option, Some, None, unsigned_abs, IfSome, subst, refl, sym, ap, ap₂, ◌∙◌}
+use Rattle.std.proofs.Common.{ℕ, ℤ, pos, ◌-ℤ◌, ◌≡◌, Bool, true, false, cond, ◌&&◌, int_lt, List, [], ◌++◌, map, length, Option, Some, None, unsigned_abs, IfSome, subst, refl, sym, ap, ap₂, ◌∙◌}
 use Rattle.std.specs.Option.{option_map, option_and_then, option_map_or, option_to_list}
 use Rattle.std.specs.List.{All}
 use Rattle.std.specs.Ordering.{int_eq}

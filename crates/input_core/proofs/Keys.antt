@@ -1,5 +1,5 @@
 -- Keys of live numbers: they name their rows, and two numbers have one key only where they are one.
-use Rattle.std.proofs.Common.{ℕ, ◌≡◌, Bool, true, false, ◌&&◌, nat_eq, List, [], Option, Some, None, is_some, refl, sym, ap, ◌∙◌}
+use Rattle.std.proofs.Common.{ℕ, ◌≡◌, Bool, true, false, nat_eq, List, [], Option, Some, is_some, refl, sym, ap, ◌∙◌}
 use Rattle.std.specs.Option.{option_map, option_and_then, unwrap_or}
 use Rattle.std.specs.Str.{bytes_eq}
 use Rattle.std.specs.Cmp.{nat_eq_equiv}
@@ -28,12 +28,12 @@ key_seen-numbered es id live = ap (λ (key : Option (ℕ × List ℕ)). unwrap_o
 
 -- that key names the row
 pub row_of-numbered : (w : Widgets) (id : ℕ) → IsWidgets w → is_some (row_at w.entries id) ≡ true → row_of (rows_of w) (key_of (numbered w.entries id)) ≡ Some (numbered w.entries id)
-row_of-numbered w id kept live = row_named-row w.entries id (numbered w.entries id) kept.forest.own_numbers kept.forest.own_names (numbered_row w.entries id live)
+row_of-numbered w id kept live = row_named-row w.entries id (numbered w.entries id) kept.numbered.own_numbers kept.rows.names (numbered_row w.entries id live)
 
 -- the key of a number that a name has
 pub key_seen-named : (w : Widgets) (client : ℕ) (name : List ℕ) (id : Id) → IsWidgets w → is_some (row_at w.entries id.key) ≡ true → id_named (nodes w.entries) client name ≡ Some id.key → key_seen w.entries id ≡ (client, name)
 key_seen-named w client name id kept live named =
-    let there = row_named-found w.entries client name id.key kept.forest.own_numbers named ∙ numbered_row w.entries id.key live in
+    let there = row_named-found w.entries client name id.key kept.numbered.own_numbers named ∙ numbered_row w.entries id.key live in
     let parts = row_named-parts (rows_of w) client name (numbered w.entries id.key) there in
     key_seen-numbered w.entries id live ∙ (λ i. (parts.0 i, parts.1 i))
 
@@ -52,8 +52,8 @@ same_key-numbered w a b kept at_a at_b = by (same_key (key_of (numbered w.entrie
         let parts = and_parts (nat_eq (numbered w.entries a).client (numbered w.entries b).client) (bytes_eq (numbered w.entries a).name (numbered w.entries b).name) same in
         let client = eqb-true (numbered w.entries a).client (numbered w.entries b).client parts.0 in
         let name = (bytes_eq-Decides (numbered w.entries a).name (numbered w.entries b).name).0 parts.1 in
-        let number_a = id_named-row w.entries a (numbered w.entries a) kept.forest.own_names (numbered_row w.entries a at_a) in
-        let number_b = id_named-row w.entries b (numbered w.entries b) kept.forest.own_names (numbered_row w.entries b at_b) in
+        let number_a = id_named-row w.entries a (numbered w.entries a) kept.rows.names (numbered_row w.entries a at_a) in
+        let number_b = id_named-row w.entries b (numbered w.entries b) kept.rows.names (numbered_row w.entries b at_b) in
         let same_number : Some a ≡ Some b = sym number_a ∙ ap (λ (n : ℕ). id_named (nodes w.entries) n (numbered w.entries a).name) client ∙ ap (id_named (nodes w.entries) (numbered w.entries b).client) name ∙ number_b in
         cc
 

@@ -5,22 +5,21 @@ use Rattle.kind_core.specs.declared.kinds.Kind.TheVariants.{Scrollbar}
 use Rattle.kind_core.specs.declared.kinds.Attr.{Attr}
 use Rattle.kind_core.specs.declared.kinds.Attr.TheVariants.{Max, Real, View}
 use Rattle.widget_model.specs.Rows.{all_attrs, attr_of, attr_slot}
-use Rattle.widget_model.specs.Fitting.{fits_attr}
+use Rattle.widget_model.specs.Fitting.{is_fit, fits_attr}
 use Rattle.widget_model.specs.Widgets.{Widgets, row_at}
 use Rattle.widget_model.specs.Forest.{IsWidgets}
 use Rattle.scene_model.specs.Values.{count_of}
 use Rattle.widget_model.proofs.Fit.{IsFit-is_fit}
 use Rattle.desk_model.proofs.Limits.{max_fits, real_fits, view_fits, real_starts}
 use Rattle.desk_model.proofs.Limits as limits
-use Rattle.tree_core.proofs.TreeKept.{fits_at}
 use Rattle.input_core.specs.Numbered.{numbered}
-use Rattle.input_core.proofs.Numbers.{numbered_row}
+use Rattle.input_core.proofs.Numbers.{all_numbered}
 
 -- the attribute of a live row fits the table
 attr_fits : (w : Widgets) (id : ℕ) (attr : Attr) → slice_get all_attrs (attr_slot attr) ≡ Some attr → IsWidgets w → is_some (row_at w.entries id) ≡ true → fits_attr (numbered w.entries id).kind attr (attr_of (numbered w.entries id) attr) ≡ true
 attr_fits w id attr there kept live =
     let row = numbered w.entries id in
-    limits.attr_fits row attr there (IsFit-is_fit row (fits_at w.entries id row kept.fitting (numbered_row w.entries id live))).table
+    limits.attr_fits row attr there (IsFit-is_fit row (all_numbered is_fit w id kept.rows.fitting live)).table
 
 pub max_most : (w : Widgets) (id : ℕ) → IsWidgets w → is_some (row_at w.entries id) ≡ true → count_of Max (numbered w.entries id) ≤ 10000
 max_most w id kept live = max_fits (numbered w.entries id).kind (attr_of (numbered w.entries id) Max) (attr_fits w id Max refl kept live)

@@ -1,10 +1,13 @@
 -- Rows by number: what the tree says of a live number is said of its row.
-use Rattle.std.proofs.Common.{ℕ, ◌≡◌, true, List, [], Option, Some, None, is_some, IsSome, refl, sym, ap, ◌∙◌}
+use Rattle.std.proofs.Common.{ℕ, ◌≡◌, Bool, true, List, [], Option, Some, None, is_some, refl, sym}
+use Rattle.std.specs.List.{list_all}
 use Rattle.std.specs.Option.{option_map, unwrap_or}
 use Rattle.kind_core.specs.declared.kinds.Kind.{Kind}
 use Rattle.kind_core.specs.declared.kinds.Kind.TheVariants.{Window}
 use Rattle.widget_model.specs.Rows.{Row, new_row}
-use Rattle.widget_model.specs.Widgets.{row_at}
+use Rattle.widget_model.specs.Widgets.{Widgets, rows_of, row_at}
+use Rattle.widget_model.proofs.Hanging.{all_at}
+use Rattle.tree_core.proofs.Listed.{numbered_place}
 use Rattle.input_core.specs.Numbered.{numbered}
 
 -- what is said of the row of the number
@@ -27,3 +30,9 @@ numbered_row es id h = by (row_at es id) h
     by : (o : Option Row) → is_some o ≡ true → o ≡ Some (unwrap_or o (new_row 0 [] Window))
     by None k = absurd (cc)
     by (Some row) k = refl
+
+-- what holds of all rows holds of a live number's
+pub all_numbered : (test : Row → Bool) (w : Widgets) (id : ℕ) → list_all test (rows_of w) ≡ true → is_some (row_at w.entries id) ≡ true → test (numbered w.entries id) ≡ true
+all_numbered test w id all live =
+    let place = numbered_place w.entries id (numbered w.entries id) (numbered_row w.entries id live) in
+    all_at test (rows_of w) place.0 (numbered w.entries id) all place.1

@@ -1,9 +1,8 @@
 -- What is posted, by whether the event is bound.
-use Rattle.std.proofs.Common.{ℕ, ℤ, ◌≡◌, true, false, List, [], ◌∷◌, Option, Some, None, is_some, refl, sym, ap, ◌∙◌}
+use Rattle.std.proofs.Common.{ℕ, ℤ, ◌≡◌, true, List, [], ◌∷◌, Some, None, is_some, refl}
 use Rattle.std.specs.Option.{option_map}
 use Rattle.kind_core.specs.declared.kinds.EventKind.{EventKind}
 use Rattle.widget_model.specs.Rows.{Row, binding_of}
-use Rattle.widget_model.specs.Keys.{key_of}
 use Rattle.widget_model.specs.Widgets.{row_at}
 use Rattle.tree_core.specs.declared.id.Id.{Id}
 use Rattle.desk_model.specs.InputEffects.{posted}

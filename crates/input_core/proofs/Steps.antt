@@ -1,5 +1,5 @@
 -- The rows of the table at a pointer whose grab and focus are live numbers.
-use Rattle.std.proofs.Common.{ℕ, ℤ, pos, ◌≡◌, Bool, true, false, cond, not, List, [], Option, Some, None, is_some, refl, sym, ap, ◌∙◌}
+use Rattle.std.proofs.Common.{ℕ, ◌≡◌, Bool, true, false, cond, not, List, Option, Some, is_some, ap, ◌∙◌}
 use Rattle.std.specs.Option.{option_map, option_map_or, option_and_then}
 use Rattle.geom_core.specs.declared.rectangle.Rect.{Rect}
 use Rattle.widget_model.specs.Rows.{Row}
@@ -9,7 +9,7 @@ use Rattle.widget_model.specs.Keys.{key_of, row_of}
 use Rattle.widget_model.specs.Pointer as model
 use Rattle.widget_model.specs.Pointer.{no_grab, on_widget, drags}
 use Rattle.tree_core.specs.declared.id.Id.{Id}
-use Rattle.tree_core.specs.declared.pointer.Grab.TheVariants.{Nothing, Widget, Drag}
+use Rattle.tree_core.specs.declared.pointer.Grab.TheVariants.{Widget, Drag}
 use Rattle.tree_core.specs.declared.pointer.Pointer.{Pointer}
 use Rattle.tree_core.specs.Holds.{grab_seen, pointer_seen}
 use Rattle.desk_model.specs.InputEffects as input

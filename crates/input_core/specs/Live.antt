@@ -1,5 +1,5 @@
 -- The numbers that a pointer and effects hold are live: each names a widget.
-use Rattle.std.specs.Prelude.{ℕ, IfSome}
+use Rattle.std.specs.Prelude.{IfSome}
 use Rattle.std.specs.List.{All}
 use Rattle.widget_model.specs.Widgets.{Widgets, IsLive}
 use Rattle.tree_core.specs.declared.pointer.Grab.{Grab}

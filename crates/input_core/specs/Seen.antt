@@ -1,5 +1,5 @@
 -- What contracts see of a hit and of effects: widgets are named by their keys in place of their numbers.
-use Rattle.std.specs.Prelude.{ℕ, ℤ, List, [], map, Option, unwrap_or}
+use Rattle.std.specs.Prelude.{ℕ, ℤ, List, [], map, unwrap_or}
 use Rattle.std.specs.Option.{option_map}
 use Rattle.kind_core.specs.declared.kinds.EventKind.{EventKind}
 use Rattle.widget_model.specs.Rows.{Row}

@@ -1,6 +1,4 @@
-pub mod OneNumber
 pub mod LookSteps
 pub mod KeptLemmas
 pub mod LooksLemmas
 pub mod LinkedNumbers
-pub mod OpenSteps

@@ -3,19 +3,15 @@
 use Rattle.std.proofs.Common.{◌≡◌, ℕ, ◌≤◌, Bool, true, false, ◌+◌, ◌&&◌, nat_eq, nat_le, nat_lt, List, Option, Some, None, is_some, refl, sym, ap, ◌∙◌, subst}
 use Rattle.std.proofs.lemmas.Bool.{true≢false, eqb-true, and_parts}
 use Rattle.std.specs.Option.{option_map, option_map_or, option_and_then}
-use Rattle.kind_core.specs.declared.kinds.Kind.{Kind}
-use Rattle.kind_core.specs.declared.kinds.Kind.TheVariants.{Variable}
 use Rattle.widget_model.specs.Rows.{Row}
-use Rattle.widget_model.specs.Links.{is_variable}
 use Rattle.widget_model.specs.Kinds.{is_variable_kind}
 use Rattle.widget_model.specs.Named.{row_named, is_kind_of}
 use Rattle.widget_model.specs.Nodes.{first_number, id_named, is_number_of}
-use Rattle.widget_model.specs.Widgets.{Widgets, nodes, row_at, row_client, row_kind}
+use Rattle.widget_model.specs.Widgets.{Widgets, nodes, rows_of, row_at, row_client}
+use Rattle.widget_model.specs.RowFacts.{links_right}
 use Rattle.widget_model.specs.Forest.{IsWidgets}
 use Rattle.widget_model.proofs.Hanging.{all_at}
 use Rattle.widget_model.proofs.Naming.{row_named-found, row_named-parts, row_at-named}
-use Rattle.tree_core.specs.Children.{rows_in}
-use Rattle.tree_core.proofs.LinkRows.{leads_in, all_lead-rows}
 use Rattle.tree_core.proofs.Listed.{numbered_place}
 use Rattle.tree_core.proofs.TreeKept.{row-owned}
 use Rattle.look_data.specs.Watched.{is_linked_to}
@@ -28,7 +24,7 @@ client-in-range widgets id client valid owner = by (row_at widgets.entries id) r
     by None e is = absurd (cc)
     by (Some row) e is =
         let same : row.client ≡ client = cc in
-        let own = row-owned widgets.clients widgets.entries id row valid.forest e in
+        let own = row-owned widgets id row valid e in
         subst (λ (c : ℕ). (1 ≤ c) × (c ≤ 16)) same (own.low, own.high)
 
 -- The numbered widget is linked to the other one.
@@ -49,16 +45,17 @@ IsLink-from widgets variable id valid linked = by (row_at widgets.entries id) re
     found : (row : Row) (name : List ℕ) → row_at es id ≡ Some row → row.link ≡ Some name → (other : Option Row) → row_at es variable ≡ other → id_named (nodes es) row.client name ≡ Some variable → IsLink widgets variable id
     found row name there link None e named = absurd (true≢false (sym (row_at-named es row.client name variable named) ∙ ap is_some e))
     found row name there link (Some other) e named =
-        let is : row_named (rows_in es) row.client name ≡ Some other = row_named-found es row.client name variable valid.forest.own_numbers named ∙ e in
+        let is : row_named (rows_of widgets) row.client name ≡ Some other = row_named-found es row.client name variable valid.numbered.own_numbers named ∙ e in
         let place = numbered_place es id row there in
-        let leads : leads_in (rows_in es) row.client row.link ≡ true = all_at (λ (r : Row). leads_in (rows_in es) r.client r.link) (rows_in es) place.0 row (sym (all_lead-rows es es) ∙ valid.linked) place.1 in
         record {
           row = row;
           other = other;
           row_there = there;
           other_there = e;
-          client = (row_named-parts (rows_in es) row.client name other is).0;
-          kind = sym (ap (is_kind_of is_variable_kind) is) ∙ sym (ap (leads_in (rows_in es) row.client) link) ∙ leads;
+          client = (row_named-parts (rows_of widgets) row.client name other is).0;
+          kind = sym (ap (is_kind_of is_variable_kind) is)
+              ∙ sym (ap (λ (o : Option (List ℕ)). option_map_or (λ (name : List ℕ). is_kind_of is_variable_kind (row_named (rows_of widgets) row.client name)) o true) link)
+              ∙ all_at (links_right (rows_of widgets)) (rows_of widgets) place.0 row valid.rows.linked place.1;
         }
 
     at : (row : Row) (name : List ℕ) → row_at es id ≡ Some row → row.link ≡ Some name → (o : Option ℕ) → id_named (nodes es) row.client name ≡ o → option_map_or (nat_eq variable) o false ≡ true → IsLink widgets variable id
@@ -79,21 +76,17 @@ linked-number widgets variable client id valid owner linked =
     let link = IsLink-from widgets variable id valid linked in
     let clients : Some link.other.client ≡ Some client = sym (ap (option_map (λ (row : Row). row.client)) link.other_there) ∙ owner in
     let same : link.other.client ≡ client = cc in
-    ap (λ (c : ℕ). is_number_of c id) (sym same ∙ link.client) ∙ (row-owned widgets.clients widgets.entries id link.row valid.forest link.row_there).own
+    ap (λ (c : ℕ). is_number_of c id) (sym same ∙ link.client) ∙ (row-owned widgets id link.row valid link.row_there).own
 
 -- and nothing is linked to what is no Variable
-pub linked-none : (widgets : Widgets) (variable id : ℕ) → IsWidgets widgets → is_variable (row_kind widgets.entries variable) ≡ false → is_linked_to widgets variable id ≡ false
+pub linked-none : (widgets : Widgets) (variable id : ℕ) → IsWidgets widgets → is_kind_of is_variable_kind (row_at widgets.entries variable) ≡ false → is_linked_to widgets variable id ≡ false
 linked-none widgets variable id valid none = by (is_linked_to widgets variable id) refl
   where
     by : (b : Bool) → is_linked_to widgets variable id ≡ b → b ≡ false
     by false e = refl
     by true e =
         let link = IsLink-from widgets variable id valid e in
-        absurd (true≢false (sym (of_kind link.other.kind link.kind) ∙ sym (ap (λ (o : Option Row). is_variable (option_map (λ (row : Row). row.kind) o)) link.other_there) ∙ none))
-      where
-        of_kind : (kind : Kind) → is_variable_kind kind ≡ true → is_variable (Some kind) ≡ true
-        of_kind Variable is = refl
-        of_kind _ is = absurd (true≢false (sym is))
+        absurd (true≢false (sym link.kind ∙ sym (ap (is_kind_of is_variable_kind) link.other_there) ∙ none))
 
 -- and stands among so many from the client's first one on
 pub linked-within : (widgets : Widgets) (variable client first count id : ℕ) → IsWidgets widgets → row_client widgets.entries variable ≡ Some client → first ≡ first_number client → count ≡ 128 → is_linked_to widgets variable id ≡ true → (nat_le first id && nat_lt id (first + count)) ≡ true

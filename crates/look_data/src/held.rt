@@ -9,8 +9,8 @@ ghost use Rattle.widget_model.specs.Widgets.{IsLive};
 use scene_core::View;
 use tree_core::{Grab, Id};
 
-/// Whether the pointer has grabbed the widget.
-pub(crate) fn is_held(view: &View<'_>, id: Id) -> bool
+/// Whether the pointer has grabbed the widget, by a press on it. See docs/GUIDE.md, "Looks".
+pub fn is_held(view: &View<'_>, id: Id) -> bool
     requires widgets { IsWidgets view.now.tree.now }
     requires live { IsLive view.now.tree.now id.key }
     ensures { result ≡ is_held (scene_of view.now) (row_for view.now.tree.now id.key) }
@@ -21,8 +21,8 @@ pub(crate) fn is_held(view: &View<'_>, id: Id) -> bool
     }
 }
 
-/// Whether keys go to the widget.
-pub(crate) fn has_focus(view: &View<'_>, id: Id) -> bool
+/// Whether keys go to the widget. See docs/GUIDE.md, "Looks".
+pub fn has_focus(view: &View<'_>, id: Id) -> bool
     requires widgets { IsWidgets view.now.tree.now }
     requires live { IsLive view.now.tree.now id.key }
     ensures { result ≡ has_focus (scene_of view.now) (row_for view.now.tree.now id.key) }

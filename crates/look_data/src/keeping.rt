@@ -3,32 +3,13 @@ ghost use Rattle.std.specs.Prelude.{◌≡◌};
 ghost use Rattle.std.specs.Option.{option_map};
 ghost use Rattle.look_data.specs.Data.{seen_in};
 ghost use Rattle.look_data.specs.Kept.{kept_in, is_shown_at};
-ghost use Rattle.stack_core.specs.Stack.{holds_key};
 ghost use Rattle.widget_model.specs.Forest.{IsWidgets};
 ghost use Rattle.widget_model.specs.Widgets.{IsLive};
 
 use crate::data::LookData;
 use crate::looks::look_data;
 use scene_core::View;
-use stack_core::Stack;
 use tree_core::Id;
-
-/// Whether the window with that number is open.
-fn is_open(windows: &Stack, key: u32) -> bool
-    ensures { result ≡ holds_key windows.now key }
-{
-    for i in 0..windows.len() {
-        match windows.at(i) {
-            Some(other) => {
-                if other == key {
-                    return true;
-                }
-            }
-            None => {}
-        }
-    }
-    false
-}
 
 /// Whether the widget is shown: its root is an open window. It goes up at most 12 levels, and compares the root with the
 /// open windows. See docs/MACHINE.md, "The reach of a change".
@@ -36,7 +17,7 @@ pub fn is_shown(view: &View<'_>, id: Id) -> bool
     requires { IsLive view.now.tree.now id.key }
     ensures { result ≡ is_shown_at view.now.tree.now view.now.stack.now id.key }
 {
-    is_open(view.stack, view.tree.root(id).key)
+    view.stack.holds(view.tree.root(id).key)
 }
 
 /// What is kept of the number.

@@ -12,6 +12,9 @@ mod watched_looks;
 mod watching;
 
 pub use data::LookData;
+pub use held::{has_focus, is_held};
 pub use keeping::is_shown;
 pub use looks::look_data;
+pub use reading::{count_of, is_vertical, linked_value, scale_value, scrollbar_value, text_of};
+pub use same::label_text;
 pub use watched_looks::WatchedLooks;

@@ -35,16 +35,16 @@ pub(crate) fn number_of(tree: &Tree, id: Id, attr: Attr) -> i32
     number_in(tree.attr(id, attr))
 }
 
-/// The number that the attribute is, without its sign.
-pub(crate) fn count_of(tree: &Tree, id: Id, attr: Attr) -> u32
+/// The number that the attribute is, without its sign, and 0 where the widget has none. It costs one look-up in a hash map.
+pub fn count_of(tree: &Tree, id: Id, attr: Attr) -> u32
     requires { IsLive tree.now id.key }
     ensures { result ≡ count_of attr (row_for tree.now id.key) }
 {
     number_of(tree, id, attr).unsigned_abs()
 }
 
-/// The text that the attribute is, empty where the widget has none.
-pub(crate) fn text_of(tree: &Tree, id: Id, attr: Attr) -> Text
+/// The text that the attribute is, empty where the widget has none. It costs one look-up in a hash map.
+pub fn text_of(tree: &Tree, id: Id, attr: Attr) -> Text
     requires { IsLive tree.now id.key }
     ensures { result ≡ text_of attr (row_for tree.now id.key) }
 {
@@ -54,8 +54,9 @@ pub(crate) fn text_of(tree: &Tree, id: Id, attr: Attr) -> Text
     }
 }
 
-/// The value of the Variable that the widget is linked to.
-pub(crate) fn linked_value(tree: &Tree, id: Id) -> Option<i32>
+/// The value of the Variable that the widget is linked to, none without a link. It costs two look-ups in hash maps, and
+/// one more where there is a link.
+pub fn linked_value(tree: &Tree, id: Id) -> Option<i32>
     requires { IsLive tree.now id.key }
     ensures { result ≡ linked_value (rows_of tree.now) (row_for tree.now id.key) }
 {
@@ -65,8 +66,8 @@ pub(crate) fn linked_value(tree: &Tree, id: Id) -> Option<i32>
     }
 }
 
-/// Whether the widget goes down in place of across.
-pub(crate) fn is_vertical(tree: &Tree, id: Id) -> bool
+/// Whether a Scale or Scrollbar goes down in place of across.
+pub fn is_vertical(tree: &Tree, id: Id) -> bool
     requires { IsLive tree.now id.key }
     ensures { result ≡ is_vertical (row_for tree.now id.key) }
 {
@@ -114,8 +115,8 @@ fn scrollbar_number(raw: i32, real: i32, view: i32) -> i64
     clamp(i64::from(raw), 0, i64::from(real) - i64::from(view))
 }
 
-/// The value that a Scale shows, without its sign.
-pub(crate) fn scale_value(tree: &Tree, id: Id) -> u32
+/// The value that a Scale shows, 0 to its max: the linked one, or its own without a link. See docs/MACHINE.md, "Looks".
+pub fn scale_value(tree: &Tree, id: Id) -> u32
     requires { IsLive tree.now id.key }
     ensures { result ≡ unsigned_abs (scale_of (rows_of tree.now) (row_for tree.now id.key)) }
 {
@@ -124,8 +125,8 @@ pub(crate) fn scale_value(tree: &Tree, id: Id) -> u32
     value.unsigned_abs() as u32
 }
 
-/// The value that a Scrollbar shows, without its sign.
-pub(crate) fn scrollbar_value(tree: &Tree, id: Id) -> u32
+/// The value that a Scrollbar shows, 0 to what its view leaves of its real length. See docs/MACHINE.md, "Looks".
+pub fn scrollbar_value(tree: &Tree, id: Id) -> u32
     requires { IsLive tree.now id.key }
     ensures { result ≡ unsigned_abs (scrollbar_of (rows_of tree.now) (row_for tree.now id.key)) }
 {

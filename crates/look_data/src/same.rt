@@ -74,8 +74,9 @@ fn put_bytes(shown: &mut ArrayVec<u8, 75>, bytes: &[u8])
     }
 }
 
-/// What a Label shows, in a room of its own: its text and then the number.
-fn label_text(text: &Text, number: Option<i32>) -> ArrayVec<u8, 75>
+/// What a Label shows, in a room of its own: its text and then the number in decimal, where there is one. See
+/// docs/GUIDE.md, "Looks".
+pub fn label_text(text: &Text, number: Option<i32>) -> ArrayVec<u8, 75>
     ensures { result.items ≡ label_text text.now number }
 {
     let mut shown = ArrayVec::new();

@@ -9,9 +9,10 @@ ghost use Rattle.look_data.specs.Looks.{AreLooks, look_at, seen_one};
 ghost use Rattle.look_data.specs.Watched.{has_changed, is_linked_to};
 ghost use Rattle.scene_core.specs.View.{scene_of};
 ghost use Rattle.widget_model.specs.Forest.{IsWidgets};
-ghost use Rattle.widget_model.specs.Links.{is_variable};
+ghost use Rattle.widget_model.specs.Kinds.{is_variable_kind};
+ghost use Rattle.widget_model.specs.Named.{is_kind_of};
 ghost use Rattle.widget_model.specs.Nodes.{first_number};
-ghost use Rattle.widget_model.specs.Widgets.{IsLive, row_kind};
+ghost use Rattle.widget_model.specs.Widgets.{IsLive, row_at};
 
 use crate::data::LookData;
 use crate::keeping::kept_look;
@@ -97,7 +98,7 @@ pub(crate) fn linked_looks(view: &View<'_>, variable: Id) -> ArrayVec<(u32, Look
 
 /// Whether the number is that of a Variable.
 fn is_variable(tree: &Tree, id: Id) -> bool
-    ensures kind { result ≡ is_variable (row_kind tree.now.entries id.key) }
+    ensures kind { result ≡ is_kind_of is_variable_kind (row_at tree.now.entries id.key) }
     ensures live { OnTrue result (IsLive tree.now id.key) }
 {
     if !tree.is_live(id) {

@@ -1,9 +1,9 @@
 -- A band and the scene: the pixels that are painted by trails are those at which the scene shows the band.
-use Rattle.std.proofs.Common.{◌≡◌, ℕ, zero, suc, ◌+◌, ◌*◌, ◌<◌, ◌≤◌, ℤ, pos, Bool, true, false, cond, ◌&&◌, List, [], length, get_or, refl, sym, ap, subst, ◌∙◌, ◌⊎◌, inl, inr, arith}
-use Rattle.std.specs.Prelude.{Option, Some, None, IfSome, IsSome, nat_eq, slice_get}
+use Rattle.std.proofs.Common.{◌≡◌, ℕ, zero, suc, ◌<◌, ℤ, Bool, true, false, ◌&&◌, List, length, get_or, refl, sym, ap, subst, ◌∙◌, ◌⊎◌, inl, inr, arith}
+use Rattle.std.specs.Prelude.{Option, Some, None, IfSome, nat_eq}
 use Rattle.std.specs.Option.{option_map, option_map_or}
-use Rattle.std.specs.Cmp.Lexicographic.{nat_list_eq_equiv}
-use Rattle.std.proofs.lemmas.Bool.{true≢false, eqb-true, eq-eqb, and_from}
+use Rattle.std.proofs.lemmas.Bool.{eqb-true}
+use Rattle.std.proofs.lemmas.Bool.Decides.{nat_tests}
 use Rattle.canvas_core.specs.Screen.{Screen}
 use Rattle.geom_core.specs.declared.rectangle.Rect.{Rect}
 use Rattle.geom_core.specs.Rect.{in_rect}
@@ -17,35 +17,30 @@ use Rattle.widget_model.specs.Keys.{key_of, same_key}
 use Rattle.widget_model.specs.Widgets.{row_at, IsLive}
 use Rattle.widget_model.specs.Trees.{most_levels}
 use Rattle.widget_model.specs.Forest.{IsWidgets}
-use Rattle.scene_model.specs.Showing.{on_screen, top_of, place_of}
+use Rattle.scene_model.specs.Showing.{on_screen, place_of}
 use Rattle.scene_core.specs.declared.view.View.{View}
 use Rattle.scene_core.specs.View.{scene_of, IsView}
+use Rattle.scene_core.proofs.OneNumber.{same_keys}
 use Rattle.painter_core.specs.Banding.{view_shows_band}
 use Rattle.scene_model.specs.Bands.{lying_at, in_band, is_top, film_in_band, shows_band}
-use Rattle.painter_core.specs.Painted.{PaintsAll, wanted_of, colour_by}
+use Rattle.painter_core.specs.Painted.{PaintsAll, wanted_of}
 use Rattle.painter_core.specs.Painting.{ShowsScene}
-use Rattle.painter_core.specs.Stage.{rect_at, child_in_slot, slots_of, layers_of, IsThere}
+use Rattle.painter_core.specs.Stage.{child_in_slot, layers_of, IsThere}
 use Rattle.painter_core.specs.Trail.{trail, last_of, is_wanted}
 use Rattle.painter_core.proofs.TrailLemmas.{Enters, Misses, trail-cases, trail-none}
 use Rattle.painter_core.proofs.StageLemmas.{length-children, window-slot, child-slot}
-use Rattle.painter_core.proofs.KeyLemmas.{same_key-true, row_of-number, number_of-key, place_of-number, IsChildIn-slot}
+use Rattle.painter_core.proofs.KeyLemmas.{row_of-number, place_of-number}
 use Rattle.painter_core.proofs.RootLemmas.{windows_there, child_there, row_there}
 use Rattle.painter_core.proofs.TopLemmas.{trail_of, IsTop, HasNoTop, tops}
 use Rattle.painter_core.proofs.SceneLemmas.{first_way, first_way-whole, ShowsScene-painted}
-
-live_at : (o : Option Row) (row : Row) → o ≡ Some row → IsSome o
-live_at None row e = absurd (cc)
-live_at (Some other) row e = refl
 
 -- what is in a slot of what is there is there
 slot_there : (view : View) (under : Option ℕ) (slot id : ℕ) → IsWidgets view.tree.now → IsView view → IfSome under (IsThere view) → slot < length ((layers_of view).below under) → get_or ((layers_of view).below under) slot None ≡ Some id → IsThere view id
 slot_there view None slot id valid is there within at =
     subst (λ (o : Option ℕ). IfSome o (IsThere view)) (sym (window-slot view slot) ∙ at) (windows_there view slot valid is.windows.each)
 slot_there view (Some upper) slot id valid is there within at =
-    let row = row_there (row_at view.tree.now.entries upper) there.live in
     let found : child_in_slot view.tree.now upper slot ≡ Some id = sym (child-slot view upper slot (omega (arith, within, length-children view upper))) ∙ at in
-    let hangs = IsChildIn-slot view upper slot id row.0 valid row.1 found in
-    child_there view upper slot id valid there (live_at (row_at view.tree.now.entries id) hangs.lower hangs.there) found
+    child_there view upper slot id valid there found
 
 -- a trail ends at a widget that is there
 trail-there : (depth : ℕ) (view : View) (x y : ℤ) (under : Option ℕ) → IsWidgets view.tree.now → IsView view → IfSome under (IsThere view) → IfSome (last_of under (trail depth (layers_of view) ((layers_of view).below under) x y)) (IsThere view)
@@ -69,23 +64,6 @@ wanted_there view id x y valid is e =
     let ends = sym (ap (last_of None) (first_way-whole view x y)) ∙ wanted_end id (last_of None (first_way view x y)) e in
     subst (λ (o : Option ℕ). IfSome o (IsThere view)) ends (trail-there (suc most_levels) view x y None valid is tt)
 
-same_key-self : (key : ℕ × List ℕ) → same_key key key ≡ true
-same_key-self key = and_from _ _ (eq-eqb key.0 key.0 refl) (nat_list_eq_equiv.refl key.1)
-
-same_keys : (view : View) (id top : ℕ) (row other : Row) → IsWidgets view.tree.now → row_at view.tree.now.entries id ≡ Some row → row_at view.tree.now.entries top ≡ Some other → nat_eq id top ≡ same_key (key_of row) (key_of other)
-same_keys view id top row other valid there at = by (nat_eq id top) refl (same_key (key_of row) (key_of other)) refl
-  where
-    by : (a : Bool) → nat_eq id top ≡ a → (b : Bool) → same_key (key_of row) (key_of other) ≡ b → nat_eq id top ≡ same_key (key_of row) (key_of other)
-    by true e true f = e ∙ sym f
-    by true e false f =
-        let same = eqb-true id top e in
-        let rows : row ≡ other = let one : Some row ≡ Some other = sym there ∙ ap (row_at view.tree.now.entries) same ∙ at in cc in
-        absurd (true≢false (sym (same_key-self (key_of row)) ∙ ap (λ (r : Row). same_key (key_of row) (key_of r)) rows ∙ f))
-    by false e true f =
-        let same = number_of-key view.tree.now id top row other valid there at (same_key-true (key_of row) (key_of other) f) in
-        absurd (true≢false (sym (eq-eqb id top same) ∙ e))
-    by false e false f = e ∙ sym f
-
 -- a pixel is wanted exactly where the widget is on top
 wanted_top : (view : View) (id : ℕ) (row : Row) (x y : ℤ) → IsWidgets view.tree.now → IsView view → row_at view.tree.now.entries id ≡ Some row → on_screen (scene_of view) x y ≡ true → is_wanted_at view id x y ≡ is_top (scene_of view) (key_of row) x y
 wanted_top view id row x y valid is there on = by (tops view x y valid is on)
@@ -93,10 +71,14 @@ wanted_top view id row x y valid is there on = by (tops view x y valid is on)
     ends : (o : Option ℕ) → last_of None (trail_of view x y) ≡ o → is_wanted_at view id x y ≡ is_wanted (Some id) o
     ends o e = ap (λ (ids : List ℕ). is_wanted (Some id) (last_of None ids)) (first_way-whole view x y) ∙ ap (is_wanted (Some id)) e
 
+    turned : (other : ℕ) → nat_eq id other ≡ nat_eq other id
+    turned other = grind (arith, nat_tests)
+
     by : IsTop view x y ⊎ HasNoTop view x y → is_wanted_at view id x y ≡ is_top (scene_of view) (key_of row) x y
     by (inl t) =
         ends (Some t.id) t.ends
-        ∙ same_keys view id t.id row t.row valid there t.there
+        ∙ turned t.id
+        ∙ sym (same_keys view.tree.now id t.id row t.row valid there t.there)
         ∙ sym (ap (λ (o : Option (ℕ × List ℕ)). option_map_or (same_key (key_of row)) o false) t.top)
     by (inr t) = ends None t.ends ∙ sym (ap (λ (o : Option (ℕ × List ℕ)). option_map_or (same_key (key_of row)) o false) t.top)
 

@@ -5,8 +5,8 @@ pub mod PaintsLemmas
 pub mod CutLemmas
 pub mod StageLemmas
 pub mod KeyLemmas
-pub mod TopLemmas
 pub mod RootLemmas
+pub mod TopLemmas
 pub mod ChainLemmas
 pub mod SceneLemmas
 pub mod LookLemmas

@@ -1,26 +1,21 @@
 -- The look of a row of each kind, as a row of it is drawn.
-use Rattle.std.proofs.Common.{◌≡◌, ℕ, zero, suc, ◌+◌, ◌-◌, ◌*◌, ◌<◌, ◌≤◌, ℤ, pos, ◌+ℤ◌, ◌-ℤ◌, Bool, true, false, List, [], length, take, refl, sym, ap, subst, ◌∙◌, arith}
-use Rattle.std.specs.Prelude.{Option, Some, None, nat_eq, unsigned_abs, slice_index, slice_range}
-use Rattle.std.specs.Option.{option_map, option_map_or}
-use Rattle.std.specs.Cmp.Lexicographic.{nat_list_eq_equiv}
-use Rattle.std.proofs.lemmas.Bool.{true≢false, eqb-true, eq-eqb, and_from}
+use Rattle.std.proofs.Common.{◌≡◌, ℕ, zero, suc, ◌+◌, ◌-◌, ◌*◌, ◌<◌, ◌≤◌, ℤ, pos, ◌+ℤ◌, ◌-ℤ◌, Bool, List, [], length, take, refl, sym, ap, subst, ◌∙◌, arith}
+use Rattle.std.specs.Prelude.{Option, Some, None, unsigned_abs, slice_index, slice_range}
+use Rattle.std.specs.Option.{option_map_or}
 use Rattle.kind_core.specs.declared.kinds.Kind.{Kind}
 use Rattle.kind_core.specs.declared.kinds.Kind.TheVariants.{Window, Grid, Frame, Button, Label, Entry, Scale, Scrollbar, Variable, VScreen}
-use Rattle.kind_core.specs.declared.kinds.Attr.TheVariants.{Title, Text, Value, Max, Real, View}
-use Rattle.kind_core.specs.Effective.{raw_value, scale_value, scrollbar_value}
+use Rattle.kind_core.specs.declared.kinds.Attr.TheVariants.{Title, Text, Max, Real, View}
 use Rattle.look_core.specs.Seen as seen
 use Rattle.look_core.specs.Seen.{Seen, in_row}
 use Rattle.look_core.specs.Colour.{colour_of}
 use Rattle.look_core.specs.Drawable.{IsDrawable}
 use Rattle.widget_model.specs.Rows.{Row}
-use Rattle.widget_model.specs.Keys.{key_of, same_key, row_of}
-use Rattle.widget_model.specs.Widgets.{key_at, Widgets, rows_of, row_at}
-use Rattle.widget_model.specs.Pointer.{no_grab, on_widget}
-use Rattle.widget_model.specs.Forest.{IsWidgets}
+use Rattle.widget_model.specs.Keys.{key_of, row_of}
+use Rattle.widget_model.specs.Widgets.{rows_of, row_at}
 use Rattle.scene_model.specs.Scene.{Scene}
 use Rattle.scene_model.specs.Fit.{AreFit}
-use Rattle.scene_model.specs.LookOf.{look_by, look_of, grabs, is_held, has_focus}
-use Rattle.scene_model.specs.Values.{number_of, linked_value, text_of, label_of, count_of, scale_of, scrollbar_of, caret_of, is_vertical}
+use Rattle.scene_model.specs.LookOf.{look_by, look_of, is_held, has_focus}
+use Rattle.scene_model.specs.Values.{text_of, label_of, count_of, scale_of, scrollbar_of, caret_of, is_vertical}
 use Rattle.scene_model.proofs.Looks.{looks_are_fit}
 use Rattle.painter_core.specs.declared.line.Line.{Line}
 use Rattle.painter_core.specs.Lines.{IsLine, ShowsLook}
@@ -34,7 +29,6 @@ use Rattle.scene_model.proofs.Ranges.{places_are_in_range}
 use Rattle.scene_core.specs.declared.view.View as screen_view
 use Rattle.scene_core.specs.View.{scene_of}
 use Rattle.painter_core.specs.Stage.{layers_of, colour_below, rect_at}
-use Rattle.painter_core.proofs.KeyLemmas.{number_of-key, same_key-true}
 
 look_in : (scene : Scene) (row : Row) (y : ℕ) (kind : Kind) → row.kind ≡ kind → in_row y (look_of scene row) ≡ in_row y (look_by kind scene row)
 unfolding look_of
@@ -108,33 +102,6 @@ ShowsLook-drawn look shown at old new line same is whole i less = whole look is 
 pub drawable : (scene : Scene) (row : Row) (y : ℕ) (shown : Seen) → AreFit scene.rows → row_of scene.rows (key_of row) ≡ Some row → in_row y (look_of scene row) ≡ shown → IsDrawable y shown
 drawable scene row y shown fit found is = subst (IsDrawable y) is ((looks_are_fit scene row fit found).drawable y)
 
-same_key-refl : (key : ℕ × List ℕ) → same_key key key ≡ true
-same_key-refl key = and_from _ _ (eq-eqb key.0 key.0 refl) (nat_list_eq_equiv.refl key.1)
-
--- a number has the key of the row exactly where it is the row's
-pub same_number : (widgets : Widgets) (id other : ℕ) (row : Row) → IsWidgets widgets → row_at widgets.entries id ≡ Some row → option_map_or (same_key (key_of row)) (key_at widgets.entries other) false ≡ nat_eq other id
-same_number widgets id other row valid there = by (row_at widgets.entries other) refl (nat_eq other id) refl
-  where
-    with_key : (r : Row) → row_at widgets.entries other ≡ Some r → (b : Bool) → same_key (key_of row) (key_of r) ≡ b → nat_eq other id ≡ false → b ≡ false
-    with_key r at true e differ =
-        let keys : key_of row ≡ key_of r = same_key-true (key_of row) (key_of r) e in
-        let same = number_of-key widgets id other row r valid there at keys in
-        absurd (true≢false (sym (eq-eqb other id (sym same)) ∙ differ))
-    with_key r at false e differ = refl
-
-    by : (o : Option Row) → row_at widgets.entries other ≡ o → (b : Bool) → nat_eq other id ≡ b → option_map_or (same_key (key_of row)) (option_map key_of o) false ≡ b
-    by None at true e = absurd (let same = eqb-true other id e in let none : row_at widgets.entries id ≡ None = ap (row_at widgets.entries) (sym same) ∙ at in cc)
-    by None at false e = refl
-    by (Some r) at true e =
-        let same = eqb-true other id e in
-        let rows : row ≡ r = let found : row_at widgets.entries id ≡ Some r = ap (row_at widgets.entries) (sym same) ∙ at in let both : Some row ≡ Some r = sym there ∙ found in cc in
-        ap (λ (q : Row). same_key (key_of row) (key_of q)) (sym rows) ∙ same_key-refl (key_of row)
-    by (Some r) at false e = with_key r at (same_key (key_of row) (key_of r)) refl e
-
-pub grabs-widget : (o : Option (ℕ × List ℕ)) (key : ℕ × List ℕ) → grabs (option_map_or on_widget o no_grab) key ≡ option_map_or (same_key key) o false
-grabs-widget None key = refl
-grabs-widget (Some other) key = refl
-
 take_none : (n : ℕ) → take {A = ℕ} n [] ≡ []
 take_none zero = refl
 take_none (suc n) = refl
@@ -183,12 +150,3 @@ small_place view id row fit found there =
 pub colour-desk : (view : screen_view.View) (x y : ℤ) → (layers_of view).colour None x y ≡ 2
 unfolding layers_of colour_below
 colour-desk view x y = refl
-
--- the value that a Scale or Scrollbar shows, from what its row says
-pub scaled : (rows : List Row) (row : Row) (value : ℕ) (a b s raw max shown : ℤ) → a ≡ raw → b ≡ max → s ≡ shown → shown ≡ scale_value a b → value ≡ unsigned_abs s → raw ≡ raw_value (linked_value rows row) (number_of Value row) → max ≡ number_of Max row → value ≡ unsigned_abs (scale_of rows row)
-scaled rows row value a b s raw max shown ea eb es is v r m =
-    v ∙ ap unsigned_abs (es ∙ is ∙ ap (λ (p : ℤ). scale_value p b) (ea ∙ r) ∙ ap (λ (p : ℤ). scale_value (raw_value (linked_value rows row) (number_of Value row)) p) (eb ∙ m))
-
-pub scrolled : (rows : List Row) (row : Row) (value : ℕ) (a b d s raw real view shown : ℤ) → a ≡ raw → b ≡ real → d ≡ view → s ≡ shown → shown ≡ scrollbar_value a b d → value ≡ unsigned_abs s → raw ≡ raw_value (linked_value rows row) (number_of Value row) → real ≡ number_of Real row → view ≡ number_of View row → value ≡ unsigned_abs (scrollbar_of rows row)
-scrolled rows row value a b d s raw real view shown ea eb ed es is v r m w =
-    v ∙ ap unsigned_abs (es ∙ is ∙ ap (λ (p : ℤ). scrollbar_value p b d) (ea ∙ r) ∙ ap (λ (p : ℤ). scrollbar_value (raw_value (linked_value rows row) (number_of Value row)) p d) (eb ∙ m) ∙ ap (λ (p : ℤ). scrollbar_value (raw_value (linked_value rows row) (number_of Value row)) (number_of Real row) p) (ed ∙ w))

@@ -1,12 +1,12 @@
 -- Parts of the screen put into a list, one after another: what a band has on the screen.
-use Rattle.std.proofs.Common.{◌≡◌, ℕ, zero, suc, ◌+◌, ◌*◌, ◌<◌, ◌≤◌, ℤ, pos, ◌+ℤ◌, Bool, true, false, cond, ◌&&◌, ◌||◌, List, [], ◌∷◌, ◌++◌, length, refl, sym, ap, ◌∙◌, arith}
+use Rattle.std.proofs.Common.{◌≡◌, ℕ, zero, suc, ◌+◌, ◌*◌, ◌<◌, ◌≤◌, ℤ, pos, ◌+ℤ◌, Bool, true, false, cond, ◌&&◌, ◌||◌, List, [], ◌∷◌, ◌++◌, refl, sym, ap, ◌∙◌, arith}
 use Rattle.std.proofs.lemmas.Bool.{and_parts}
 use Rattle.std.proofs.lemmas.Int.{ints}
 use Rattle.std.proofs.lemmas.List.{length-append}
 use Rattle.geom_core.specs.declared.rectangle.Rect.{Rect}
 use Rattle.geom_core.specs.Rect.{in_span, in_rect, area_of, IsInRange}
-use Rattle.geom_core.specs.Pieces.{covers, total_area, AreDisjoint, HavePixels}
-use Rattle.geom_core.specs.Count.{count_span, count_rows, count_in, screen_of}
+use Rattle.geom_core.specs.Pieces.{covers, total_area, AreDisjoint}
+use Rattle.geom_core.specs.Count.{count_span, count_rows, screen_of}
 use Rattle.geom_core.proofs.SpanLemmas.{in_span-true}
 use Rattle.geom_core.proofs.RectLemmas.{in_rect-corner, in_rect-empty}
 use Rattle.geom_core.proofs.PieceLemmas.{covers-append, HavePixels-append, AreDisjoint-append}

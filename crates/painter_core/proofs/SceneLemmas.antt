@@ -22,8 +22,9 @@ use Rattle.painter_core.specs.Painted.{Painted, Paints, HasOneTrail, wanted_of, 
 use Rattle.painter_core.specs.Painting.{ShowsScene, HasOneTop}
 use Rattle.painter_core.specs.Stage.{layers_of}
 use Rattle.painter_core.proofs.StageLemmas.{length-windows, length-children, window-slot, child-slot}
-use Rattle.painter_core.proofs.KeyLemmas.{number_of-key}
-use Rattle.painter_core.proofs.RootLemmas.{parent-window, parent-child, all_at_slot}
+use Rattle.tree_core.proofs.Listed.{All-at}
+use Rattle.scene_core.proofs.OneNumber.{number_of-key}
+use Rattle.painter_core.proofs.RootLemmas.{parent-window, parent-child}
 use Rattle.painter_core.proofs.ChainLemmas.{IsChain, trail-chain, chains_same}
 use Rattle.painter_core.proofs.TopLemmas.{trail_of, IsTop, HasNoTop, tops, colour-same}
 
@@ -41,7 +42,7 @@ windows_few view is = omega (arith, length-windows view, is.windows.once.few)
 -- each widget in a slot hangs in the one below which the slot is
 above : (view : View) (under : Option ℕ) (slot id : ℕ) → IsWidgets view.tree.now → IsView view → slot < length ((layers_of view).below under) → get_or ((layers_of view).below under) slot None ≡ Some id → parent_id view.tree.now id ≡ under
 above view None slot id valid is within at =
-    parent-window view.tree.now id valid (all_at_slot (λ (n : ℕ). row_kind view.tree.now.entries n ≡ Some Window) view.stack.now slot id is.windows.each (sym (window-slot view slot) ∙ at))
+    parent-window view.tree.now id valid (All-at (λ (n : ℕ). row_kind view.tree.now.entries n ≡ Some Window) view.stack.now slot id is.windows.each (sym (window-slot view slot) ∙ at))
 above view (Some upper) slot id valid is within at =
     parent-child view.tree.now upper slot id valid (sym (child-slot view upper slot (omega (arith, within, length-children view upper))) ∙ at)
 

@@ -1,183 +1,140 @@
 -- A trail ends at the widget on top: the window that shows the pixel first, and from there down the children that show
 -- it.
-use Rattle.std.proofs.Common.{◌≡◌, ℕ, zero, suc, ◌<◌, ℤ, pos, Bool, true, false, cond, ◌&&◌, List, [], ◌∷◌, length, get_or, map, refl, sym, ap, ◌∙◌, arith, ◌⊎◌, inl, inr}
+use Rattle.std.proofs.Common.{◌≡◌, ℕ, zero, suc, ℤ, pos, Bool, true, false, cond, ◌&&◌, List, [], ◌∷◌, map, refl, sym, ap, ◌∙◌, arith, ◌⊎◌, inl, inr}
 use Rattle.std.specs.Prelude.{Option, Some, None}
 use Rattle.std.specs.List.{find, All}
-use Rattle.std.specs.Option.{option_map, option_map_or, option_and_then}
-use Rattle.std.proofs.lemmas.Bool.{true≢false, and_parts}
+use Rattle.std.specs.Option.{option_map, option_map_or}
 use Rattle.std.proofs.lemmas.List.Elements.{All-head, All-tail}
 use Rattle.kind_core.specs.declared.kinds.Kind.TheVariants.{Window}
-use Rattle.kind_core.specs.declared.shapes.Cell.{Cell}
 use Rattle.geom_core.specs.declared.rectangle.Rect.{Rect}
 use Rattle.geom_core.specs.Rect.{in_rect}
 use Rattle.look_core.specs.Seen.{no_film}
 use Rattle.widget_model.specs.Rows.{Row}
 use Rattle.widget_model.specs.Keys.{key_of}
-use Rattle.widget_model.specs.Named.{row_named}
-use Rattle.widget_model.specs.Trees.{can_be_child, most_levels}
-use Rattle.widget_model.specs.Widgets.{Widgets, rows_of, row_at, row_kind}
+use Rattle.widget_model.specs.Trees.{most_levels}
+use Rattle.widget_model.specs.Widgets.{Widgets, rows_of, row_at, row_kind, IsLive}
 use Rattle.widget_model.specs.Forest.{IsWidgets}
-use Rattle.widget_model.specs.Planted.{hangs_right, has_cell}
-use Rattle.widget_model.proofs.Hanging.{all_at}
-use Rattle.tree_core.proofs.Listed.{numbered_place}
-use Rattle.scene_model.specs.Scene.{Scene}
+use Rattle.widget_model.specs.Relatives.{parent_id}
 use Rattle.scene_model.specs.Placing.{place_in}
-use Rattle.scene_model.specs.Showing.{place_of, parent_in, shows_in, shows_at, on_screen, lowest_in, top_of}
+use Rattle.scene_model.specs.Showing.{place_of, shows_at, on_screen, lowest_in, top_of}
 use Rattle.scene_model.specs.LookOf.{look_of}
 use Rattle.scene_model.specs.Colours.{look_at, colour_in, colour_at}
 use Rattle.scene_core.specs.declared.view.View.{View}
 use Rattle.scene_core.specs.View.{scene_of, keys_of, IsView}
+use Rattle.scene_core.specs.Children.{row_for}
+use Rattle.scene_core.proofs.Numbered.{live-there}
+use Rattle.scene_core.proofs.LeastSteps.{child-live}
+use Rattle.scene_core.proofs.Tops.{IsOpenWindow, window-open, shows-window, child-found, child-shown, child-missed}
 use Rattle.painter_core.specs.Trail.{first_holding, trail, last_of}
 use Rattle.painter_core.specs.Stage.{rect_at, child_in_slot, slots_below, colour_below, layers_of}
 use Rattle.painter_core.proofs.StageLemmas.{length-children, child-slot}
 use Rattle.painter_core.proofs.TrailLemmas.{Enters, Misses, trail-cases, trail-none}
-use Rattle.painter_core.proofs.KeyLemmas.{row_of-number, place_of-number, IsChildIn, IsChildIn-slot, shows_at-child, child_at-found, child_at-none}
+use Rattle.painter_core.proofs.KeyLemmas.{row_of-number, HasSlot-child}
+use Rattle.painter_core.proofs.RootLemmas.{parent-child}
 
--- a numbered Window
-pub record IsWindowRow (widgets : Widgets) (id : ℕ) : Type 0 where
-  pub row : Row
-  pub there : row_at widgets.entries id ≡ Some row
-  pub kind : row.kind ≡ Window
+-- whether the rectangle of a live number holds a pixel, by its place
+rect-place : (view : View) (id : ℕ) (x y : ℤ) → IsLive view.tree.now id → in_rect ((layers_of view).rect id) x y ≡ in_rect (place_in (rows_of view.tree.now) (row_for view.tree.now id)) x y
+unfolding layers_of rect_at
+rect-place view id x y live = ap (λ (o : Option Row). in_rect (option_map_or (place_in (rows_of view.tree.now)) o (record { x = pos 0; y = pos 0; w = 0; h = 0 })) x y) (live-there view.tree.now id live)
 
-pub IsWindowRow-kind : (widgets : Widgets) (id : ℕ) → row_kind widgets.entries id ≡ Some Window → IsWindowRow widgets id
-IsWindowRow-kind widgets id e = by (row_at widgets.entries id) refl e
-  where
-    by : (o : Option Row) → row_at widgets.entries id ≡ o → option_map (λ (row : Row). row.kind) o ≡ Some Window → IsWindowRow widgets id
-    by None q k = absurd (cc)
-    by (Some row) q k = record { row = row; there = q; kind = cc }
-
--- it hangs in nothing
-pub alone : (widgets : Widgets) (id : ℕ) → IsWidgets widgets → (h : IsWindowRow widgets id) → h.row.attached ≡ None
-alone widgets id valid h = by h.row.attached refl right
-  where
-    right : hangs_right (rows_of widgets) h.row ≡ true
-    right = let at = numbered_place widgets.entries id h.row h.there in all_at (hangs_right (rows_of widgets)) (rows_of widgets) at.0 h.row valid.planted.hang at.1
-
-    by : (o : Option (List ℕ × Cell)) → h.row.attached ≡ o → option_map_or (λ (attached : List ℕ × Cell). can_be_child h.row.kind && option_map_or (λ (parent : Row). has_cell parent.kind attached.1) (row_named (rows_of widgets) h.row.client attached.0) false) o true ≡ true → h.row.attached ≡ None
-    by None q k = q
-    by (Some attached) q k =
-        let parts = and_parts (can_be_child h.row.kind) (option_map_or (λ (parent : Row). has_cell parent.kind attached.1) (row_named (rows_of widgets) h.row.client attached.0) false) k in
-        absurd (true≢false (sym parts.0 ∙ ap can_be_child h.kind))
-
-no_parent : (view : View) (id : ℕ) → IsWidgets view.tree.now → (h : IsWindowRow view.tree.now id) → parent_in (scene_of view) (key_of h.row) ≡ None
-unfolding parent_in
-no_parent view id valid h =
-    ap (λ (o : Option Row). option_map (λ (name : List ℕ). (h.row.client, name)) (option_and_then (λ (r : Row). option_map (λ (above : List ℕ × Cell). above.0) r.attached) o)) (row_of-number view.tree.now id h.row valid h.there)
-    ∙ ap (λ (o : Option (List ℕ × Cell)). option_map (λ (name : List ℕ). (h.row.client, name)) (option_map (λ (above : List ℕ × Cell). above.0) o)) (alone view.tree.now id valid h)
-
-shows_in-root : (most : ℕ) (scene : Scene) (key : ℕ × List ℕ) (x y : ℤ) → 0 < most → parent_in scene key ≡ None → on_screen scene x y ≡ true → shows_in most scene key x y ≡ in_rect (place_of scene key) x y
-shows_in-root zero scene key x y some none on = absurd (omega arith)
-shows_in-root (suc most) scene key x y some none on =
-    ap (λ (o : Option (ℕ × List ℕ)). in_rect (place_of scene key) x y && option_map_or (λ parent. shows_in most scene parent x y) o (on_screen scene x y)) none
-    ∙ ap (λ (b : Bool). in_rect (place_of scene key) x y && b) on
-    ∙ and_right (in_rect (place_of scene key) x y)
-  where
-    and_right : (a : Bool) → (a && true) ≡ a
-    and_right true = refl
-    and_right false = refl
-
-shows_at-root : (scene : Scene) (key : ℕ × List ℕ) (x y : ℤ) → parent_in scene key ≡ None → on_screen scene x y ≡ true → shows_at scene key x y ≡ in_rect (place_of scene key) x y
-unfolding shows_at most_levels
-shows_at-root scene key x y none on = shows_in-root 12 scene key x y (omega arith) none on
+and_true : (a : Bool) → (a && true) ≡ a
+and_true true = refl
+and_true false = refl
 
 -- a Window shows the pixels of its place that are on the screen
-shows_at-window : (view : View) (id : ℕ) (x y : ℤ) → IsWidgets view.tree.now → (h : IsWindowRow view.tree.now id) → on_screen (scene_of view) x y ≡ true → shows_at (scene_of view) (key_of h.row) x y ≡ in_rect (rect_at view.tree.now id) x y
-shows_at-window view id x y valid h on =
-    shows_at-root (scene_of view) (key_of h.row) x y (no_parent view id valid h) on
-    ∙ ap (λ (r : Rect). in_rect r x y) (place_of-number view id h.row valid h.there)
+shows_at-window : (view : View) (id : ℕ) (x y : ℤ) → IsWidgets view.tree.now → IsOpenWindow view.tree.now id → on_screen (scene_of view) x y ≡ true → shows_at (scene_of view) (key_of (row_for view.tree.now id)) x y ≡ in_rect ((layers_of view).rect id) x y
+shows_at-window view id x y valid window on =
+    let place = place_in (rows_of view.tree.now) (row_for view.tree.now id) in
+    shows-window (scene_of view) view.tree.now id x y refl valid window
+    ∙ ap (λ (b : Bool). in_rect place x y && b) on
+    ∙ and_true (in_rect place x y)
+    ∙ sym (rect-place view id x y window.live)
 
 -- the first window that shows the pixel, by numbers and by keys
 pub record IsFront (view : View) (x y : ℤ) (ids : List ℕ) (deeper : ℕ → List ℕ) (way : List ℕ) : Type 0 where
   pub id : ℕ
-  pub row : Row
-  pub there : row_at view.tree.now.entries id ≡ Some row
+  pub live : IsLive view.tree.now id
   pub is : way ≡ id ∷ deeper id
-  pub found : find (λ w. shows_at (scene_of view) w x y) (keys_of view.tree.now.entries ids) ≡ Some (key_of row)
-  pub shown : shows_at (scene_of view) (key_of row) x y ≡ true
+  pub found : find (λ w. shows_at (scene_of view) w x y) (keys_of view.tree.now.entries ids) ≡ Some (key_of (row_for view.tree.now id))
+  pub shown : shows_at (scene_of view) (key_of (row_for view.tree.now id)) x y ≡ true
 
 pub record HasNoFront (view : View) (x y : ℤ) (ids : List ℕ) (way : List ℕ) : Type 0 where
   pub is : way ≡ []
   pub found : find (λ w. shows_at (scene_of view) w x y) (keys_of view.tree.now.entries ids) ≡ None
 
 fronts : (view : View) (x y : ℤ) (deeper : ℕ → List ℕ) (ids : List ℕ) → IsWidgets view.tree.now → on_screen (scene_of view) x y ≡ true → All (λ id. row_kind view.tree.now.entries id ≡ Some Window) ids
-    → IsFront view x y ids deeper (first_holding (rect_at view.tree.now) deeper (map Some ids) x y) ⊎ HasNoFront view x y ids (first_holding (rect_at view.tree.now) deeper (map Some ids) x y)
+    → IsFront view x y ids deeper (first_holding (layers_of view).rect deeper (map Some ids) x y) ⊎ HasNoFront view x y ids (first_holding (layers_of view).rect deeper (map Some ids) x y)
 fronts view x y deeper [] valid on each = inr (record { is = refl; found = refl })
-fronts view x y deeper (id ∷ ids) valid on each = by (in_rect (rect_at view.tree.now id) x y) refl (fronts view x y deeper ids valid on (All-tail (λ (n : ℕ). row_kind view.tree.now.entries n ≡ Some Window) id ids each))
+fronts view x y deeper (id ∷ ids) valid on each = by (in_rect ((layers_of view).rect id) x y) refl (fronts view x y deeper ids valid on (All-tail (λ (n : ℕ). row_kind view.tree.now.entries n ≡ Some Window) id ids each))
   where
-    entries : List (ℕ × Row)
-    entries = view.tree.now.entries
+    window : IsOpenWindow view.tree.now id
+    window = window-open view.tree.now id (All-head (λ (n : ℕ). row_kind view.tree.now.entries n ≡ Some Window) id ids each)
 
-    h : IsWindowRow view.tree.now id
-    h = IsWindowRow-kind view.tree.now id (All-head (λ (n : ℕ). row_kind view.tree.now.entries n ≡ Some Window) id ids each)
+    key : ℕ × List ℕ
+    key = key_of (row_for view.tree.now id)
 
-    test : ℕ × List ℕ → Bool
-    test w = shows_at (scene_of view) w x y
+    behind : List (ℕ × List ℕ)
+    behind = keys_of view.tree.now.entries ids
 
-    keys : keys_of view.tree.now.entries (id ∷ ids) ≡ key_of h.row ∷ keys_of view.tree.now.entries ids
-    keys = ap (λ (o : Option Row). option_map_or (λ (key : ℕ × List ℕ). key ∷ keys_of view.tree.now.entries ids) (option_map key_of o) (keys_of view.tree.now.entries ids)) h.there
-
-    first : (b : Bool) → in_rect (rect_at view.tree.now id) x y ≡ b → find (λ w. shows_at (scene_of view) w x y) (keys_of view.tree.now.entries (id ∷ ids)) ≡ cond b (Some (key_of h.row)) (find (λ w. shows_at (scene_of view) w x y) (keys_of view.tree.now.entries ids))
+    first : (b : Bool) → in_rect ((layers_of view).rect id) x y ≡ b → find (λ w. shows_at (scene_of view) w x y) (keys_of view.tree.now.entries (id ∷ ids)) ≡ cond b (Some key) (find (λ w. shows_at (scene_of view) w x y) behind)
     first b e =
-        ap (λ (ks : List (ℕ × List ℕ)). find (λ w. shows_at (scene_of view) w x y) ks) keys
-        ∙ ap (λ (c : Bool). cond c (Some (key_of h.row)) (find (λ w. shows_at (scene_of view) w x y) (keys_of view.tree.now.entries ids))) (shows_at-window view id x y valid h on ∙ e)
+        ap (λ (o : Option Row). find (λ w. shows_at (scene_of view) w x y) (option_map_or (λ (key : ℕ × List ℕ). key ∷ behind) (option_map key_of o) behind)) (live-there view.tree.now id window.live)
+        ∙ ap (λ (c : Bool). cond c (Some key) (find (λ w. shows_at (scene_of view) w x y) behind)) (shows_at-window view id x y valid window on ∙ e)
 
-    way : (b : Bool) → in_rect (rect_at view.tree.now id) x y ≡ b → first_holding (rect_at view.tree.now) deeper (map Some (id ∷ ids)) x y ≡ cond b (id ∷ deeper id) (first_holding (rect_at view.tree.now) deeper (map Some ids) x y)
-    way b e = ap (λ (c : Bool). cond c (id ∷ deeper id) (first_holding (rect_at view.tree.now) deeper (map Some ids) x y)) e
+    way : (b : Bool) → in_rect ((layers_of view).rect id) x y ≡ b → first_holding (layers_of view).rect deeper (map Some (id ∷ ids)) x y ≡ cond b (id ∷ deeper id) (first_holding (layers_of view).rect deeper (map Some ids) x y)
+    way b e = ap (λ (c : Bool). cond c (id ∷ deeper id) (first_holding (layers_of view).rect deeper (map Some ids) x y)) e
 
-    by : (b : Bool) → in_rect (rect_at view.tree.now id) x y ≡ b
-        → IsFront view x y ids deeper (first_holding (rect_at view.tree.now) deeper (map Some ids) x y) ⊎ HasNoFront view x y ids (first_holding (rect_at view.tree.now) deeper (map Some ids) x y)
-        → IsFront view x y (id ∷ ids) deeper (first_holding (rect_at view.tree.now) deeper (map Some (id ∷ ids)) x y) ⊎ HasNoFront view x y (id ∷ ids) (first_holding (rect_at view.tree.now) deeper (map Some (id ∷ ids)) x y)
-    by true e rest = inl (record { id = id; row = h.row; there = h.there; is = way true e; found = first true e; shown = shows_at-window view id x y valid h on ∙ e })
-    by false e (inl f) = inl (record { id = f.id; row = f.row; there = f.there; is = way false e ∙ f.is; found = first false e ∙ f.found; shown = f.shown })
+    by : (b : Bool) → in_rect ((layers_of view).rect id) x y ≡ b
+        → IsFront view x y ids deeper (first_holding (layers_of view).rect deeper (map Some ids) x y) ⊎ HasNoFront view x y ids (first_holding (layers_of view).rect deeper (map Some ids) x y)
+        → IsFront view x y (id ∷ ids) deeper (first_holding (layers_of view).rect deeper (map Some (id ∷ ids)) x y) ⊎ HasNoFront view x y (id ∷ ids) (first_holding (layers_of view).rect deeper (map Some (id ∷ ids)) x y)
+    by true e rest = inl (record { id = id; live = window.live; is = way true e; found = first true e; shown = shows_at-window view id x y valid window on ∙ e })
+    by false e (inl f) = inl (record { id = f.id; live = f.live; is = way false e ∙ f.is; found = first false e ∙ f.found; shown = f.shown })
     by false e (inr f) = inr (record { is = way false e ∙ f.is; found = first false e ∙ f.found })
 
-trail-windows : (view : View) (depth : ℕ) (x y : ℤ) → trail (suc depth) (layers_of view) ((layers_of view).below None) x y ≡ first_holding (rect_at view.tree.now) (λ id. trail depth (layers_of view) ((layers_of view).below (Some id)) x y) (map Some view.stack.now) x y
+trail-windows : (view : View) (depth : ℕ) (x y : ℤ) → trail (suc depth) (layers_of view) ((layers_of view).below None) x y ≡ first_holding (layers_of view).rect (λ id. trail depth (layers_of view) ((layers_of view).below (Some id)) x y) (map Some view.stack.now) x y
 unfolding trail layers_of slots_below
 trail-windows view depth x y = refl
 
-rect_is : (view : View) (id : ℕ) → (layers_of view).rect id ≡ rect_at view.tree.now id
-unfolding layers_of
-rect_is view id = refl
-
 -- the lowest widget that shows the pixel, by numbers and by keys
-pub record IsLowest (view : View) (depth id : ℕ) (key : ℕ × List ℕ) (x y : ℤ) : Type 0 where
+pub record IsLowest (view : View) (depth id : ℕ) (x y : ℤ) : Type 0 where
   pub top : ℕ
-  pub row : Row
-  pub there : row_at view.tree.now.entries top ≡ Some row
+  pub live : IsLive view.tree.now top
   pub ends : last_of (Some id) (trail depth (layers_of view) ((layers_of view).below (Some id)) x y) ≡ Some top
-  pub lowest : lowest_in depth (scene_of view) x y key ≡ key_of row
+  pub lowest : lowest_in depth (scene_of view) x y (key_of (row_for view.tree.now id)) ≡ key_of (row_for view.tree.now top)
 
-lowest : (depth : ℕ) (view : View) (id : ℕ) (row : Row) (x y : ℤ) → IsWidgets view.tree.now → row_at view.tree.now.entries id ≡ Some row → shows_at (scene_of view) (key_of row) x y ≡ true → IsLowest view depth id (key_of row) x y
-lowest zero view id row x y valid there shown = record { top = id; row = row; there = there; ends = ap (λ (ids : List ℕ). last_of (Some id) ids) (trail-none (layers_of view) ((layers_of view).below (Some id)) x y); lowest = refl }
-lowest (suc depth) view id row x y valid there shown = by (λ kid lower at seen. lowest depth view kid lower x y valid at seen) (trail-cases (layers_of view) depth ((layers_of view).below (Some id)) x y)
+lowest : (depth : ℕ) (view : View) (id : ℕ) (x y : ℤ) → IsWidgets view.tree.now → IsLive view.tree.now id → shows_at (scene_of view) (key_of (row_for view.tree.now id)) x y ≡ true → IsLowest view depth id x y
+lowest zero view id x y valid live shown = record { top = id; live = live; ends = ap (λ (ids : List ℕ). last_of (Some id) ids) (trail-none (layers_of view) ((layers_of view).below (Some id)) x y); lowest = refl }
+lowest (suc depth) view id x y valid live shown = by (λ kid at seen. lowest depth view kid x y valid at seen) (trail-cases (layers_of view) depth ((layers_of view).below (Some id)) x y)
   where
-    at_slot : (slot : ℕ) (o : Option ℕ) → slot < length ((layers_of view).below (Some id)) → get_or ((layers_of view).below (Some id)) slot None ≡ o → child_in_slot view.tree.now id slot ≡ o
-    at_slot slot o within is = sym (child-slot view id slot (omega (arith, within, length-children view id))) ∙ is
+    widgets : Widgets
+    widgets = view.tree.now
 
-    enters : (e : Enters (layers_of view) depth ((layers_of view).below (Some id)) x y) → (h : IsChildIn view row e.id) → shows_at (scene_of view) (key_of h.lower) x y ≡ true → IsLowest view depth e.id (key_of h.lower) x y → IsLowest view (suc depth) id (key_of row) x y
-    enters e h seen low = record {
+    enters : (e : Enters (layers_of view) depth ((layers_of view).below (Some id)) x y) → parent_id widgets e.id ≡ Some id → shows_at (scene_of view) (key_of (row_for widgets e.id)) x y ≡ true → IsLowest view depth e.id x y → IsLowest view (suc depth) id x y
+    enters e parent seen low = record {
       top = low.top;
-      row = low.row;
-      there = low.there;
+      live = low.live;
       ends = ap (λ (ids : List ℕ). last_of (Some id) ids) e.way ∙ low.ends;
-      lowest = ap (λ (o : Option (ℕ × List ℕ)). option_map_or (lowest_in depth (scene_of view) x y) o (key_of row)) (child_at-found view id e.id row x y valid there h seen) ∙ low.lowest;
+      lowest = ap (λ (o : Option (ℕ × List ℕ)). option_map_or (lowest_in depth (scene_of view) x y) o (key_of (row_for widgets id))) (child-found (scene_of view) widgets id e.id x y refl valid live parent seen) ∙ low.lowest;
     }
 
-    by : ((kid : ℕ) (lower : Row) → row_at view.tree.now.entries kid ≡ Some lower → shows_at (scene_of view) (key_of lower) x y ≡ true → IsLowest view depth kid (key_of lower) x y) → Enters (layers_of view) depth ((layers_of view).below (Some id)) x y ⊎ Misses (layers_of view) depth ((layers_of view).below (Some id)) x y → IsLowest view (suc depth) id (key_of row) x y
+    by : ((kid : ℕ) → IsLive widgets kid → shows_at (scene_of view) (key_of (row_for widgets kid)) x y ≡ true → IsLowest view depth kid x y) → Enters (layers_of view) depth ((layers_of view).below (Some id)) x y ⊎ Misses (layers_of view) depth ((layers_of view).below (Some id)) x y → IsLowest view (suc depth) id x y
     by deeper (inl e) =
-        let h = IsChildIn-slot view id e.slot e.id row valid there (at_slot e.slot (Some e.id) e.within e.is) in
-        let seen = shows_at-child view row e.id x y valid h shown ∙ ap (λ (r : Rect). in_rect r x y) (sym (rect_is view e.id)) ∙ e.inside in
-        enters e h seen (deeper e.id h.lower h.there seen)
+        let found : child_in_slot widgets id e.slot ≡ Some e.id = sym (child-slot view id e.slot (omega (arith, e.within, length-children view id))) ∙ e.is in
+        let parent = parent-child widgets id e.slot e.id valid found in
+        let at = child-live widgets id e.id valid parent in
+        let seen = child-shown (scene_of view) widgets id e.id x y refl valid parent shown (sym (rect-place view e.id x y at) ∙ e.inside) in
+        enters e parent seen (deeper e.id at seen)
     by deeper (inr m) =
-        let none = child_at-none view id row x y valid there shown (λ slot kid within found.
-        ap (λ (r : Rect). in_rect r x y) (sym (rect_is view kid))
-        ∙ m.each slot kid (omega (arith, within, length-children view id)) (child-slot view id slot within ∙ found)) in
+        let none = child-missed (scene_of view) widgets id x y refl valid live
+        (λ kid parent.
+        let slot = HasSlot-child widgets id kid valid parent in
+        sym (rect-place view kid x y (child-live widgets id kid valid parent))
+        ∙ m.each slot.slot kid (omega (arith, slot.within, length-children view id)) (child-slot view id slot.slot slot.within ∙ slot.found)) in
         record {
           top = id;
-          row = row;
-          there = there;
+          live = live;
           ends = ap (λ (ids : List ℕ). last_of (Some id) ids) m.way;
-          lowest = ap (λ (o : Option (ℕ × List ℕ)). option_map_or (lowest_in depth (scene_of view) x y) o (key_of row)) none;
+          lowest = ap (λ (o : Option (ℕ × List ℕ)). option_map_or (lowest_in depth (scene_of view) x y) o (key_of (row_for widgets id))) none;
         }
 
 -- the whole trail of a pixel
@@ -203,13 +160,13 @@ tops view x y valid is on = by (fronts view x y deeper view.stack.now valid on i
     deeper : ℕ → List ℕ
     deeper id = trail most_levels (layers_of view) ((layers_of view).below (Some id)) x y
 
-    by : IsFront view x y view.stack.now deeper (first_holding (rect_at view.tree.now) deeper (map Some view.stack.now) x y) ⊎ HasNoFront view x y view.stack.now (first_holding (rect_at view.tree.now) deeper (map Some view.stack.now) x y) → IsTop view x y ⊎ HasNoTop view x y
+    by : IsFront view x y view.stack.now deeper (first_holding (layers_of view).rect deeper (map Some view.stack.now) x y) ⊎ HasNoFront view x y view.stack.now (first_holding (layers_of view).rect deeper (map Some view.stack.now) x y) → IsTop view x y ⊎ HasNoTop view x y
     by (inl f) =
-        let low = lowest most_levels view f.id f.row x y valid f.there f.shown in
+        let low = lowest most_levels view f.id x y valid f.live f.shown in
         inl (record {
           id = low.top;
-          row = low.row;
-          there = low.there;
+          row = row_for view.tree.now low.top;
+          there = live-there view.tree.now low.top low.live;
           ends = ap (λ (ids : List ℕ). last_of None ids) (trail-windows view most_levels x y ∙ f.is) ∙ low.ends;
           top = ap (option_map (lowest_in most_levels (scene_of view) x y)) f.found ∙ ap Some low.lowest;
         })

@@ -9,7 +9,6 @@ mod looks;
 mod meeting;
 mod painting;
 mod pieces;
-mod reading;
 mod runs;
 mod slots;
 

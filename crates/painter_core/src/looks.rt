@@ -7,44 +7,21 @@ ghost use Rattle.painter_core.specs.Lines.{IsLine, ShowsLook};
 ghost use Rattle.painter_core.specs.Stage.{layers_of, IsPaintable, IsThere};
 ghost use Rattle.scene_core.specs.Children.{row_for};
 ghost use Rattle.scene_core.specs.View.{scene_of};
-ghost use Rattle.scene_model.specs.LookOf.{look_of, is_held, has_focus};
+ghost use Rattle.scene_model.specs.LookOf.{look_of};
 
 use crate::line::Line;
-use crate::reading::{
-    count_of, is_vertical, label_of, number_of, raw_value, scale_value, scrollbar_value, text_of,
-};
 use crate::slots::place;
 use canvas_core::DESK_COLOUR;
 use geom_core::Rect;
 use kind_core::{Attr, Kind};
 use look_core::{Look, row_span};
+use look_data::{
+    count_of, has_focus, is_held, is_vertical, label_text, linked_value, scale_value,
+    scrollbar_value, text_of,
+};
 use scene_core::View;
-use tree_core::{Grab, Id};
+use tree_core::Id;
 use vscreen_core::Film;
-
-/// Whether the pointer has grabbed the widget.
-fn is_held(view: &View<'_>, id: u32) -> bool
-    requires stage { IsPaintable view.now }
-    requires there { IsThere view.now id }
-    ensures { result ≡ is_held (scene_of view.now) (row_for view.now.tree.now id) }
-{
-    match view.pointer.grab {
-        Grab::Widget { id: held } => held.key == id,
-        _ => false,
-    }
-}
-
-/// Whether keys go to the widget.
-fn has_focus(view: &View<'_>, id: u32) -> bool
-    requires stage { IsPaintable view.now }
-    requires there { IsThere view.now id }
-    ensures { result ≡ has_focus (scene_of view.now) (row_for view.now.tree.now id) }
-{
-    match view.pointer.focus {
-        Some(focus) => focus.key == id,
-        None => false,
-    }
-}
 
 /// Draws a part of a row of a Window.
 fn draw_window(view: &View<'_>, id: u32, at: Line, out: &mut [u8])
@@ -70,7 +47,7 @@ fn draw_button(view: &View<'_>, id: u32, at: Line, out: &mut [u8])
     let text = text_of(view.tree, Id { key: id }, Attr::Text);
     let look = Look::ButtonLook {
         text: &text,
-        held: is_held(view, id),
+        held: is_held(view, Id { key: id }),
     };
     row_span(&look, at.w, at.h, at.y, at.from, at.to, out);
 }
@@ -83,7 +60,8 @@ fn draw_label(view: &View<'_>, id: u32, at: Line, out: &mut [u8])
     requires line { IsLine at (length out.old) }
     ensures { ShowsLook (look_of (scene_of view.now) (row_for view.now.tree.now id)) at out.new }
 {
-    let shown = label_of(view.tree, Id { key: id });
+    let text = text_of(view.tree, Id { key: id }, Attr::Text);
+    let shown = label_text(&text, linked_value(view.tree, Id { key: id }));
     let look = Look::LabelLook {
         shown: shown.as_slice(),
     };
@@ -103,7 +81,7 @@ fn draw_entry(view: &View<'_>, id: u32, at: Line, out: &mut [u8])
     let look = Look::EntryLook {
         text: &text,
         caret: caret.min(text.as_slice().len() as u32),
-        focus: has_focus(view, id),
+        focus: has_focus(view, Id { key: id }),
     };
     row_span(&look, at.w, at.h, at.y, at.from, at.to, out);
 }
@@ -116,13 +94,11 @@ fn draw_scale(view: &View<'_>, id: u32, at: Line, out: &mut [u8])
     requires line { IsLine at (length out.old) }
     ensures { ShowsLook (look_of (scene_of view.now) (row_for view.now.tree.now id)) at out.new }
 {
-    let max = number_of(view.tree, Id { key: id }, Attr::Max);
-    let value = scale_value(raw_value(view.tree, Id { key: id }), max);
     let look = Look::ScaleLook {
-        value: value.unsigned_abs() as u32,
+        value: scale_value(view.tree, Id { key: id }),
         max: count_of(view.tree, Id { key: id }, Attr::Max),
         vert: is_vertical(view.tree, Id { key: id }),
-        held: is_held(view, id),
+        held: is_held(view, Id { key: id }),
     };
     row_span(&look, at.w, at.h, at.y, at.from, at.to, out);
 }
@@ -135,15 +111,12 @@ fn draw_scrollbar(view: &View<'_>, id: u32, at: Line, out: &mut [u8])
     requires line { IsLine at (length out.old) }
     ensures { ShowsLook (look_of (scene_of view.now) (row_for view.now.tree.now id)) at out.new }
 {
-    let real = number_of(view.tree, Id { key: id }, Attr::Real);
-    let shown = number_of(view.tree, Id { key: id }, Attr::View);
-    let value = scrollbar_value(raw_value(view.tree, Id { key: id }), real, shown);
     let look = Look::ScrollLook {
-        value: value.unsigned_abs() as u32,
+        value: scrollbar_value(view.tree, Id { key: id }),
         real: count_of(view.tree, Id { key: id }, Attr::Real),
         view: count_of(view.tree, Id { key: id }, Attr::View),
         vert: is_vertical(view.tree, Id { key: id }),
-        held: is_held(view, id),
+        held: is_held(view, Id { key: id }),
     };
     row_span(&look, at.w, at.h, at.y, at.from, at.to, out);
 }

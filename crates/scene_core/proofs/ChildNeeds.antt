@@ -106,9 +106,9 @@ child-at widgets id key valid parent =
 pub child-number : (widgets : Widgets) (id i : ℕ) (row : Row) → IsWidgets widgets → IsLive widgets id → slice_get (rows_of widgets) i ≡ Some row
     → is_child (row_for widgets id).client (row_for widgets id).name row ≡ true → (key : ℕ) × (row_for widgets key ≡ row) × (parent_id widgets key ≡ Some id)
 child-number widgets id i row valid live there is =
-    let number = listed_number widgets.entries i row valid.forest.own_numbers there in
+    let number = listed_number widgets.entries i row valid.numbered.own_numbers there in
     let of = IsChildOf-is_child (row_for widgets id).client (row_for widgets id).name row is in
-    let own : id_named (nodes widgets.entries) (row_for widgets id).client (row_for widgets id).name ≡ Some id = id_named-row widgets.entries id (row_for widgets id) valid.forest.own_names (live-there widgets id live) in (
+    let own : id_named (nodes widgets.entries) (row_for widgets id).client (row_for widgets id).name ≡ Some id = id_named-row widgets.entries id (row_for widgets id) valid.rows.names (live-there widgets id live) in (
       number.0,
       row_for-there widgets number.0 row number.1,
       ap (option_and_then (λ (row : Row). option_and_then (λ (attached : List ℕ × Cell). id_named (nodes widgets.entries) row.client attached.0) row.attached)) number.1

@@ -19,13 +19,13 @@ use Rattle.tree_core.proofs.Children.{child_id-hangs, hangs-child_id, attached-h
 use Rattle.scene_core.specs.Children.{one_or_none, AreChildren}
 
 pub grove_of : (widgets : Widgets) → IsWidgets widgets → IsGrove widgets.entries
-grove_of widgets valid = record { own_numbers = valid.forest.own_numbers; own_names = valid.forest.own_names; planted = valid.planted }
+grove_of widgets valid = record { own_numbers = valid.numbered.own_numbers; own_names = valid.rows.names; planted = valid.rows.planted }
 
 -- what is found in a cell of a widget hangs in it
 pub child_id-parent : (widgets : Widgets) (above column line below : ℕ) → IsWidgets widgets → child_id widgets above column line ≡ Some below → parent_id widgets below ≡ Some above
 child_id-parent widgets above column line below valid found =
     let h = child_id-hangs widgets.entries below above column line (grove_of widgets valid) found in
-    let number : id_named (nodes widgets.entries) h.upper.client h.upper.name ≡ Some above = id_named-row widgets.entries above h.upper valid.forest.own_names h.upper_there in
+    let number : id_named (nodes widgets.entries) h.upper.client h.upper.name ≡ Some above = id_named-row widgets.entries above h.upper valid.rows.names h.upper_there in
     ap (option_and_then (λ (row : Row). option_and_then (λ (attached : List ℕ × Cell). id_named (nodes widgets.entries) row.client attached.0) row.attached)) h.lower_there
     ∙ ap (option_and_then (λ (attached : List ℕ × Cell). id_named (nodes widgets.entries) h.lower.client attached.0)) h.attached
     ∙ ap (λ (client : ℕ). id_named (nodes widgets.entries) client h.upper.name) h.owner

@@ -14,7 +14,7 @@ use Rattle.widget_model.specs.Relatives.{parent_id}
 use Rattle.widget_model.proofs.Naming.{id_named-row}
 use Rattle.widget_model.proofs.Fit.{IsFit-is_fit}
 use Rattle.widget_model.proofs.Hanging.{all_at}
-use Rattle.tree_core.proofs.Listed.{numbered_place, AreNamedApart-rows}
+use Rattle.tree_core.proofs.Listed.{numbered_place}
 use Rattle.scene_model.specs.declared.axis.Axis.{Axis}
 use Rattle.scene_model.specs.declared.axis.Axis.TheVariants.{Across, Down}
 use Rattle.scene_model.specs.Spans.{along}
@@ -39,13 +39,13 @@ use Rattle.scene_core.proofs.ChildNumbers.{parent_id-found}
 pub key-found : (widgets : Widgets) (id : ℕ) → IsWidgets widgets → IsLive widgets id → row_of (rows_of widgets) (key_of (row_for widgets id)) ≡ Some (row_for widgets id)
 key-found widgets id valid live =
     let row = row_for widgets id in
-    row_of_name widgets row.client row.name valid ∙ ap (option_map (row_for widgets)) (id_named-row widgets.entries id row valid.forest.own_names (live-there widgets id live))
+    row_of_name widgets row.client row.name valid ∙ ap (option_map (row_for widgets)) (id_named-row widgets.entries id row valid.rows.names (live-there widgets id live))
 
 pub apart : (widgets : Widgets) → IsWidgets widgets → AreNamedApart (rows_of widgets)
-apart widgets valid = AreNamedApart-rows widgets.entries valid.forest.own_names
+apart widgets valid = valid.rows.names
 
 least-step : (widgets : Widgets) (id : ℕ) (axis : Axis) → IsWidgets widgets → IsLive widgets id → least_of (rows_of widgets) axis (row_for widgets id) ≡ least_by (least_of (rows_of widgets) axis) axis (rows_of widgets) (row_for widgets id)
-least-step widgets id axis valid live = leasts_come_from_children (rows_of widgets) axis (row_for widgets id) valid.planted (apart widgets valid) (key-found widgets id valid live)
+least-step widgets id axis valid live = leasts_come_from_children (rows_of widgets) axis (row_for widgets id) valid.rows.planted (apart widgets valid) (key-found widgets id valid live)
 
 pub least-grid : (widgets : Widgets) (id : ℕ) (axis : Axis) → IsWidgets widgets → IsLive widgets id → is_grid (row_for widgets id).kind ≡ true
     → least_of (rows_of widgets) axis (row_for widgets id) ≡ grid_least (needs_for axis widgets id) (rules_of axis (row_for widgets id))
@@ -71,7 +71,7 @@ pub rules-sixteen : (widgets : Widgets) (id : ℕ) (axis : Axis) → IsWidgets w
 rules-sixteen widgets id axis valid live =
     let row = row_for widgets id in
     let place = numbered_place widgets.entries id row (live-there widgets id live) in
-    let fit = IsFit-is_fit row (all_at is_fit (rows_of widgets) place.0 row valid.fitting place.1) in
+    let fit = IsFit-is_fit row (all_at is_fit (rows_of widgets) place.0 row valid.rows.fitting place.1) in
     let sides = and_parts (nat_eq (length row.column_rules) 16) (nat_eq (length row.row_rules) 16 && nat_eq (length row.bindings) 7) fit.slots in
     let lower = and_parts (nat_eq (length row.row_rules) 16) (nat_eq (length row.bindings) 7) sides.1 in
     by axis (eqb-true (length row.column_rules) 16 sides.0) (eqb-true (length row.row_rules) 16 lower.0)
@@ -99,7 +99,7 @@ pub deep-none : (widgets : Widgets) (id : ℕ) → IsWidgets widgets → IsLive 
 deep-none widgets id valid live deep =
     let row = row_for widgets id in
     let place = numbered_place widgets.entries id row (live-there widgets id live) in
-    let low : ends_within most_levels (rows_of widgets) row.client row.name ≡ true = all_at (λ (row : Row). ends_within most_levels (rows_of widgets) row.client row.name) (rows_of widgets) place.0 row valid.planted.low place.1 in
+    let low : ends_within most_levels (rows_of widgets) row.client row.name ≡ true = all_at (λ (row : Row). ends_within most_levels (rows_of widgets) row.client row.name) (rows_of widgets) place.0 row valid.rows.planted.low place.1 in
     let e : most_levels - 0 ≡ most_levels = omega arith in
     true≢false (sym low ∙ ap (λ (n : ℕ). ends_within n (rows_of widgets) row.client row.name) (sym e) ∙ deep.upper)
 
@@ -119,7 +119,7 @@ child-measured widgets id kid valid parent =
     let live = child-live widgets id kid valid parent in
     let at = child-at widgets id kid valid parent in
     let of = IsChildOf-is_child (row_for widgets id).client (row_for widgets id).name (row_for widgets kid) at.is in
-    let cell = IsFitCell-attached (rows_of widgets) at.index (row_for widgets kid) (row_for widgets id).name of.cell valid.planted at.there of.attached in
+    let cell = IsFitCell-attached (rows_of widgets) at.index (row_for widgets kid) (row_for widgets id).name of.cell valid.rows.planted at.there of.attached in
     let same = cell_of-attached (row_for widgets kid) (row_for widgets id).name of.cell of.attached in
     record {
       column = rw same (cell.column_some, cell.column_most);

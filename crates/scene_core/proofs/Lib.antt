@@ -9,6 +9,7 @@ pub mod TrackSteps
 pub mod LeastSteps
 pub mod Measures
 pub mod Finds
+pub mod OneNumber
 pub mod Tops
 pub mod SideSteps
 pub mod Roots

@@ -58,7 +58,7 @@ row_of_name widgets client name valid = by (id_named (nodes widgets.entries) cli
   where
     by : (o : Option ℕ) → id_named (nodes widgets.entries) client name ≡ o → row_named (rows_of widgets) client name ≡ option_map (row_for widgets) o
     by None q = row_named-none widgets.entries client name q
-    by (Some id) q = row_named-found widgets.entries client name id valid.forest.own_numbers q ∙ live-there widgets id (row_at-named widgets.entries client name id q)
+    by (Some id) q = row_named-found widgets.entries client name id valid.numbered.own_numbers q ∙ live-there widgets id (row_at-named widgets.entries client name id q)
 
 -- the value of the linked Variable
 pub linked_read : (widgets : Widgets) (id : ℕ) → IsWidgets widgets → IsLive widgets id

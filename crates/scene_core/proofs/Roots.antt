@@ -35,7 +35,7 @@ loose : (widgets : Widgets) (id : ℕ) → IsWidgets widgets → IsLive widgets 
 loose widgets id valid live none =
     let row = row_for widgets id in
     let place = numbered_place widgets.entries id row (live-there widgets id live) in
-    by row.attached refl (all_at (hangs_right (rows_of widgets)) (rows_of widgets) place.0 row valid.planted.hang place.1)
+    by row.attached refl (all_at (hangs_right (rows_of widgets)) (rows_of widgets) place.0 row valid.rows.planted.hang place.1)
   where
     by : (o : Option (List ℕ × Cell)) → (row_for widgets id).attached ≡ o → hangs_right (rows_of widgets) (row_for widgets id) ≡ true → (row_for widgets id).attached ≡ None
     by None q right = q
@@ -56,7 +56,7 @@ root-alone widgets id valid live none =
     let alone : parent_of (rows_of widgets) row.client row.name ≡ None = parent_of-row widgets id valid live ∙ ap (option_map (λ (attached : List ℕ × Cell). attached.0)) (loose widgets id valid live (no_parent widgets id valid live none)) in
     root-read widgets id live
     ∙ ap (λ (o : Option (List ℕ)). id_named (nodes widgets.entries) row.client (option_map_or (root_in 11 (rows_of widgets) row.client) o row.name)) alone
-    ∙ id_named-row widgets.entries id row valid.forest.own_names (live-there widgets id live)
+    ∙ id_named-row widgets.entries id row valid.rows.names (live-there widgets id live)
 
 -- going up from a child ends one level later than from its parent
 pub ends-parent : (widgets : Widgets) (most id kid : ℕ) → IsWidgets widgets → parent_id widgets kid ≡ Some id
@@ -69,7 +69,7 @@ ends-parent widgets most id kid valid parent =
 
 -- and it ends within the levels of a tree
 pub ends-live : (widgets : Widgets) (id : ℕ) → IsWidgets widgets → IsLive widgets id → ends_within most_levels (rows_of widgets) (row_for widgets id).client (row_for widgets id).name ≡ true
-ends-live widgets id valid live = ends-found (rows_of widgets) (row_for widgets id) valid.planted (key-found widgets id valid live)
+ends-live widgets id valid live = ends-found (rows_of widgets) (row_for widgets id) valid.rows.planted (key-found widgets id valid live)
 
 -- after no level it hasn't ended
 pub ends-some : (widgets : Widgets) (most id : ℕ) → ends_within most (rows_of widgets) (row_for widgets id).client (row_for widgets id).name ≡ true → 1 ≤ most

@@ -49,7 +49,7 @@ pub span-child : (widgets : Widgets) (id kid : ℕ) (axis : Axis) → IsWidgets 
     → span_along (rows_of widgets) axis (row_for widgets kid) ≡ child_span (row_for widgets id).kind axis (rows_of widgets) (row_for widgets id) (span_along (rows_of widgets) axis (row_for widgets id)) (row_for widgets kid)
 span-child widgets id kid axis valid live parent =
     let below = child-live widgets id kid valid parent in
-    spans_come_from_parents (rows_of widgets) axis (row_for widgets kid) (row_for widgets id) valid.planted (key-found widgets kid valid below)
+    spans_come_from_parents (rows_of widgets) axis (row_for widgets kid) (row_for widgets id) valid.rows.planted (key-found widgets kid valid below)
     (parent_read widgets kid valid below ∙ ap (option_map (row_for widgets)) parent)
 
 -- a child's track is in use

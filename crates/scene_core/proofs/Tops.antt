@@ -18,7 +18,7 @@ use Rattle.widget_model.specs.Planted.{has_cell, hangs_right}
 use Rattle.widget_model.specs.Relatives.{parent_id, root_id}
 use Rattle.widget_model.specs.Forest.{IsWidgets}
 use Rattle.widget_model.proofs.Naming.{id_named-row}
-use Rattle.widget_model.proofs.Hanging.{all_at}
+use Rattle.widget_model.proofs.Hanging.{all_at, find_none_from}
 use Rattle.tree_core.proofs.Listed.{numbered_place}
 use Rattle.scene_model.specs.Scene.{Scene}
 use Rattle.scene_model.specs.Placing.{place_in}
@@ -32,14 +32,14 @@ use Rattle.scene_core.specs.View.{keys_of, AreWindows, KeepsPlaces, IsUnderOpen}
 use Rattle.scene_core.proofs.Numbered.{live-there, read}
 use Rattle.scene_core.proofs.ChildNeeds.{child-at, child-number}
 use Rattle.scene_core.proofs.LeastSteps.{key-found, child-live}
-use Rattle.scene_core.proofs.Finds.{find-none, find-only, same_key-true}
+use Rattle.scene_core.proofs.Finds.{find-only, same_key-true}
 
 -- a Window hangs in none
 pub window-alone : (widgets : Widgets) (id : ℕ) → IsWidgets widgets → IsLive widgets id → (row_for widgets id).kind ≡ Window → (row_for widgets id).attached ≡ None
 window-alone widgets id valid live is =
     let row = row_for widgets id in
     let place = numbered_place widgets.entries id row (live-there widgets id live) in
-    by row.attached refl (all_at (hangs_right (rows_of widgets)) (rows_of widgets) place.0 row valid.planted.hang place.1)
+    by row.attached refl (all_at (hangs_right (rows_of widgets)) (rows_of widgets) place.0 row valid.rows.planted.hang place.1)
   where
     by : (o : Option (List ℕ × Cell)) → (row_for widgets id).attached ≡ o
         → option_map_or (λ (attached : List ℕ × Cell). can_be_child (row_for widgets id).kind && option_map_or (λ (parent : Row). has_cell parent.kind attached.1) (row_named (rows_of widgets) (row_for widgets id).client attached.0) false) o true ≡ true
@@ -81,7 +81,7 @@ root-read widgets id live = ap (option_and_then (λ (row : Row). id_named (nodes
 pub root-child : (widgets : Widgets) (id kid : ℕ) → IsWidgets widgets → IsLive widgets id → parent_id widgets kid ≡ Some id → root_id widgets kid ≡ root_id widgets id
 root-child widgets id kid valid live parent =
     root-read widgets kid (child-live widgets id kid valid parent)
-    ∙ ap (λ (key : ℕ × List ℕ). id_named (nodes widgets.entries) key.0 key.1) (children_have_their_parents_root (rows_of widgets) (key_of (row_for widgets kid)) (key_of (row_for widgets id)) valid.planted (parent-key widgets id kid valid parent))
+    ∙ ap (λ (key : ℕ × List ℕ). id_named (nodes widgets.entries) key.0 key.1) (children_have_their_parents_root (rows_of widgets) (key_of (row_for widgets kid)) (key_of (row_for widgets id)) valid.rows.planted (parent-key widgets id kid valid parent))
     ∙ sym (root-read widgets id live)
 
 pub root-window : (widgets : Widgets) (id : ℕ) → IsWidgets widgets → IsOpenWindow widgets id → root_id widgets id ≡ Some id
@@ -90,7 +90,7 @@ root-window widgets id valid window =
     let row = row_for widgets id in
     root-read widgets id window.live
     ∙ ap (λ (o : Option (List ℕ)). id_named (nodes widgets.entries) row.client (option_map_or (root_in 11 (rows_of widgets) row.client) o row.name)) (parent-none widgets id valid window)
-    ∙ id_named-row widgets.entries id row valid.forest.own_names (live-there widgets id window.live)
+    ∙ id_named-row widgets.entries id row valid.rows.names (live-there widgets id window.live)
 
 pub under-child : (widgets : Widgets) (windows : List ℕ) (id kid : ℕ) → IsWidgets widgets → IsLive widgets id → parent_id widgets kid ≡ Some id → IsUnderOpen widgets windows id → IsUnderOpen widgets windows kid
 under-child widgets windows id kid valid live parent under = record { window = under.window; among = under.among; root = root-child widgets id kid valid live parent ∙ under.root }
@@ -120,7 +120,7 @@ pub shows-child : (scene : Scene) (widgets : Widgets) (id kid : ℕ) (x y : ℤ)
     → shows_at scene (key_of (row_for widgets kid)) x y ≡ (in_rect (place_in (rows_of widgets) (row_for widgets kid)) x y && shows_at scene (key_of (row_for widgets id)) x y)
 unfolding parent_in
 shows-child scene widgets id kid x y rows valid parent =
-    children_show_within_parents scene (key_of (row_for widgets kid)) (key_of (row_for widgets id)) x y (rw rows valid.planted)
+    children_show_within_parents scene (key_of (row_for widgets kid)) (key_of (row_for widgets id)) x y (rw rows valid.rows.planted)
     (ap (λ (rs : List Row). parent_key rs (key_of (row_for widgets kid))) rows ∙ parent-key widgets id kid valid parent)
     ∙ ap (λ (place : Rect). in_rect place x y && shows_at scene (key_of (row_for widgets id)) x y) (placed-at scene widgets kid rows valid (child-live widgets id kid valid parent))
 
@@ -167,27 +167,32 @@ get_or-default (x ∷ xs) zero d e less = refl
 get_or-default (x ∷ xs) (suc k) d e less = get_or-default xs k d e (omega arith)
 
 -- the child that shows the pixel: no child's place holds it
-pub child-none : (scene : Scene) (widgets : Widgets) (id : ℕ) (keys : List ℕ) (x y : ℤ) → scene.rows ≡ rows_of widgets → IsWidgets widgets → IsLive widgets id → AreChildren widgets id keys
-    → ((k : ℕ) → k < length keys → in_rect (place_in (rows_of widgets) (row_for widgets (get_or keys k 0))) x y ≡ false) → child_at scene (key_of (row_for widgets id)) x y ≡ None
-child-none scene widgets id keys x y rows valid live kids fails =
+pub child-missed : (scene : Scene) (widgets : Widgets) (id : ℕ) (x y : ℤ) → scene.rows ≡ rows_of widgets → IsWidgets widgets → IsLive widgets id
+    → ((kid : ℕ) → parent_id widgets kid ≡ Some id → in_rect (place_in (rows_of widgets) (row_for widgets kid)) x y ≡ false) → child_at scene (key_of (row_for widgets id)) x y ≡ None
+child-missed scene widgets id x y rows valid live misses =
     ap (λ (rs : List Row). option_map key_of (find (λ (row : Row). is_child (row_for widgets id).client (row_for widgets id).name row && shows_at scene (key_of row) x y) rs)) rows
-    ∙ ap (option_map key_of) (find-none (λ (row : Row). is_child (row_for widgets id).client (row_for widgets id).name row && shows_at scene (key_of row) x y) (rows_of widgets) each)
+    ∙ ap (option_map key_of) (find_none_from (λ (row : Row). is_child (row_for widgets id).client (row_for widgets id).name row && shows_at scene (key_of row) x y) (rows_of widgets) each)
   where
-    hidden : (row : Row) → is_child (row_for widgets id).client (row_for widgets id).name row ≡ true → (key : ℕ) × (row_for widgets key ≡ row) × (parent_id widgets key ≡ Some id) → shows_at scene (key_of row) x y ≡ false
-    hidden row is number =
-        let in_keys = kids.all number.0 number.2 in
-        let place : in_rect (place_in (rows_of widgets) (row_for widgets number.0)) x y ≡ false =
-        ap (λ (n : ℕ). in_rect (place_in (rows_of widgets) (row_for widgets n)) x y) (sym in_keys.2 ∙ get_or-default keys in_keys.0 number.0 0 in_keys.1) ∙ fails in_keys.0 in_keys.1 in
+    hidden : (row : Row) → (key : ℕ) × (row_for widgets key ≡ row) × (parent_id widgets key ≡ Some id) → shows_at scene (key_of row) x y ≡ false
+    hidden row number =
         ap (λ (r : Row). shows_at scene (key_of r) x y) (sym number.1)
         ∙ shows-child scene widgets id number.0 x y rows valid number.2
-        ∙ ap (λ (b : Bool). b && shows_at scene (key_of (row_for widgets id)) x y) place
+        ∙ ap (λ (b : Bool). b && shows_at scene (key_of (row_for widgets id)) x y) (misses number.0 number.2)
 
     by : (row : Row) (i : ℕ) → slice_get (rows_of widgets) i ≡ Some row → (b : Bool) → is_child (row_for widgets id).client (row_for widgets id).name row ≡ b → (b && shows_at scene (key_of row) x y) ≡ false
     by row i there false q = refl
-    by row i there true q = hidden row q (child-number widgets id i row valid live there q)
+    by row i there true q = hidden row (child-number widgets id i row valid live there q)
 
     each : (i : ℕ) (row : Row) → slice_get (rows_of widgets) i ≡ Some row → (is_child (row_for widgets id).client (row_for widgets id).name row && shows_at scene (key_of row) x y) ≡ false
     each i row there = by row i there (is_child (row_for widgets id).client (row_for widgets id).name row) refl
+
+pub child-none : (scene : Scene) (widgets : Widgets) (id : ℕ) (keys : List ℕ) (x y : ℤ) → scene.rows ≡ rows_of widgets → IsWidgets widgets → IsLive widgets id → AreChildren widgets id keys
+    → ((k : ℕ) → k < length keys → in_rect (place_in (rows_of widgets) (row_for widgets (get_or keys k 0))) x y ≡ false) → child_at scene (key_of (row_for widgets id)) x y ≡ None
+child-none scene widgets id keys x y rows valid live kids fails =
+    child-missed scene widgets id x y rows valid live
+    (λ kid parent.
+    let among = kids.all kid parent in
+    ap (λ (n : ℕ). in_rect (place_in (rows_of widgets) (row_for widgets n)) x y) (sym among.2 ∙ get_or-default keys among.0 kid 0 among.1) ∙ fails among.0 among.1)
 
 -- the child whose place holds it, where the widget shows it
 pub child-shown : (scene : Scene) (widgets : Widgets) (id kid : ℕ) (x y : ℤ) → scene.rows ≡ rows_of widgets → IsWidgets widgets → parent_id widgets kid ≡ Some id → shows_at scene (key_of (row_for widgets id)) x y ≡ true
@@ -210,7 +215,7 @@ child-found scene widgets id kid x y rows valid live parent shown =
     same : (n : ℕ) → parent_id widgets n ≡ Some id → shows_at scene (key_of (row_for widgets n)) x y ≡ true → (b : Bool) → same_key (key_of (row_for widgets n)) (key_of (row_for widgets kid)) ≡ b → key_of (row_for widgets n) ≡ key_of (row_for widgets kid)
     same n of also true q = same_key-true (key_of (row_for widgets n)) (key_of (row_for widgets kid)) q
     same n of also false q =
-        let none = children_share_no_pixel scene (key_of (row_for widgets n)) (key_of (row_for widgets kid)) (key_of (row_for widgets id)) x y (rw rows valid.planted) (keyed n of) (keyed kid parent) q in
+        let none = children_share_no_pixel scene (key_of (row_for widgets n)) (key_of (row_for widgets kid)) (key_of (row_for widgets id)) x y (rw rows valid.rows.planted) (keyed n of) (keyed kid parent) q in
         let both : (shows_at scene (key_of (row_for widgets n)) x y && shows_at scene (key_of (row_for widgets kid)) x y) ≡ true = ap (λ (b : Bool). b && shows_at scene (key_of (row_for widgets kid)) x y) also ∙ shown in
         absurd (true≢false (sym both ∙ none))
 

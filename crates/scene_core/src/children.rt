@@ -1,12 +1,10 @@
 //! The numbers of a widget's children.
 ghost use Rattle.std.specs.Prelude.{◌≡◌, ◌≤◌, ◌<◌, ◌++◌, length};
 ghost use Rattle.std.specs.Option.{option_map};
-ghost use Rattle.widget_model.specs.Trees.{has_children};
 ghost use Rattle.widget_model.specs.Widgets.{IsLive};
 ghost use Rattle.tree_core.specs.Children.{cells_of};
 ghost use Rattle.scene_core.specs.Children.{row_for, AreChildren, one_or_none};
 
-use crate::reading::kind_of;
 use arrayvec::ArrayVec;
 use kind_core::Kind;
 use tree_core::{Id, Tree};
@@ -20,17 +18,6 @@ fn cells_of(kind: Kind) -> u32
         Kind::Grid => 256,
         Kind::Window | Kind::Frame => 1,
         _ => 0,
-    }
-}
-
-/// Whether the widget's kind has children.
-pub(crate) fn has_children(tree: &Tree, id: Id) -> bool
-    requires { IsLive tree.now id.key }
-    ensures { result ≡ has_children (row_for tree.now id.key).kind }
-{
-    match kind_of(tree, id) {
-        Kind::Window | Kind::Grid | Kind::Frame => true,
-        _ => false,
     }
 }
 

@@ -10,12 +10,13 @@ ghost use Rattle.scene_core.specs.Known.{AreKnown};
 ghost use Rattle.scene_core.specs.Laid.{AreLaid};
 ghost use Rattle.scene_core.specs.Places.{HasPlaces};
 
-use crate::children::{child_keys, has_children};
+use crate::children::child_keys;
 use crate::known::Known;
 use crate::least::{as_child, most_levels, tracks_for};
 use crate::places::{child_place, sides_of, window_place};
+use crate::reading::kind_of;
 use geom_core::Rect;
-use tree_core::{Id, Tree};
+use tree_core::{Id, Tree, has_children};
 
 /// Keeps this place of the widget and, from it, the place of each widget below it.
 fn lay(tree: &mut Tree, known: &mut Known, most: u32, id: Id, place: Rect)
@@ -28,7 +29,7 @@ fn lay(tree: &mut Tree, known: &mut Known, most: u32, id: Id, place: Rect)
     ensures known { AreKnown tree.old known.new }
 {
     tree.set_place(id, Some(place));
-    if !has_children(tree, id) {
+    if !has_children(kind_of(tree, id)) {
         return;
     }
     let tracks = tracks_for(tree, known, most, id);

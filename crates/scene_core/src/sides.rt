@@ -1,6 +1,6 @@
 //! What a widget has for its children, along one axis.
 ghost use Rattle.std.specs.Prelude.{◌≡◌, ◌≤◌, pos, ◌≤ℤ◌, Some};
-ghost use Rattle.kind_core.specs.Effective.{clamp, frame_offset};
+ghost use Rattle.kind_core.specs.Effective.{frame_offset};
 ghost use Rattle.kind_core.specs.declared.kinds.Kind.TheVariants.{Grid};
 ghost use Rattle.widget_model.specs.Relatives.{parent_id};
 ghost use Rattle.widget_model.specs.Widgets.{IsLive, rows_of};
@@ -33,25 +33,12 @@ pub(crate) struct Side {
     pub(crate) lengths: [u32; 16],
 }
 
-/// The number, brought into 0 to 4,096.
-fn clamped(number: i32) -> i32
-    ensures { result ≡ clamp number (pos 0) (pos 4096) }
-{
-    if number < 0 {
-        return 0;
-    }
-    if number > 4096 {
-        return 4096;
-    }
-    number
-}
-
 /// A Frame's offset down, from the linked value and its own.
 fn frame_offset(linked: Option<i32>, own: i32) -> i32
     ensures { result ≡ frame_offset linked own }
 {
     match linked {
-        Some(value) => clamped(value),
+        Some(value) => value.clamp(0, 4096),
         None => own,
     }
 }

@@ -4,8 +4,10 @@ use Rattle.std.specs.List.{list_any, list_all, All, find, count_by, range_with_l
 use Rattle.std.specs.Option.{option_map, option_map_or, option_and_then}
 use Rattle.std.specs.Str.{bytes_eq}
 use Rattle.std.specs.Prelude.{IfSome}
-use Rattle.std.proofs.lemmas.Bool.{true≢false, false≢true, and_parts, or_parts, eqb-true, ltb-true}
-use Rattle.std.proofs.lemmas.Bool.Decides.{nat_tests}
+use Rattle.std.specs.Cmp.{nat_eq_equiv}
+use Rattle.std.specs.Cmp.Lexicographic.{nat_list_eq_equiv}
+use Rattle.std.proofs.Math.Bool.{and-false}
+use Rattle.std.proofs.lemmas.Bool.{true≢false, false≢true, and_parts, or_parts, eqb-true, ltb-true, false_from_ne_true}
 use Rattle.std.proofs.Math.Nat.{mul_comm}
 use Rattle.std.proofs.lemmas.List.Sums.{sum_by-cons}
 use Rattle.std.proofs.lemmas.Slice.Eq.{bytes_eq-Decides}
@@ -25,6 +27,7 @@ use Rattle.widget_model.specs.Trees.{is_admitted}
 use Rattle.widget_model.specs.Widgets.{key_at}
 use Rattle.widget_model.specs.Fitting.{IsFitFilm}
 use Rattle.widget_model.proofs.Hanging.{find-element, all_at}
+use Rattle.widget_model.proofs.Naming.{row_named-parts}
 use Rattle.scene_model.specs.Scene.{Scene}
 use Rattle.scene_model.specs.Showing.{place_of, top_of}
 use Rattle.scene_model.specs.Bands.{lying_at, is_top, film_in_band, shows_band}
@@ -35,15 +38,10 @@ use Rattle.desk_model.specs.Screens.{film_named}
 use Rattle.desk_model.specs.Seen.{scene_of}
 use Rattle.desk_model.specs.Beat.{beat, band_next, bands_next, in_band_of, in_band, band_count}
 use Rattle.desk_model.proofs.BeatRows.{film_beaten, film_beaten-keeps, film_named-beaten}
-use Rattle.machine_model.proofs.DamageKeys.{same_key-from}
-use Rattle.painter_core.proofs.KeyLemmas.{same_key-true}
+use Rattle.machine_model.proofs.DamageKeys.{same_key-is, same_key-from}
 use Rattle.scene_core.specs.declared.view.View.{View}
 use Rattle.scene_core.specs.View as views
 use Rattle.drawing_core.specs.Banding.{shows_a_band, AreOfOneEach}
-
-never : (b : Bool) → (b ≡ true → ⊥) → b ≡ false
-never true h = absurd (h refl)
-never false h = refl
 
 list_any-map : {X Y : Type 0} (test : Y → Bool) (f : X → Y) (xs : List X) → list_any test (map f xs) ≡ list_any (λ x. test (f x)) xs
 list_any-map test f [] = refl
@@ -72,15 +70,6 @@ film_in-named scene key band x y = film_test (lies_in scene key band x y) (row_o
 -- a film that is admitted after a beat was admitted before it, and a beat keeps it admitted
 admitted-beaten : (film : FilmState) → nat_lt 0 (film_beaten film).period ≡ nat_lt 0 film.period
 admitted-beaten film = ap (λ n. nat_lt 0 n) (film_beaten-keeps film).period
-
--- what is found passes
-find-passes : {X : Type 0} (p : X → Bool) (xs : List X) (x : X) → find p xs ≡ Some x → p x ≡ true
-find-passes p [] x found = absurd (cc)
-find-passes p (y ∷ ys) x found = by (λ h. find-passes p ys x h) (p y) refl found
-  where
-    by : (find p ys ≡ Some x → p x ≡ true) → (b : Bool) → p y ≡ b → cond b (Some y) (find p ys) ≡ Some x → p x ≡ true
-    by rest true on h = let same : y ≡ x = cc in sym (ap p same) ∙ on
-    by rest false off h = rest h
 
 -- the named film is a whole one
 named_film : (rows : List Row) (client : ℕ) (name : List ℕ) (film : FilmState) → All IsFitFilm rows → film_named rows client name ≡ Some film → IsFilm film
@@ -125,23 +114,11 @@ drawn_here desk admission x y is share =
         → option_map_or (lies_in (scene_of (beat desk)) (key_in admission) (option_map_or band_now o (record { from = 0; to = 0 })) x y) (option_map film_beaten o) false ≡ option_map_or (drawn_in (scene_of (beat desk)) (key_in admission) x y) (option_map film_beaten o) false
     by None named has = refl
     by (Some film) named has =
-        beaten_lies (scene_of (beat desk)) (key_in admission) x y film (and_parts (nat_lt 0 film.period) _ has).0 (named_film desk.rows admission.client admission.name film is.films named)
-
-flip-eq : (a b : ℕ) → nat_eq a b ≡ nat_eq b a
-flip-eq a b = grind (arith, nat_tests)
-
-flip-bytes : (a b : List ℕ) → bytes_eq a b ≡ bytes_eq b a
-flip-bytes a b = by (bytes_eq a b) refl (bytes_eq b a) refl
-  where
-    by : (s : Bool) → bytes_eq a b ≡ s → (t : Bool) → bytes_eq b a ≡ t → s ≡ t
-    by true e true f = refl
-    by true e false f = absurd (true≢false (sym ((bytes_eq-Decides b a).1 (sym ((bytes_eq-Decides a b).0 e))) ∙ f))
-    by false e true f = absurd (true≢false (sym ((bytes_eq-Decides a b).1 (sym ((bytes_eq-Decides b a).0 f))) ∙ e))
-    by false e false f = refl
+        beaten_lies (scene_of (beat desk)) (key_in admission) x y film (and_parts (nat_lt 0 film.period) _ has).0 (named_film desk.rows admission.client admission.name film is.rows.films named)
 
 -- an admission is of the VScreen with this key, said in two ways
 admission-key : (client : ℕ) (name : List ℕ) (admission : Admission) → is_admission client name admission ≡ same_key (key_in admission) (client, name)
-admission-key client name admission = λ i. flip-eq client admission.client i && flip-bytes name admission.name i
+admission-key client name admission = λ i. nat_eq_equiv.symm client admission.client i && nat_list_eq_equiv.symm name admission.name i
 
 any_key : (roster : List Admission) (key : ℕ × List ℕ) → list_any (is_admission key.0 key.1) roster ≡ list_any (λ (admission : Admission). same_key (key_in admission) key) roster
 any_key roster key = λ i. list_any (λ (admission : Admission). admission-key key.0 key.1 admission i) roster
@@ -160,11 +137,8 @@ is_in_roster desk key film is named admitted = by (row_named desk.rows key.0 key
         let at = find-element (has_name key.0 key.1) desk.rows row found in
         let whole : is_admitted row ≡ true = ap (λ (o : Option FilmState). option_map_or (λ (film : FilmState). nat_lt 0 film.period) o false) has ∙ admitted in
         let there = listed row (is_admitted row) (list_any (is_admission row.client row.name) desk.roster) whole (all_at (is_listed desk.roster) desk.rows at.0 row is.roster.all at.1) in
-        let names = and_parts (nat_eq key.0 row.client) (bytes_eq key.1 row.name) (find-passes (has_name key.0 key.1) desk.rows row found) in
-        let client : row.client ≡ key.0 = sym (eqb-true key.0 row.client names.0) in
-        let name : row.name ≡ key.1 = sym ((bytes_eq-Decides key.1 row.name).0 names.1) in
-        let here : list_any (is_admission key.0 key.1) desk.roster ≡ true = subst (λ c. list_any (is_admission c key.1) desk.roster ≡ true) client (subst (λ (n : List ℕ). list_any (is_admission row.client n) desk.roster ≡ true) name there) in
-        sym (any_key desk.roster key) ∙ here
+        let names = row_named-parts desk.rows key.0 key.1 row found in
+        sym (any_key desk.roster key) ∙ sym (λ i. list_any (is_admission (names.0 i) (names.1 i)) desk.roster) ∙ there
 
 -- where a pixel is in a band of the VScreen, it has an admission
 in_roster : (desk : Desk) (key : ℕ × List ℕ) (x y : ℤ) → IsDesk desk → in_band_of (beat desk) key x y ≡ true → list_any (λ (admission : Admission). same_key (key_in admission) key) desk.roster ≡ true
@@ -178,11 +152,7 @@ in_roster desk key x y is shown =
 
 either_one : (p q b some : Bool) (rest : Bool) → (p ≡ true → q ≡ b) → rest ≡ (some && b) → ((p && q) || rest) ≡ ((p || some) && b)
 either_one true q true some rest h e = ap (λ t. t || rest) (h refl)
-either_one true q false some rest h e = ap (λ t. t || rest) (h refl) ∙ e ∙ and_none some
-  where
-    and_none : (a : Bool) → (a && false) ≡ false
-    and_none true = refl
-    and_none false = refl
+either_one true q false some rest h e = ap (λ t. t || rest) (h refl) ∙ e ∙ and-false some
 either_one false q b some rest h e = e
 
 any_of_one : {X : Type 0} (p q holds : X → Bool) (b : Bool) (xs : List X) → list_all holds xs ≡ true → ((x : X) → holds x ≡ true → p x ≡ true → q x ≡ b) → list_any (λ x. p x && q x) xs ≡ (list_any p xs && b)
@@ -222,14 +192,10 @@ in_band-roster desk x y is = by (top_of (scene_of (beat desk)) (pos x) (pos y))
   where
     same_there : (top : ℕ × List ℕ) (admission : Admission) → has_its_share desk.rows admission ≡ true → same_key (key_in admission) top ≡ true → film_in_band (scene_of (beat desk)) (key_in admission) (band_next desk.rows admission) (pos x) (pos y) ≡ in_band_of (beat desk) top (pos x) (pos y)
     same_there top admission share same =
-        drawn_here desk admission (pos x) (pos y) is share ∙ ap (λ (key : ℕ × List ℕ). in_band_of (beat desk) key (pos x) (pos y)) (same_key-true (key_in admission) top same)
+        drawn_here desk admission (pos x) (pos y) is share ∙ ap (λ (key : ℕ × List ℕ). in_band_of (beat desk) key (pos x) (pos y)) (same_key-is (key_in admission) top same)
 
     by : (top : Option (ℕ × List ℕ)) → list_any (λ (admission : Admission). option_map_or (same_key (key_in admission)) top false && film_in_band (scene_of (beat desk)) (key_in admission) (band_next desk.rows admission) (pos x) (pos y)) desk.roster ≡ option_map_or (λ (key : ℕ × List ℕ). in_band_of (beat desk) key (pos x) (pos y)) top false
-    by None = any_of_one (λ (admission : Admission). false) (λ (admission : Admission). film_in_band (scene_of (beat desk)) (key_in admission) (band_next desk.rows admission) (pos x) (pos y)) (has_its_share desk.rows) false desk.roster is.roster.shares (λ admission share off. absurd (false≢true off)) ∙ none (list_any (λ (admission : Admission). false) desk.roster)
-      where
-        none : (a : Bool) → (a && false) ≡ false
-        none true = refl
-        none false = refl
+    by None = any_of_one (λ (admission : Admission). false) (λ (admission : Admission). film_in_band (scene_of (beat desk)) (key_in admission) (band_next desk.rows admission) (pos x) (pos y)) (has_its_share desk.rows) false desk.roster is.roster.shares (λ admission share off. absurd (false≢true off)) ∙ and-false (list_any (λ (admission : Admission). false) desk.roster)
     by (Some top) =
         any_of_one (λ (admission : Admission). same_key (key_in admission) top) (λ (admission : Admission). film_in_band (scene_of (beat desk)) (key_in admission) (band_next desk.rows admission) (pos x) (pos y)) (has_its_share desk.rows) (in_band_of (beat desk) top (pos x) (pos y)) desk.roster is.roster.shares (same_there top)
         ∙ implied (list_any (λ (admission : Admission). same_key (key_in admission) top) desk.roster) (in_band_of (beat desk) top (pos x) (pos y)) (in_roster desk top (pos x) (pos y) is)
@@ -281,7 +247,7 @@ not_handed entries band key id (entry ∷ items) (admission ∷ roster) at same 
     let heads : named_band entries entry ≡ keyed_band (admitted_band band admission) = cc in
     let tails : map (named_band entries) items ≡ map keyed_band (map (admitted_band band) roster) = cc in
     let others = or_parts (is_admission key.0 key.1 admission) (list_any (is_admission key.0 key.1) roster) none in
-    let here : nat_eq id entry.0.key ≡ false = never (nat_eq id entry.0.key) (λ equal.
+    let here : nat_eq id entry.0.key ≡ false = false_from_ne_true (nat_eq id entry.0.key) (λ equal.
     let one : Some key ≡ Some (key_in admission) = sym at ∙ ap (key_at entries) (eqb-true id entry.0.key equal) ∙ ap (λ (b : Option (ℕ × List ℕ) × Band). b.0) heads in
     let keys : key_in admission ≡ key = cc in
     true≢false (sym (same_key-from (key_in admission) key keys) ∙ sym (admission-key key.0 key.1 admission) ∙ others.0)) in

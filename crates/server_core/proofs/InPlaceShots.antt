@@ -39,7 +39,7 @@ shown-window sight id key is shown at =
     let under = shown-under sight.widgets sight.windows id shown in
     let root = root_key (rows_of sight.widgets) key in
     let named : id_named (nodes sight.widgets.entries) root.0 root.1 ≡ Some under.window = sym (root-named sight.widgets id key at) ∙ under.root in
-    ap (is_kind_of is_window_kind) (row_named-found sight.widgets.entries root.0 root.1 under.window is.valid.forest.own_numbers named)
+    ap (is_kind_of is_window_kind) (row_named-found sight.widgets.entries root.0 root.1 under.window is.valid.numbered.own_numbers named)
     ∙ of-kind (row_at sight.widgets.entries under.window) (All-contains (λ (n : ℕ). row_kind sight.widgets.entries n ≡ Some Window) sight.windows under.window is.windows.each under.among)
   where
     of-kind : (o : Option Row) → option_map (λ (row : Row). row.kind) o ≡ Some Window → is_kind_of is_window_kind o ≡ true
@@ -66,7 +66,7 @@ record AreInPlace (old new : Sight) : Type 0 where
 
 module _ (old new : Sight) (width height : ℕ) (still : AreInPlace old new) where
   entries : map hung_entry new.widgets.entries ≡ map hung_entry old.widgets.entries
-  entries = entries-alike old.widgets.entries new.widgets.entries still.numbers still.is.valid.forest.own_numbers still.is'.valid.forest.own_numbers still.hung
+  entries = entries-alike old.widgets.entries new.widgets.entries still.numbers still.is.valid.numbered.own_numbers still.is'.valid.numbered.own_numbers still.hung
 
   windows : new.windows ≡ old.windows
   windows = windows-alike old.widgets.entries new.widgets.entries old.windows new.windows still.numbers still.is.windows.each still.is'.windows.each still.windows
@@ -107,7 +107,7 @@ module _ (old new : Sight) (width height : ℕ) (still : AreInPlace old new) whe
     shows = λ id x y shown.
         let one = seen id shown in
         shows-number new width height id one.key x y one.at'
-        ∙ shows_at-alike (scene_in old width height) (scene_in new width height) still.hung still.places one.key x y refl refl still.is.valid.planted one.under one.under'
+        ∙ shows_at-alike (scene_in old width height) (scene_in new width height) still.hung still.places one.key x y refl refl still.is.valid.rows.planted one.under one.under'
         ∙ sym (shows-number old width height id one.key x y one.at);
   }
 

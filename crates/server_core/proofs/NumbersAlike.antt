@@ -8,19 +8,17 @@ use Rattle.std.proofs.lemmas.List.Elements.{All-head, All-tail}
 use Rattle.kind_core.specs.declared.kinds.Kind.TheVariants.{Window}
 use Rattle.kind_core.specs.declared.shapes.Cell.{Cell}
 use Rattle.widget_model.specs.Rows.{Row}
-use Rattle.widget_model.specs.Nodes.{node_of, id_named, node_at}
+use Rattle.widget_model.specs.Nodes.{id_named, node_at}
 use Rattle.widget_model.specs.Keys.{key_of}
 use Rattle.widget_model.specs.Trees.{root_of}
-use Rattle.widget_model.specs.Widgets.{Widgets, nodes, rows_of, row_at, row_kind, key_at}
+use Rattle.widget_model.specs.Widgets.{Widgets, nodes, rows_in, rows_of, row_at, row_kind, key_at}
 use Rattle.widget_model.specs.Relatives.{parent_id, root_id}
 use Rattle.widget_model.specs.Forest.{HaveOwnNumbers}
+use Rattle.row_store.proofs.UnderNumbers.{row_at-absent}
 use Rattle.scene_core.specs.View.{keys_of}
 use Rattle.desk_layout.specs.Numbers.{KeepsNumbers}
 use Rattle.desk_model.specs.InPlace.{hung_of}
 use Rattle.server_core.proofs.RowsAlike.{Hung, is_hung, root_of-alike}
-
-abbrev rows_in : List (ℕ × Row) → List Row
-rows_in entries = map (λ (entry : ℕ × Row). entry.1) entries
 
 abbrev pub hung_entry : ℕ × Row → ℕ × Hung
 hung_entry entry = (entry.0, hung_of entry.1)
@@ -30,22 +28,13 @@ abbrev AreKeyed : List (ℕ × Row) → List (ℕ × Row) → Type 0
 AreKeyed all [] = Unit {0}
 AreKeyed all (entry ∷ entries) = (row_at all entry.0 ≡ Some entry.1) × AreKeyed all entries
 
-node_at-row : (entries : List (ℕ × Row)) (id : ℕ) → node_at (nodes entries) id ≡ option_map node_of (row_at entries id)
-node_at-row [] id = refl
-node_at-row (entry ∷ entries) id = by (node_at-row entries id) (nat_eq id entry.0)
-  where
-    by : node_at (nodes entries) id ≡ option_map node_of (row_at entries id) → (b : Bool) → cond b (Some (node_of entry.1)) (node_at (nodes entries) id) ≡ option_map node_of (cond b (Some entry.1) (row_at entries id))
-    by rest true = refl
-    by rest false = rest
-
 keyed-more : (first : ℕ × Row) (all entries : List (ℕ × Row)) → node_at (nodes all) first.0 ≡ None → AreKeyed all entries → AreKeyed (first ∷ all) entries
 keyed-more first all [] none keyed = tt
 keyed-more first all (entry ∷ entries) none keyed = (by (nat_eq entry.0 first.0) refl, keyed-more first all entries none keyed.1)
   where
     by : (b : Bool) → nat_eq entry.0 first.0 ≡ b → cond b (Some first.1) (row_at all entry.0) ≡ Some entry.1
     by true same =
-        let found : option_map node_of (row_at all first.0) ≡ Some (node_of entry.1) = ap (λ id. option_map node_of (row_at all id)) (sym (eqb-true entry.0 first.0 same)) ∙ ap (option_map node_of) keyed.0 in
-        let lost : Some (node_of entry.1) ≡ None = sym found ∙ sym (node_at-row all first.0) ∙ none in
+        let lost : Some entry.1 ≡ None = sym keyed.0 ∙ ap (row_at all) (eqb-true entry.0 first.0 same) ∙ row_at-absent all first.0 none in
         absurd (cc)
     by false other = keyed.0
 

@@ -1,7 +1,8 @@
 -- What a change of the desk reaches, from the views before and after.
 use Rattle.std.proofs.Common.{◌≡◌, ℕ, pos, arith, Bool, false, ◌&&◌, ◌||◌, not, List, [], ◌∷◌, Option, Some, None, nat_eq, refl, sym, ap, ◌∙◌, subst}
 use Rattle.std.specs.List.{list_any}
-use Rattle.std.proofs.lemmas.Bool.Decides.{nat_tests}
+use Rattle.std.proofs.Math.Bool.{or-false}
+use Rattle.std.specs.Cmp.{nat_eq_equiv}
 use Rattle.std.specs.Option.{option_map, option_map_or}
 use Rattle.kind_core.specs.declared.shapes.Shape.{Shape}
 use Rattle.look_core.specs.Seen as looks
@@ -52,12 +53,9 @@ shows_of_desk desk view shot scene tree stack is shows = record {
   is_shot = shows;
 }
 
-equal_either_way : (a b : ℕ) → nat_eq a b ≡ nat_eq b a
-equal_either_way a b = grind (arith, nat_tests)
-
 holds-any : (windows : List ℕ) (key : ℕ) → holds_key windows key ≡ list_any (nat_eq key) windows
 holds-any [] key = refl
-holds-any (window ∷ windows) key = λ i. equal_either_way window key i || holds-any windows key i
+holds-any (window ∷ windows) key = λ i. nat_eq_equiv.symm window key i || holds-any windows key i
 
 -- the numbered widget is shown, said in two ways
 shown-same : (widgets : Widgets) (windows : List ℕ) (id : ℕ) → is_shown_at widgets windows id ≡ is_shown_id widgets windows id
@@ -151,11 +149,8 @@ shows_still before after shot stays shows = record {
 -- and dirties nothing
 pub marked_still : (before after : Desk) (dirt : Dirt) → IsDesk before → IsDirt dirt → after ≡ before → MarkedReach before after dirt dirt
 marked_still before after dirt fine is same = record {
-  pixels = λ x y hx hy. or_none (is_dirty dirt x y) (in_reach (scene_of before) (scene_of after) (pos x) (pos y)) (ap (λ (d : Desk). in_reach (scene_of before) (scene_of d) (pos x) (pos y)) same ∙ still_unreached (scene_of before) fine.once (pos x) (pos y));
+  pixels = λ x y hx hy. sym (ap (λ (reached : Bool). is_dirty dirt x y || reached) (ap (λ (d : Desk). in_reach (scene_of before) (scene_of d) (pos x) (pos y)) same ∙ still_unreached (scene_of before) fine.once (pos x) (pos y)) ∙ or-false (is_dirty dirt x y));
   width = refl;
   height = refl;
   valid = is;
 }
-  where
-    or_none : (a b : Bool) → b ≡ false → a ≡ (a || b)
-    or_none a b none = rw none (grind arith)

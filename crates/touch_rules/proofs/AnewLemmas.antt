@@ -78,7 +78,7 @@ anew-there widgets client command payload name id film differs valid named found
     joined (Some row) p = cc
 
     film_is : film_named (rows_of widgets) client name ≡ film
-    film_is = ap (option_and_then (λ (row : Row). row.film)) (row_named-found widgets.entries client name id valid.forest.own_numbers (sym found)) ∙ joined (row_at widgets.entries id) there
+    film_is = ap (option_and_then (λ (row : Row). row.film)) (row_named-found widgets.entries client name id valid.numbered.own_numbers (sym found)) ∙ joined (row_at widgets.entries id) there
 
 -- the number of a widget, where it is shown
 pub shown-where : (widgets : Widgets) (windows : List ℕ) (id : ℕ) (number : Option ℕ) (shown : Bool) → Some id ≡ number → shown ≡ is_shown_at widgets windows id → cond shown (Some id) None ≡ where_shown widgets windows number

@@ -1,17 +1,15 @@
 -- From keys to numbers: where a widget's key is among some, as those of what the pointer holds, its number is among theirs.
 use Rattle.std.proofs.Common.{◌≡◌, ℕ, Bool, true, false, ◌||◌, nat_eq, List, ◌++◌, Option, Some, None, refl, sym, ap, ◌∙◌}
 use Rattle.std.proofs.Math.Bool.{or-true, or-false}
-use Rattle.std.proofs.lemmas.Bool.{true≢false, eqb-true, eq-eqb, and_parts}
+use Rattle.std.proofs.lemmas.Bool.{true≢false, eq-eqb}
 use Rattle.std.proofs.lemmas.List.Folds.{list_any-append}
-use Rattle.std.proofs.lemmas.Slice.Eq.{bytes_eq-Decides}
 use Rattle.std.specs.List.{list_any}
 use Rattle.std.specs.Option.{option_map, option_map_or, option_and_then}
-use Rattle.std.specs.Str.{bytes_eq}
+use Rattle.widget_model.specs.Named.{AreNamedApart}
 use Rattle.widget_model.specs.Rows.{Row}
 use Rattle.widget_model.specs.Keys.{key_of, same_key}
 use Rattle.widget_model.specs.Nodes.{id_named}
-use Rattle.widget_model.specs.Widgets.{nodes, row_at, key_at}
-use Rattle.widget_model.specs.Forest.{HaveOwnNames}
+use Rattle.widget_model.specs.Widgets.{nodes, row_at, key_at, rows_in}
 use Rattle.widget_model.specs.Pointer.{on_widget, drags, no_grab}
 use Rattle.widget_model.proofs.Naming.{id_named-row}
 use Rattle.tree_core.specs.declared.id.Id.{Id}
@@ -19,26 +17,22 @@ use Rattle.tree_core.specs.declared.pointer.Grab.{Grab}
 use Rattle.tree_core.specs.declared.pointer.Grab.TheVariants.{Nothing, Widget, Drag}
 use Rattle.tree_core.specs.declared.pointer.Pointer.{Pointer}
 use Rattle.tree_core.specs.Holds.{grab_seen, pointer_seen}
+use Rattle.scene_core.proofs.Finds.{same_key-true}
 use Rattle.desk_model.specs.Feeding.{grabbed}
 use Rattle.desk_model.specs.Scope.{is_among, keys_in, held_keys}
 use Rattle.touch_rules.specs.Telling.{numbers_in, grabbed_number, held_numbers}
 
-same_key-equal : (a b : ℕ × List ℕ) → same_key a b ≡ true → a ≡ b
-same_key-equal a b same =
-    let parts = and_parts (nat_eq a.0 b.0) (bytes_eq a.1 b.1) same in
-    ap (λ (n : ℕ). (n, a.1)) (eqb-true a.0 b.0 parts.0) ∙ ap (λ (t : List ℕ). (b.0, t)) ((bytes_eq-Decides a.1 b.1).0 parts.1)
-
 -- the key of a list of one
 pub among-one : (keys : Option (ℕ × List ℕ)) (key : ℕ × List ℕ) → is_among (keys_in keys) key ≡ true → keys ≡ Some key
 among-one None key among = absurd (true≢false (sym among))
-among-one (Some one) key among = ap Some (sym (same_key-equal key one (sym (or-false (same_key key one)) ∙ among)))
+among-one (Some one) key among = ap Some (sym (same_key-true key one (sym (or-false (same_key key one)) ∙ among)))
 
 pub number-one : (numbers : Option ℕ) (id : ℕ) → numbers ≡ Some id → list_any (nat_eq id) (numbers_in numbers) ≡ true
 number-one None id is = absurd (cc)
 number-one (Some one) id is = let same : one ≡ id = cc in ap (λ (b : Bool). b || false) (eq-eqb id one (sym same))
 
 -- the number of a key
-key_at-number : (es : List (ℕ × Row)) (number id : ℕ) (row : Row) → HaveOwnNames (nodes es) → row_at es id ≡ Some row → key_at es number ≡ Some (key_of row) → number ≡ id
+key_at-number : (es : List (ℕ × Row)) (number id : ℕ) (row : Row) → AreNamedApart (rows_in es) → row_at es id ≡ Some row → key_at es number ≡ Some (key_of row) → number ≡ id
 key_at-number es number id row names there key = by (row_at es number) refl key
   where
     by : (o : Option Row) → row_at es number ≡ o → option_map key_of o ≡ Some (key_of row) → number ≡ id
@@ -50,7 +44,7 @@ key_at-number es number id row names there key = by (row_at es number) refl key
         cc
 
 -- The number of a widget is in a list of one where its key is.
-pub number-among : (es : List (ℕ × Row)) (number : Option ℕ) (id : ℕ) (row : Row) → HaveOwnNames (nodes es) → row_at es id ≡ Some row → is_among (keys_in (option_and_then (key_at es) number)) (key_of row) ≡ true → list_any (nat_eq id) (numbers_in number) ≡ true
+pub number-among : (es : List (ℕ × Row)) (number : Option ℕ) (id : ℕ) (row : Row) → AreNamedApart (rows_in es) → row_at es id ≡ Some row → is_among (keys_in (option_and_then (key_at es) number)) (key_of row) ≡ true → list_any (nat_eq id) (numbers_in number) ≡ true
 number-among es None id row names there among = absurd (true≢false (sym among))
 number-among es (Some number) id row names there among = number-one (Some number) id (ap Some (key_at-number es number id row names there (among-one (key_at es number) (key_of row) among)))
 
@@ -87,7 +81,7 @@ focus-number es None = refl
 focus-number es (Some id) = refl
 
 -- what the pointer holds
-pub held-among : (es : List (ℕ × Row)) (pointer : Pointer) (id : ℕ) (row : Row) → HaveOwnNames (nodes es) → row_at es id ≡ Some row → is_among (held_keys (pointer_seen es pointer)) (key_of row) ≡ true → list_any (nat_eq id) (held_numbers pointer) ≡ true
+pub held-among : (es : List (ℕ × Row)) (pointer : Pointer) (id : ℕ) (row : Row) → AreNamedApart (rows_in es) → row_at es id ≡ Some row → is_among (held_keys (pointer_seen es pointer)) (key_of row) ≡ true → list_any (nat_eq id) (held_numbers pointer) ≡ true
 held-among es pointer id row names there among =
     among-either (same_key (key_of row)) (nat_eq id)
     (keys_in (option_and_then (key_at es) (grabbed_number pointer.grab))) (keys_in (option_and_then (key_at es) (option_map (λ (id : Id). id.key) pointer.focus)))

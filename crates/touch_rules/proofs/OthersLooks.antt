@@ -1,6 +1,6 @@
 -- The look of another client's widget stays, so a client that leaves touches nothing.
-use Rattle.std.proofs.Common.{◌≡◌, ℕ, Bool, true, false, cond, ◌&&◌, not, nat_eq, List, [], ◌∷◌, Option, Some, None, ◌⊎◌, inl, inr, refl, sym, ap, ◌∙◌}
-use Rattle.std.proofs.lemmas.Bool.{true≢false, eqb-true, eq-eqb, and_parts}
+use Rattle.std.proofs.Common.{◌≡◌, ℕ, Bool, true, false, ◌&&◌, not, nat_eq, List, Option, Some, None, ◌⊎◌, inl, inr, refl, sym, ap, ◌∙◌}
+use Rattle.std.proofs.lemmas.Bool.{true≢false, eqb-true, eq-eqb}
 use Rattle.std.specs.List.{list_all}
 use Rattle.std.specs.Option.{option_map, option_map_or, option_and_then}
 use Rattle.std.specs.Str.{bytes_eq}
@@ -12,6 +12,7 @@ use Rattle.widget_model.specs.Nodes.{Node, is_number_of}
 use Rattle.widget_model.specs.Widgets.{nodes, row_at}
 use Rattle.widget_model.specs.Pointer.{Grab, no_grab, on_widget, drags, Pointer}
 use Rattle.widget_model.proofs.OwnRows.{row_named-agree}
+use Rattle.tree_core.proofs.TreeKept.{nodes-all}
 use Rattle.scene_model.specs.Scene.{Scene}
 use Rattle.scene_model.specs.LookOf.{look_of, grabs}
 use Rattle.scene_model.specs.Values.{number_of, linked_value}
@@ -70,16 +71,7 @@ linked-others old new row same = ap (option_map (number_of Value)) (by row.link)
 
 -- a number is one of its row's client
 pub number-of-row : (es : List (ℕ × Row)) (id : ℕ) (row : Row) → list_all (λ (e : ℕ × Node). is_number_of e.1.client e.0) (nodes es) ≡ true → row_at es id ≡ Some row → is_number_of row.client id ≡ true
-number-of-row [] id row all there = absurd (cc)
-number-of-row (e ∷ es) id row all there =
-    let parts = and_parts (is_number_of e.1.client e.0) (list_all (λ (e : ℕ × Node). is_number_of e.1.client e.0) (nodes es)) all in
-    by (number-of-row es id row parts.1) parts.0 (nat_eq id e.0) refl there
-  where
-    by : (row_at es id ≡ Some row → is_number_of row.client id ≡ true) → is_number_of e.1.client e.0 ≡ true → (b : Bool) → nat_eq id e.0 ≡ b → cond b (Some e.1) (row_at es id) ≡ Some row → is_number_of row.client id ≡ true
-    by rest first true same found =
-        let row_is : e.1 ≡ row = cc in
-        ap (λ (r : Row). is_number_of r.client id) (sym row_is) ∙ ap (is_number_of e.1.client) (eqb-true id e.0 same) ∙ first
-    by rest first false differs found = rest found
+number-of-row es id row all there = nodes-all (λ (e : ℕ × Node). is_number_of e.1.client e.0) es id row all there
 
 -- a number that is none of the client's is another's
 others-row : (client id : ℕ) (numbered : Numbered) (row : Row) → IsNumbered numbered → is_number_of client id ≡ false → row_at numbered.widgets.entries id ≡ Some row → nat_eq client row.client ≡ false
@@ -87,7 +79,7 @@ others-row client id numbered row valid other there = by (nat_eq client row.clie
   where
     by : (b : Bool) → nat_eq client row.client ≡ b → b ≡ false
     by false e = refl
-    by true e = absurd (true≢false (sym (number-of-row numbered.widgets.entries id row valid.widgets.forest.numbers there) ∙ ap (λ (n : ℕ). is_number_of n id) (sym (eqb-true client row.client e)) ∙ other))
+    by true e = absurd (true≢false (sym (number-of-row numbered.widgets.entries id row valid.widgets.numbered.numbers there) ∙ ap (λ (n : ℕ). is_number_of n id) (sym (eqb-true client row.client e)) ∙ other))
 
 -- its look stays
 look-others : (client id : ℕ) (before after : Numbered) (a b : Row) → IsNumbered before → IsNumbered after → IsOwnEvent client before after → is_number_of client id ≡ false → row_at before.widgets.entries id ≡ Some a → row_at after.widgets.entries id ≡ Some b → look_of after.scene b ≡ look_of before.scene a

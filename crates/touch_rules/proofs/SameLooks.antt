@@ -51,7 +51,7 @@ look_of-same s s' a b same value held focus = ap (λ (row : Row). look_by row.ki
 pub named-row : (numbered : Numbered) (id : ℕ) (row : Row) → IsNumbered numbered → row_at numbered.widgets.entries id ≡ Some row → row_named numbered.scene.rows row.client row.name ≡ Some row
 named-row numbered id row valid there =
     ap (λ (rows : List Row). row_named rows row.client row.name) valid.rows
-    ∙ row_named-row numbered.widgets.entries id row valid.widgets.forest.own_numbers valid.widgets.forest.own_names there
+    ∙ row_named-row numbered.widgets.entries id row valid.widgets.numbered.own_numbers valid.widgets.rows.names there
 
 -- a shown widget is live
 pub shown-live : (widgets : Widgets) (windows : List ℕ) (id : ℕ) → is_shown_at widgets windows id ≡ true → IsSome (row_at widgets.entries id)

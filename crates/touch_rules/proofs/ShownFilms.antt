@@ -2,14 +2,15 @@
 use Rattle.std.proofs.Common.{◌≡◌, ℕ, Bool, true, false, cond, ◌&&◌, not, nat_eq, List, [], ◌∷◌, ◌++◌, Option, Some, None, refl, sym, ap, ◌∙◌}
 use Rattle.std.proofs.Math.Bool.{and-false}
 use Rattle.std.proofs.lemmas.Bool.{true≢false, eqb-true, eq-eqb, and_parts, and_from}
+use Rattle.std.proofs.lemmas.List.Folds.{find-append}
 use Rattle.std.proofs.lemmas.Slice.Eq.{bytes_eq-Decides}
-use Rattle.std.specs.List.{find}
 use Rattle.std.specs.Option.{option_map, option_map_or}
 use Rattle.std.specs.Str.{bytes_eq}
 use Rattle.vscreen_core.specs.FilmState.{FilmState}
 use Rattle.widget_model.specs.Rows.{Row}
 use Rattle.widget_model.specs.Named.{has_name, row_named, with_named, without_named}
-use Rattle.widget_model.proofs.Hanging.{LeavesNames, changed, LeavesNames-changed, row_named-map, row_named-filter, find-passes}
+use Rattle.widget_model.proofs.Hanging.{LeavesNames, changed, LeavesNames-changed, row_named-map, row_named-filter}
+use Rattle.widget_model.proofs.Naming.{has_name-parts, row_named-parts}
 use Rattle.touch_rules.specs.Films.{looks_alike, shown_film, ShowsAnew}
 
 -- a widget that is there before and after shows the same film
@@ -44,20 +45,12 @@ KeepFilms-named rows client name change leaves = record { each = each }
         ap shown_film same ∙ film before (has_name client name before)
 
 -- a row more
-find-push : (p : Row → Bool) (rows : List Row) (row found : Row) → find p rows ≡ Some found → find p (rows ++ row ∷ []) ≡ Some found
-find-push p [] row found is = absurd (cc)
-find-push p (first ∷ rows) row found is = by (find-push p rows row found) (p first) is
-  where
-    by : (find p rows ≡ Some found → find p (rows ++ row ∷ []) ≡ Some found) → (b : Bool) → cond b (Some first) (find p rows) ≡ Some found → cond b (Some first) (find p (rows ++ row ∷ [])) ≡ Some found
-    by rest true is = is
-    by rest false is = rest is
-
 pub KeepFilms-push : (rows : List Row) (row : Row) → KeepFilms rows (rows ++ row ∷ [])
 KeepFilms-push rows row = record { each = each }
   where
     each : (client : ℕ) (name : List ℕ) (before after : Row) → row_named rows client name ≡ Some before → row_named (rows ++ row ∷ []) client name ≡ Some after → shown_film after ≡ shown_film before
     each client name before after found found' =
-        let one : Some after ≡ Some before = sym found' ∙ find-push (has_name client name) rows row before found in
+        let one : Some after ≡ Some before = sym found' ∙ (find-append (has_name client name) rows (row ∷ []) ∙ rw found refl) in
         let same : after ≡ before = cc in
         ap shown_film same
 
@@ -118,18 +111,12 @@ ShowsAnew-named rows client name change test leaves looks = record { each = each
         same : after ≡ changed client name change before
         same = let e = one in cc
 
-        key : (nat_eq owner before.client ≡ true) × (bytes_eq other before.name ≡ true)
-        key = and_parts (nat_eq owner before.client) (bytes_eq other before.name) (find-passes (has_name owner other) rows before found)
-
-        owner_is : owner ≡ before.client
-        owner_is = eqb-true owner before.client key.0
-
-        name_is : other ≡ before.name
-        name_is = (bytes_eq-Decides other before.name).0 key.1
+        parts : (before.client ≡ owner) × (before.name ≡ other)
+        parts = row_named-parts rows owner other before found
 
         -- whether it is that widget
         is_it : (nat_eq client owner && bytes_eq name other) ≡ has_name client name before
-        is_it = ap (λ (n : ℕ). nat_eq client n && bytes_eq name other) owner_is ∙ ap (λ (t : List ℕ). nat_eq client before.client && bytes_eq name t) name_is
+        is_it = sym (λ i. nat_eq client (parts.0 i) && bytes_eq name (parts.1 i))
 
         tests : (t b : Bool) → (nat_eq client owner && bytes_eq name other) ≡ b → (b ≡ true → t ≡ test) → (b ≡ false → t ≡ false) → t ≡ (nat_eq client owner && option_map_or (λ one. bytes_eq one other) (cond test (Some name) None) false)
         tests t b it named stays = at test b it named stays
@@ -142,10 +129,8 @@ ShowsAnew-named rows client name change test leaves looks = record { each = each
 
         by : (b : Bool) → has_name client name before ≡ b → not (looks_alike (shown_film before) (shown_film after)) ≡ (nat_eq client owner && option_map_or (λ one. bytes_eq one other) (cond test (Some name) None) false)
         by true e =
-            let parts = and_parts (nat_eq client before.client) (bytes_eq name before.name) e in
-            let own : owner ≡ client = owner_is ∙ sym (eqb-true client before.client parts.0) in
-            let name_own : other ≡ name = name_is ∙ sym ((bytes_eq-Decides name before.name).0 parts.1) in
-            let there : row_named rows client name ≡ Some before = sym (ap (λ (n : ℕ). row_named rows n other) own ∙ ap (row_named rows client) name_own) ∙ found in
+            let named = has_name-parts client name before e in
+            let there : row_named rows client name ≡ Some before = sym (λ i. row_named rows (named.0 i) (named.1 i)) ∙ (λ i. row_named rows (parts.0 i) (parts.1 i)) ∙ found in
             let change_is : after ≡ change before = same ∙ ap (λ (b : Bool). cond b (change before) before) e in
             tests _ true (is_it ∙ e) (λ h. ap (λ (row : Row). not (looks_alike (shown_film before) (shown_film row))) change_is ∙ looks before there) (λ h. absurd (true≢false h))
         by false e =

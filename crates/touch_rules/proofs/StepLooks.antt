@@ -1,19 +1,18 @@
 -- What is kept before a command and told after it is what it touched.
 use Rattle.std.proofs.Common.{◌≡◌, ℕ, Bool, true, false, cond, ◌&&◌, ◌||◌, not, nat_eq, List, Option, Some, None, refl, sym, ap, ◌∙◌}
 use Rattle.std.proofs.Math.Bool.{and-false}
-use Rattle.std.proofs.lemmas.Bool.{eqb-true, eq-eqb, and_parts, and_from}
-use Rattle.std.proofs.lemmas.Slice.Eq.{bytes_eq-Decides}
+use Rattle.std.proofs.lemmas.Bool.{eqb-true, eq-eqb}
 use Rattle.std.specs.Option.{option_map_or, option_and_then}
 use Rattle.std.specs.Str.{bytes_eq}
 use Rattle.cmd_words.specs.declared.replies.Reply.{Reply}
 use Rattle.cmd_words.specs.declared.replies.Reply.TheVariants.{Refused}
 use Rattle.widget_model.specs.Rows.{Row}
 use Rattle.widget_model.specs.Keys.{key_of}
-use Rattle.widget_model.specs.Named.{row_named}
+use Rattle.widget_model.specs.Named.{has_name, row_named}
 use Rattle.widget_model.specs.Nodes.{id_named}
 use Rattle.widget_model.specs.Widgets.{Widgets, nodes, rows_of, row_at}
 use Rattle.widget_model.specs.Forest.{IsWidgets}
-use Rattle.widget_model.proofs.Naming.{row_named-found, row_named-parts, id_named-row}
+use Rattle.widget_model.proofs.Naming.{has_name-parts, has_name-own, row_named-found, row_named-parts, id_named-row}
 use Rattle.scene_model.specs.Scene.{Scene}
 use Rattle.desk_model.specs.Desk.{Desk}
 use Rattle.desk_model.specs.Commands.{step}
@@ -38,11 +37,8 @@ number-name widgets client id row (Some name) valid there = by (nat_eq client ro
   where
     by : (b : Bool) → (nat_eq client row.client && bytes_eq name row.name) ≡ b → b ≡ is_number (id_named (nodes widgets.entries) client name) id
     by true e =
-        let parts = and_parts (nat_eq client row.client) (bytes_eq name row.name) e in
-        let own : client ≡ row.client = eqb-true client row.client parts.0 in
-        let named : name ≡ row.name = (bytes_eq-Decides name row.name).0 parts.1 in
-        let found : id_named (nodes widgets.entries) client name ≡ Some id =
-        ap (λ (n : ℕ). id_named (nodes widgets.entries) n name) own ∙ ap (id_named (nodes widgets.entries) row.client) named ∙ id_named-row widgets.entries id row valid.forest.own_names there in
+        let parts = has_name-parts client name row e in
+        let found : id_named (nodes widgets.entries) client name ≡ Some id = sym (λ i. id_named (nodes widgets.entries) (parts.0 i) (parts.1 i)) ∙ id_named-row widgets.entries id row valid.rows.names there in
         sym (ap (λ (o : Option ℕ). is_number o id) found ∙ eq-eqb id id refl)
     by false e = at (id_named (nodes widgets.entries) client name) refl
       where
@@ -50,9 +46,9 @@ number-name widgets client id row (Some name) valid there = by (nat_eq client ro
         other key found false same = refl
         other key found true same =
             let here : id_named (nodes widgets.entries) client name ≡ Some id = found ∙ ap Some (sym (eqb-true id key same)) in
-            let is : row_named (rows_of widgets) client name ≡ Some row = row_named-found widgets.entries client name id valid.forest.own_numbers here ∙ there in
+            let is : row_named (rows_of widgets) client name ≡ Some row = row_named-found widgets.entries client name id valid.numbered.own_numbers here ∙ there in
             let parts = row_named-parts (rows_of widgets) client name row is in
-            sym e ∙ and_from (nat_eq client row.client) (bytes_eq name row.name) (eq-eqb client row.client (sym parts.0)) ((bytes_eq-Decides name row.name).1 (sym parts.1))
+            sym e ∙ sym (λ i. has_name (parts.0 i) (parts.1 i) row) ∙ has_name-own row
 
         at : (o : Option ℕ) → id_named (nodes widgets.entries) client name ≡ o → false ≡ is_number o id
         at None found = refl

@@ -12,9 +12,9 @@ use Rattle.widget_model.specs.Named.{has_name, row_named, is_kind_of}
 use Rattle.widget_model.specs.Nodes.{id_named}
 use Rattle.widget_model.specs.Widgets.{Widgets, nodes, rows_of, row_at}
 use Rattle.widget_model.specs.Forest.{IsWidgets}
+use Rattle.widget_model.specs.RowFacts.{links_right}
 use Rattle.widget_model.proofs.Hanging.{all_at, find-element}
 use Rattle.widget_model.proofs.Naming.{row_named-parts, id_named-row}
-use Rattle.tree_core.proofs.LinkRows.{leads_in, all_lead-rows}
 use Rattle.tree_core.proofs.Listed.{listed_number, numbered_place}
 use Rattle.scene_model.specs.Scene.{Scene}
 use Rattle.scene_model.specs.LookOf.{look_of}
@@ -41,14 +41,14 @@ linked-row widgets id row name valid there is = by (row_named (rows_of widgets) 
     leads : is_kind_of is_variable_kind (row_named (rows_of widgets) row.client name) ≡ true
     leads =
         let place = numbered_place widgets.entries id row there in
-        sym (ap (leads_in (rows_of widgets) row.client) is)
-        ∙ all_at (λ (r : Row). leads_in (rows_of widgets) r.client r.link) (rows_of widgets) place.0 row (sym (all_lead-rows widgets.entries widgets.entries) ∙ valid.linked) place.1
+        sym (ap (λ (link : Option (List ℕ)). option_map_or (λ (variable : List ℕ). is_kind_of is_variable_kind (row_named (rows_of widgets) row.client variable)) link true) is)
+        ∙ all_at (links_right (rows_of widgets)) (rows_of widgets) place.0 row valid.rows.linked place.1
 
     by : (o : Option Row) → row_named (rows_of widgets) row.client name ≡ o → is_kind_of is_variable_kind o ≡ true → LeadsTo widgets row.client name
     by None e variable = absurd (true≢false (sym variable))
     by (Some target) e variable =
         let place = find-element (has_name row.client name) (rows_of widgets) target e in
-        let number = listed_number widgets.entries place.0 target valid.forest.own_numbers place.1 in
+        let number = listed_number widgets.entries place.0 target valid.numbered.own_numbers place.1 in
         let parts = row_named-parts (rows_of widgets) row.client name target e in
         let key : key_of target ≡ (row.client, name) = ap (λ (c : ℕ). (c, target.name)) parts.0 ∙ ap (λ (n : List ℕ). (row.client, n)) parts.1 in
         record {
@@ -56,7 +56,7 @@ linked-row widgets id row name valid there is = by (row_named (rows_of widgets) 
           row = target;
           at = number.1;
           key = key;
-          found = sym (ap (λ (k : ℕ × List ℕ). id_named (nodes widgets.entries) k.0 k.1) key) ∙ id_named-row widgets.entries number.0 target valid.forest.own_names number.1;
+          found = sym (ap (λ (k : ℕ × List ℕ). id_named (nodes widgets.entries) k.0 k.1) key) ∙ id_named-row widgets.entries number.0 target valid.rows.names number.1;
         }
 
 -- what would be in a list is in none where it isn't in the list

@@ -63,7 +63,7 @@ abbrev pub command_numbers : Widgets → ℕ → Command → Pointer → List �
 command_numbers widgets client command pointer = numbers_in (number_named widgets client command) ++ held_numbers pointer
 
 -- The scene is that of the desk, and the pointer's numbers are those of what it holds.
-pub record ShowsDesk (desk : Desk) (pointer : Pointer) (numbered : Numbered) : Type 0 where
+pub record NumbersDesk (desk : Desk) (pointer : Pointer) (numbered : Numbered) : Type 0 where
   pub scene : numbered.scene ≡ scene_of desk
   pub held : pointer_seen numbered.widgets.entries pointer ≡ desk.pointer
 
@@ -71,7 +71,7 @@ pub record ShowsDesk (desk : Desk) (pointer : Pointer) (numbered : Numbered) : T
 abbrev pub StepsTellLooks : Type 0
 StepsTellLooks =
     (desk : Desk) (client : ℕ) (command : Command) (payload : List ℕ) (short : Bool) (before after : Numbered) (pointer : Pointer) (looks : List (ℕ × Seen)) (touched : List ℕ)
-    → IsNumbered before → IsNumbered after → KeepsKeys before after → ShowsDesk desk pointer before
+    → IsNumbered before → IsNumbered after → KeepsKeys before after → NumbersDesk desk pointer before
     → AreWatched (command_numbers before.widgets client command pointer) (number_named before.widgets client command) before.widgets before.windows before.scene looks
     → after.scene ≡ scene_of (step desk client command payload short).1
     → ((id : ℕ) → list_any (nat_eq id) touched

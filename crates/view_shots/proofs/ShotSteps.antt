@@ -6,18 +6,16 @@ use Rattle.std.specs.List.{Contains, list_any}
 use Rattle.std.specs.Option.{option_map, option_map_or, option_and_then}
 use Rattle.geom_core.specs.declared.rectangle.Rect.{Rect}
 use Rattle.geom_core.specs.Rect.{in_rect}
-use Rattle.geom_core.specs.Count.{screen_of}
 use Rattle.kind_core.specs.declared.shapes.Cell.{Cell}
 use Rattle.widget_model.specs.Rows.{Row}
 use Rattle.widget_model.specs.Nodes.{id_named}
 use Rattle.widget_model.specs.Keys.{key_of}
-use Rattle.widget_model.specs.Widgets.{Widgets, rows_of, row_at, key_at, nodes, IsLive}
+use Rattle.widget_model.specs.Widgets.{Widgets, rows_of, nodes, IsLive}
 use Rattle.widget_model.specs.Forest.{IsWidgets}
 use Rattle.widget_model.specs.Relatives.{parent_id, root_id}
 use Rattle.widget_model.specs.Trees.{most_levels}
 use Rattle.tree_core.specs.declared.pointer.Pointer.{Pointer}
 use Rattle.tree_core.proofs.TreeKept.{row-owned}
-use Rattle.tree_core.proofs.ForestLemmas.{joined_in_range}
 use Rattle.scene_model.specs.Scene.{Scene}
 use Rattle.scene_model.specs.Placing.{place_in}
 use Rattle.scene_model.specs.Showing.{shows_at, on_screen}
@@ -26,10 +24,10 @@ use Rattle.shot_core.specs.Shot as shots
 use Rattle.shot_core.specs.Shot.{Seen, IsShot, IsBare, spot_at, windows_in}
 use Rattle.shot_core.specs.declared.spot.Spot.{Spot}
 use Rattle.scene_core.specs.Children.{row_for, AreChildren}
-use Rattle.scene_core.specs.View.{AreWindows, IsUnderOpen, scene_from}
+use Rattle.scene_core.specs.View.{IsUnderOpen, scene_from}
 use Rattle.scene_core.specs.Laid.{IsBelow}
 use Rattle.view_shots.specs.Shots.{place_by, shows_by, is_shown_id, IsSpotBy, IsShotBy}
-use Rattle.view_shots.specs.Spots.{IsShownSpot, AreSpots, Keeps, HasBelow, ArePut, ArePartlyPut, AreShot}
+use Rattle.view_shots.specs.Spots.{IsShownSpot, AreSpots, HasBelow, ArePut, ArePartlyPut, AreShot}
 use Rattle.scene_core.proofs.Numbered.{live-there}
 use Rattle.scene_core.proofs.LeastSteps.{child-live}
 use Rattle.scene_core.proofs.Tops.{window-alone, root-window, root-child, shows-window, shows-child, IsOpenWindow}
@@ -43,9 +41,8 @@ most_numbers-is = refl
 -- the number of a widget is below that of all numbers
 pub number-low : (widgets : Widgets) (id : ℕ) → IsWidgets widgets → IsLive widgets id → id < shots.most_numbers
 number-low widgets id valid live =
-    let own = row-owned widgets.clients widgets.entries id (row_for widgets id) valid.forest (live-there widgets id live) in
-    let range = joined_in_range widgets.clients (row_for widgets id).client own.joined valid.forest.clients_in_range in
-    omega (arith, own.to, range.1, most_numbers-is)
+    let own = row-owned widgets id (row_for widgets id) valid (live-there widgets id live) in
+    omega (arith, own.to, own.high, most_numbers-is)
 
 -- a number that stands in a list passes the test for it
 pub among-any : (ids : List ℕ) (id : ℕ) → Contains ids id → list_any (nat_eq id) ids ≡ true

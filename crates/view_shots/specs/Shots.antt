@@ -1,5 +1,5 @@
 -- The shot of a view: what the screen shows at one moment, by the numbers of the widgets.
-use Rattle.std.specs.Prelude.{ℕ, ℤ, pos, ◌≡◌, Bool, true, false, nat_eq, List, map, Option, None, Some, IsSomeAnd}
+use Rattle.std.specs.Prelude.{ℕ, ℤ, pos, ◌≡◌, Bool, true, false, nat_eq, List, map, None, Some, IsSomeAnd}
 use Rattle.std.specs.List.{list_any}
 use Rattle.std.specs.Option.{option_map_or}
 use Rattle.geom_core.specs.declared.rectangle.Rect.{Rect}

@@ -1,4 +1,4 @@
-use Rattle.std.proofs.Common.{ℕ, nat_eq, List, sym, ap, ◌∙◌}
+use Rattle.std.proofs.Common.{nat_eq, sym, ap, ◌∙◌}
 use Rattle.std.specs.List.{list_any}
 use Rattle.shot_core.specs.Shot.{numbers_of}
 use Rattle.damage_rules.proofs.Orders.{none-higher, higher-more, higher-all}

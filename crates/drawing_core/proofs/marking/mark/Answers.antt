@@ -1,4 +1,4 @@
-use Rattle.std.proofs.Common.{◌≡◌, subst}
+use Rattle.std.proofs.Common.{subst}
 use Rattle.drawing_core.specs.Marking.{Marked, is_given, is_given_of}
 use Rattle.drawing_core.proofs.MarkLemmas.{Marked-then}
 use Rattle.drawing_core.proofs.GivenLemmas.{given-listed}

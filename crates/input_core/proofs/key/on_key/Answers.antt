@@ -1,4 +1,4 @@
-use Rattle.std.proofs.Common.{◌≡◌, sym, ◌∙◌, subst, Option}
+use Rattle.std.proofs.Common.{sym, ◌∙◌, subst, Option}
 use Rattle.std.specs.Prelude.{IfSome}
 use Rattle.widget_model.specs.Widgets.{IsLive}
 use Rattle.tree_core.specs.declared.id.Id.{Id}

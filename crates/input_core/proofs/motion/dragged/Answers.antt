@@ -1,4 +1,4 @@
-use Rattle.std.proofs.Common.{ℤ, ◌≡◌, ◌&&◌, ◌∙◌, ap, ap₂, sym, subst, w32, to_z, of_z, map, false, [], Some, None}
+use Rattle.std.proofs.Common.{ℤ, ◌≡◌, ◌&&◌, ◌∙◌, ap, ap₂, sym, subst, w32, to_z, of_z, map, false, Some, None}
 use Rattle.std.specs.Ordering.{int_eq}
 use Rattle.std.proofs.lemmas.Int.{to_z-of_z}
 use Rattle.kind_core.specs.declared.kinds.Attr.TheVariants.{X, Y}

@@ -1,6 +1,5 @@
 use Rattle.std.proofs.Common.{ℕ, ◌≡◌, sym, ◌∙◌, ap₂, subst, true}
 use Rattle.widget_model.specs.Widgets.{IsLive, rows_of}
-use Rattle.widget_model.specs.Pointer as model
 use Rattle.tree_core.specs.Holds.{pointer_seen}
 use Rattle.desk_model.specs.InputTable.{motion_on, drag_on}
 use Rattle.input_core.specs.Live.{IsLiveGrab}

@@ -1,6 +1,5 @@
-use Rattle.std.proofs.Common.{sym, ap, ◌∙◌, Bool, Option, Some, None, cond, List, ℕ}
+use Rattle.std.proofs.Common.{sym, ap, ◌∙◌, Bool, Some, None, cond}
 use Rattle.desk_model.specs.InputTable.{takes_keys}
-use Rattle.kind_core.specs.declared.kinds.Kind.{Kind}
 use Rattle.widget_model.specs.Keys.{key_of}
 use Rattle.input_core.specs.Numbered.{numbered}
 use Rattle.input_core.proofs.Keys.{key_at-numbered}

@@ -1,4 +1,4 @@
-use Rattle.std.proofs.Common.{ℤ, pos, ◌≡◌, ◌∙◌, ap, sym, w32, to_z, of_z, true, unsigned_abs, int_lt, arith}
+use Rattle.std.proofs.Common.{ℤ, pos, ◌≡◌, ◌∙◌, ap, sym, w32, true, unsigned_abs, int_lt, arith}
 use Rattle.std.proofs.lemmas.Int.{to_z-of_z, ints}
 use Rattle.std.proofs.lemmas.Grind.{common_steps}
 use Rattle.widget_model.specs.Keys.{key_of}

@@ -1,4 +1,4 @@
-use Rattle.std.proofs.Common.{◌≡◌, sym, ap, ◌∙◌, subst, Option, false}
+use Rattle.std.proofs.Common.{sym, ap, ◌∙◌, subst, Option}
 use Rattle.std.specs.Prelude.{IfSome}
 use Rattle.widget_model.specs.Widgets.{IsLive, rows_of}
 use Rattle.tree_core.specs.Holds.{pointer_seen}

@@ -1,4 +1,4 @@
-use Rattle.std.proofs.Common.{ℤ, pos, ◌≡◌, ◌∙◌, ap, ap₂, sym, w32, to_z, of_z, length, Some, arith}
+use Rattle.std.proofs.Common.{pos, ◌≡◌, ◌∙◌, ap, ap₂, sym, w32, to_z, of_z, length, Some, arith}
 use Rattle.std.proofs.lemmas.Int.{to_z_pos, to_z-of_z}
 use Rattle.kind_core.specs.declared.kinds.Attr.TheVariants.{Text}
 use Rattle.widget_model.specs.Widgets.{rows_of}

@@ -1,5 +1,4 @@
-use Rattle.std.proofs.Common.{◌≡◌, ap, ◌∙◌, true, Some, None, []}
-use Rattle.tree_core.specs.declared.pointer.Pointer.{Pointer}
+use Rattle.std.proofs.Common.{ap, ◌∙◌, true, Some, None, []}
 use Rattle.input_core.specs.declared.effects.Effects.{Effects}
 use Rattle.input_core.specs.Seen.{effects_seen}
 use Rattle.input_core.proofs.Steps.{grab-widget}

@@ -1,4 +1,4 @@
-use Rattle.std.proofs.Common.{◌≡◌, ℤ, List, ap, sym, ◌∙◌, w32, to_z, of_z, Option, ap₂, ◌∷◌, []}
+use Rattle.std.proofs.Common.{◌≡◌, ℤ, ◌∙◌, w32, to_z, of_z, ap₂, ◌∷◌, []}
 use Rattle.std.proofs.lemmas.Int.{to_z-of_z}
 use Rattle.input_core.specs.Seen.{key_seen}
 use Rattle.input_core.proofs.Posting.{posted-bound, posted-unbound}

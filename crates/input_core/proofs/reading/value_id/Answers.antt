@@ -1,4 +1,4 @@
-use Rattle.std.proofs.Common.{◌≡◌, ◌∙◌, Option, Some, None, ap, sym}
+use Rattle.std.proofs.Common.{◌≡◌, ◌∙◌, Some, None, ap, sym}
 use Rattle.std.specs.Option.{option_map}
 use Rattle.tree_core.specs.declared.id.Id.{Id}
 use Rattle.widget_model.specs.Links.{linked_id}

@@ -1,4 +1,4 @@
-use Rattle.std.proofs.Common.{◌≡◌, ◌≤◌, arith}
+use Rattle.std.proofs.Common.{arith}
 use Rattle.input_core.proofs.Limits.{max_most, real_most}
 use Rattle.input_core.proofs.values.greatest_value.Goals as goal
 

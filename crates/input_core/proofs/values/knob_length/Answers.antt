@@ -1,4 +1,4 @@
-use Rattle.std.proofs.Common.{◌≡◌, ◌≤◌, ◌∙◌, sym, arith}
+use Rattle.std.proofs.Common.{◌∙◌, sym, arith}
 use Rattle.input_core.proofs.Limits.{real_least, view_most}
 use Rattle.input_core.proofs.values.knob_length.Goals as goal
 

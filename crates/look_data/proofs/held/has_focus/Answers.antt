@@ -6,7 +6,7 @@ use Rattle.std.specs.Option.{option_map_or, option_and_then}
 use Rattle.tree_core.specs.declared.id.Id.{Id}
 use Rattle.widget_model.specs.Keys.{key_of, same_key}
 use Rattle.widget_model.specs.Widgets.{key_at}
-use Rattle.look_data.proofs.OneNumber.{same_number}
+use Rattle.scene_core.proofs.OneNumber.{same_number}
 use Rattle.look_data.proofs.held.has_focus.Goals as goal
 
 pub returns-in-Some : goal.returns-in-Some

@@ -6,7 +6,7 @@ use Rattle.tree_core.specs.Holds.{grab_seen}
 use Rattle.widget_model.specs.Keys.{key_of}
 use Rattle.widget_model.specs.Widgets.{key_at}
 use Rattle.scene_model.specs.LookOf.{grabs}
-use Rattle.look_data.proofs.OneNumber.{same_number, grabs-widget}
+use Rattle.scene_core.proofs.OneNumber.{same_number, grabs-widget}
 use Rattle.look_data.proofs.held.is_held.Goals as goal
 
 pub returns-in-Widget : goal.returns-in-Widget

@@ -1,4 +1,4 @@
-use Rattle.std.proofs.Common.{◌≡◌, ℕ, sym, ap, ◌∙◌}
+use Rattle.std.proofs.Common.{sym, ap, ◌∙◌}
 use Rattle.geom_core.specs.declared.rectangle.Rect.{Rect}
 use Rattle.scene_model.specs.Bands.{lying_at}
 use Rattle.painter_core.specs.Stage.{layers_of}

@@ -1,20 +1,14 @@
-use Rattle.std.proofs.Common.{◌≡◌, ℕ, ◌+◌, ◌*◌, ◌<◌, ℤ, Bool, ◌&&◌, List, sym, ap, subst, ◌∙◌, arith}
-use Rattle.std.specs.Prelude.{Option, Some, None}
-use Rattle.std.specs.Option.{option_map, option_copied}
-use Rattle.geom_core.specs.declared.rectangle.Rect.{Rect}
+use Rattle.std.proofs.Common.{◌≡◌, ◌*◌, sym, ap, subst, ◌∙◌, arith}
+use Rattle.std.specs.Option.{option_copied}
 use Rattle.geom_core.specs.Count.{screen_of}
-use Rattle.geom_core.specs.Pieces.{covers, AreDisjoint}
-use Rattle.geom_core.specs.Rect.{in_rect}
-use Rattle.vscreen_core.specs.FilmState.{FilmState}
-use Rattle.widget_model.specs.Rows.{Row}
+use Rattle.geom_core.specs.Pieces.{AreDisjoint}
 use Rattle.widget_model.specs.Widgets.{row_at}
 use Rattle.painter_core.specs.Banding.{view_shows_band}
-use Rattle.scene_model.specs.Bands.{in_band}
 use Rattle.painter_core.proofs.StageLemmas.{IsPaintable-view}
 use Rattle.painter_core.proofs.RootLemmas.{row_there}
 use Rattle.painter_core.proofs.SceneLemmas.{ShowsScene-nothing}
 use Rattle.painter_core.proofs.PartLemmas.{total_area-most}
-use Rattle.painter_core.proofs.BandLemmas.{IsBanded, IsBanded-film, ShowsScene-band, band_counted, parts_on_screen, no_film, nothing_shown, nothing_counted}
+use Rattle.painter_core.proofs.BandLemmas.{IsBanded-film, ShowsScene-band, band_counted, parts_on_screen, no_film, nothing_shown, nothing_counted}
 use Rattle.painter_core.proofs.bands.paint_band.Goals as goal
 
 pub paint_parts-requires-clause-stage : goal.paint_parts-requires-clause-stage

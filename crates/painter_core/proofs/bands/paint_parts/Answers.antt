@@ -1,7 +1,7 @@
-use Rattle.std.proofs.Common.{◌<◌, ◌+◌, ℕ, ℤ, pos, length, take, get_or, arith}
+use Rattle.std.proofs.Common.{◌<◌, ◌+◌, pos, length, take, get_or, arith}
 use Rattle.std.specs.Prelude.{Some, None}
 use Rattle.geom_core.specs.Count.{screen_of}
-use Rattle.geom_core.specs.Pieces.{covers, total_area}
+use Rattle.geom_core.specs.Pieces.{covers}
 use Rattle.geom_core.proofs.RectLemmas.{rect_of, IsEnclosed-from_inside}
 use Rattle.geom_core.proofs.PieceLemmas.{covers-at, covers-take_more, total_area-take_more, HavePixels-at, AreDisjoint-at}
 use Rattle.painter_core.specs.Painted.{wanted_of, colour_by}

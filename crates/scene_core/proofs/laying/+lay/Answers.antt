@@ -136,7 +136,7 @@ returns-clause-laid t c =
 pub returns-then-not-has_children-clause-laid : goal.returns-then-not-has_children-clause-laid
 returns-then-not-has_children-clause-laid t c =
     let s0 = set-same c.args.tree.now c.set_place.new.self c.args.id.key (Some c.args.place) c.set_place.ensures.place in
-    let none : has_children (row_for c.set_place.new.self c.args.id.key).kind ≡ false = sym c.has_children.ensures ∙ c.if-not-has_children.true in
+    let none : has_children (row_for c.set_place.new.self c.args.id.key).kind ≡ false = sym (c.has_children.ensures ∙ ap has_children c.kind_of.ensures) ∙ c.if-not-has_children.true in
     laid-alone c.args.most c.args.tree.now c.set_place.new.self c.args.id.key c.requires.valid
     (replaced-set c.args.tree.now c.set_place.new.self c.args.id.key c.args.place s0 c.set_place.ensures.valid c.requires.place c.set_place.ensures.now c.set_place.ensures.others)
     (c.set_place.ensures.now ∙ ap (λ (place : Rect). Some place) c.requires.place)

@@ -1,12 +1,10 @@
-use Rattle.std.proofs.Common.{◌≡◌, ◌∙◌, ◌<◌, ℕ, List, Some, false, nat_eq, get_or, take, length, slice_get, sym, ap, arith, subst}
+use Rattle.std.proofs.Common.{◌≡◌, ◌∙◌, ◌<◌, ℕ, nat_eq, get_or, take, length, sym, ap, arith, subst}
 use Rattle.std.specs.List.{list_any}
 use Rattle.std.proofs.lemmas.Option.{get_or_from_slice_get}
-use Rattle.shot_core.specs.Shot.{windows_in}
-use Rattle.widget_model.specs.Trees.{most_levels}
 use Rattle.scene_core.specs.View.{scene_of}
 use Rattle.view_shots.specs.Spots.{ArePut}
 use Rattle.scene_core.proofs.Tops.{among-at, under-window}
-use Rattle.view_shots.proofs.ShotSteps.{not-before, numbers-shot, shot-none, shot-more, shot-all}
+use Rattle.view_shots.proofs.ShotSteps.{not-before, numbers-shot, shot-more, shot-all}
 use Rattle.view_shots.proofs.shots.shot.Goals as goal
 
 pub put_window-requires-clause-absent : goal.put_window-requires-clause-absent
