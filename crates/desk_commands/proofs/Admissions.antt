@@ -1,24 +1,25 @@
 -- Admissions by number as by name: the others' ones, their shares, and that there is room for one more.
-use Rattle.std.proofs.Common.{◌≡◌, ◌≢◌, ℕ, suc, ◌+◌, ◌<◌, Bool, true, false, cond, not, ◌||◌, ◌==◌, nat_eq, nat_lt, List, [], ◌∷◌, ◌++◌, length, Option, Some, None, is_some, AllPairs, refl, sym, ap, ◌∙◌, arith}
+use Rattle.std.proofs.Common.{◌≡◌, ◌≢◌, ℕ, suc, ◌+◌, ◌<◌, Bool, true, false, cond, not, ◌||◌, ◌==◌, nat_eq, nat_lt, List, [], ◌∷◌, ◌++◌, map, length, Option, Some, None, is_some, AllPairs, refl, sym, ap, ◌∙◌, arith}
 use Rattle.std.proofs.lemmas.Bool.{true≢false, and_parts, and_from, eqb-true, eq-eqb, ne_eqb, or_from}
+use Rattle.std.proofs.lemmas.List.{length-map}
+use Rattle.std.proofs.lemmas.List.Folds.{list_all-map}
 use Rattle.std.proofs.lemmas.List.Sums.{sum_by-cons}
 use Rattle.std.specs.List.{list_all, filter}
-use Rattle.std.specs.Option.{option_map, option_map_or}
+use Rattle.std.specs.Option.{option_map_or}
 use Rattle.kind_core.specs.declared.kinds.Kind.{Kind}
 use Rattle.kind_core.specs.declared.kinds.Kind.TheVariants.{VScreen}
 use Rattle.admit_core.specs.Roster.{RosterState, IsRoster, has_key, others, total}
+use Rattle.widget_model.specs.Named.{AreNamedApart}
 use Rattle.widget_model.specs.Rows.{Row}
-use Rattle.widget_model.specs.Nodes.{Node, node_of}
-use Rattle.widget_model.specs.Widgets.{Widgets, nodes, row_at}
-use Rattle.widget_model.specs.Forest.{HaveOwnNames}
+use Rattle.widget_model.specs.Nodes.{Node}
+use Rattle.widget_model.specs.Widgets.{Widgets, nodes, row_at, rows_in}
 use Rattle.widget_model.specs.Trees.{is_admitted}
 use Rattle.desk_model.specs.Desk.{Admission, is_admission}
 use Rattle.desk_model.specs.Screens.{other_admissions, shares_of}
 use Rattle.desk_commands.specs.Parts.{admission_at, admissions_at, names_admitted, is_live_entry, is_others, is_others_entry}
 use Rattle.desk_commands.specs.Lookup.{IsFound}
 use Rattle.desk_commands.proofs.WindowSteps.{same_title}
-use Rattle.desk_commands.proofs.KindRoom.{names_kind, room_for_one}
-use Rattle.desk_model.specs.Screens.{is_screen}
+use Rattle.desk_commands.proofs.KindRoom.{IsAlike, room_for_one}
 use Rattle.stack_core.specs.Stack.{holds_key, AreDistinct}
 use Rattle.std.specs.Prelude.{slice_index_or, slice_get, IfSome, IsSome}
 use Rattle.vscreen_core.specs.FilmState.{FilmState, IsFilm}
@@ -29,10 +30,9 @@ use Rattle.widget_model.specs.Kinds.{counts_with}
 use Rattle.tree_core.proofs.Listed.{All-at, any_at, numbered_place}
 use Rattle.widget_model.proofs.Hanging.{all_at}
 use Rattle.desk_model.proofs.OthersRows.{filter-within}
-use Rattle.tree_core.proofs.ForestLemmas.{node_at-nodes}
 
 -- an admission has the client and name of the VScreen that was found exactly where it has its number
-module _ (w : Widgets) (client : ℕ) (name : List ℕ) (key : ℕ) (kind : Kind) (own : HaveOwnNames (nodes w.entries)) (found : IsFound w client name key kind) where
+module _ (w : Widgets) (client : ℕ) (name : List ℕ) (key : ℕ) (kind : Kind) (own : AreNamedApart (rows_in w.entries)) (found : IsFound w client name key kind) where
   same_admission : (entry : ℕ × ℕ) → is_live_entry w.entries entry ≡ true → is_admission client name (admission_at (nodes w.entries) entry) ≡ nat_eq entry.0 key
   same_admission entry live = same_title w client name key kind entry.0 own found live
 
@@ -118,35 +118,22 @@ live-changed es fs (entry ∷ entries) stay live =
     let parts = and_parts (is_live_entry es entry) (list_all (is_live_entry es) entries) live in
     and_from _ _ (stay entry.0 parts.0) (live-changed es fs entries stay parts.1)
 
--- VScreens are counted by themselves
-screens_alike : (kind : Kind) → counts_with VScreen kind ≡ is_screen kind
-screens_alike VScreen = refl
-screens_alike _ = refl
-
 -- the numbers of the entries
-keys_in : List (ℕ × ℕ) → List ℕ
-keys_in [] = []
-keys_in (entry ∷ entries) = entry.0 ∷ keys_in entries
-
-length-keys_in : (entries : List (ℕ × ℕ)) → length (keys_in entries) ≡ length entries
-unfolding keys_in
-length-keys_in [] = refl
-length-keys_in (entry ∷ entries) = ap suc (length-keys_in entries)
+abbrev keys_in : List (ℕ × ℕ) → List ℕ
+keys_in entries = map (λ (entry : ℕ × ℕ). entry.0) entries
 
 holds-keys_in : (entries : List (ℕ × ℕ)) (key : ℕ) → holds_key (keys_in entries) key ≡ has_key key entries
-unfolding keys_in has_key
+unfolding has_key
 holds-keys_in [] key = refl
 holds-keys_in (entry ∷ entries) key = ap (λ (b : Bool). nat_eq entry.0 key || b) (holds-keys_in entries key)
 
 -- none of them is there twice
 apart-absent : (key : ℕ) (entries : List (ℕ × ℕ)) (d : ℕ × ℕ) → ((j : ℕ) → j < length entries → key ≢ (slice_index_or entries j d).0) → holds_key (keys_in entries) key ≡ false
-unfolding keys_in
 apart-absent key [] d apart = refl
 apart-absent key (entry ∷ entries) d apart =
     or_from _ _ (ne_eqb entry.0 key (λ e. apart 0 (omega arith) (sym e))) (apart-absent key entries d (λ j short. apart (suc j) (omega (arith, short))))
 
 keys-distinct : (entries : List (ℕ × ℕ)) → AllPairs (λ (first second : ℕ × ℕ). first.0 ≢ second.0) entries → AreDistinct (keys_in entries)
-unfolding keys_in
 keys-distinct [] apart = tt
 keys-distinct (entry ∷ entries) apart = (
   apart-absent entry.0 entries entry (λ j short. apart 0 (suc j) entry (omega arith) (omega (arith, short))),
@@ -161,23 +148,21 @@ film-screen row fit admitted = by row.film fit admitted
     by None fit h = absurd (true≢false (sym h))
     by (Some film) fit h = fit.0
 
-screens-only : (w : Widgets) (entries : List (ℕ × ℕ)) → IsWidgets w → list_all (names_admitted w.entries) entries ≡ true → list_all (names_kind VScreen is_screen screens_alike (nodes w.entries)) (keys_in entries) ≡ true
-unfolding keys_in
-screens-only w [] valid all = refl
-screens-only w (entry ∷ entries) valid all =
-    let parts = and_parts (names_admitted w.entries entry) (list_all (names_admitted w.entries) entries) all in
-    and_from _ _ (by (row_at w.entries entry.0) refl parts.0) (screens-only w entries valid parts.1)
+screen_at : (w : Widgets) (key : ℕ) → IsWidgets w → names_admitted w.entries (key, 0) ≡ true → IsAlike VScreen w key
+screen_at w key valid admitted = by (row_at w.entries key) refl admitted
   where
-    by : (o : Option Row) → row_at w.entries entry.0 ≡ o → option_map_or is_admitted o false ≡ true → names_kind VScreen is_screen screens_alike (nodes w.entries) entry.0 ≡ true
+    by : (o : Option Row) → row_at w.entries key ≡ o → option_map_or is_admitted o false ≡ true → IsAlike VScreen w key
     by None p h = absurd (true≢false (sym h))
     by (Some row) p h =
-        let place = numbered_place w.entries entry.0 row p in
-        let kind : row.kind ≡ VScreen = film-screen row (All-at IsFitFilm (rows_of w) place.0 row valid.films place.1) h in
-        ap (λ (o : Option Node). option_map_or (λ (node : Node). is_screen node.kind) o false) (node_at-nodes w.entries entry.0 ∙ ap (option_map node_of) p) ∙ ap is_screen kind
+        let place = numbered_place w.entries key row p in
+        let kind = film-screen row (All-at IsFitFilm (rows_of w) place.0 row valid.rows.films place.1) h in
+        record { row = row; there = p; counts = ap (counts_with VScreen) kind }
 
 -- There are at most 8 VScreens of each of 16 clients, and one that isn't admitted is one more than those that are.
 pub room_to_admit : (w : Widgets) (roster : RosterState) (key : ℕ) (row : Row) → IsWidgets w → IsRoster roster → list_all (names_admitted w.entries) roster.entries ≡ true → row_at w.entries key ≡ Some row → row.kind ≡ VScreen → has_key key roster.entries ≡ false → length roster.entries < 128
 room_to_admit w roster key row valid sound all there kind new =
-    let one = ap (λ (o : Option Node). option_map_or (λ (node : Node). is_screen node.kind) o false) (node_at-nodes w.entries key ∙ ap (option_map node_of) there) ∙ ap is_screen kind in
-    let room = room_for_one VScreen is_screen screens_alike w.clients (nodes w.entries) (keys_in roster.entries) key valid.forest (keys-distinct roster.entries sound.own_keys) (screens-only w roster.entries valid all) one (holds-keys_in roster.entries key ∙ new) in
-    omega (arith, room, length-keys_in roster.entries)
+    let names : ℕ → Bool = λ k. names_admitted w.entries (k, 0) in
+    let one : IsAlike VScreen w key = record { row = row; there = there; counts = ap (counts_with VScreen) kind } in
+    let each = list_all-map names (λ (entry : ℕ × ℕ). entry.0) roster.entries ∙ all in
+    let room = room_for_one VScreen w (keys_in roster.entries) key names valid (keys-distinct roster.entries sound.own_keys) each (λ k. screen_at w k valid) one (holds-keys_in roster.entries key ∙ new) in
+    omega (arith, room, length-map roster.entries (λ (entry : ℕ × ℕ). entry.0))

@@ -61,7 +61,7 @@ listed_edited step w new client name key change roster roster' reply is replied 
     subst P (sym left)
     (record {
       answer = λ desk right.
-          ap₂ (λ (rs : List Row) (ns : List (ℕ × Node)). (reply, with_admissions rs (admissions_at ns roster'.entries) desk)) (rows-with_row w.entries client name key (with_film_changed change) kept.forest.own_numbers kept.forest.own_names id) same
+          ap₂ (λ (rs : List Row) (ns : List (ℕ × Node)). (reply, with_admissions rs (admissions_at ns roster'.entries) desk)) (rows-with_row w.entries client name key (with_film_changed change) kept.numbered.own_numbers kept.rows.names id) same
           ∙ ap (λ (r : Reply). (r, with_admissions (with_named client name (with_film_changed change) (rows_of w)) (admissions_at (nodes w.entries) roster'.entries) desk)) replied
           ∙ sym (answer desk right);
       clients = refl;
@@ -77,7 +77,7 @@ unfolding dismissed
 leave_did w new client name key roster roster' reply lists kept found admitted left gone valid replied =
     let live = admitted-live w.entries roster.entries lists.admitted in
     let entries : roster'.entries ≡ others key roster.entries = ap (λ (r : RosterState). r.entries) gone in
-    let named = admissions-others w client name key VScreen kept.forest.own_names found roster.entries live in
+    let named = admissions-others w client name key VScreen kept.rows.names found roster.entries live in
     listed_edited (λ desk. step_leave desk client name) w new client name key settled roster roster' reply Done replied left kept found.id (ap (λ (r : RosterState). r.limit) gone)
     (record { valid = valid; live = ap (list_all (is_live_entry w.entries)) entries ∙ live-others w.entries key roster.entries live })
     (λ desk limit.
@@ -94,7 +94,7 @@ module _ (w : Widgets) (client : ℕ) (name : List ℕ) (period : ℤ) (key shar
   live = admitted-live w.entries roster.entries lists.admitted
 
   named : admissions_at (nodes w.entries) (others key roster.entries) ≡ other_admissions client name (admissions_at (nodes w.entries) roster.entries)
-  named = admissions-others w client name key VScreen kept.forest.own_names wanted.found roster.entries live
+  named = admissions-others w client name key VScreen kept.rows.names wanted.found roster.entries live
 
   -- what the others' shares are together
   shares : shares_of (other_admissions client name (admissions_at (nodes w.entries) roster.entries)) ≡ total (others key roster.entries)

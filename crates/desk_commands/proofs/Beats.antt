@@ -80,7 +80,7 @@ has_period w entry valid admitted = by found.0.film refl found.2
     found = admitted-row w.entries entry admitted
 
     fit : IsFitFilm found.0
-    fit = let place = numbered_place w.entries entry.0 found.0 found.1 in All-at IsFitFilm (rows_of w) place.0 found.0 valid.films place.1
+    fit = let place = numbered_place w.entries entry.0 found.0 found.1 in All-at IsFitFilm (rows_of w) place.0 found.0 valid.rows.films place.1
 
     by : (o : Option FilmState) → found.0.film ≡ o → option_map_or (λ (film : FilmState). nat_lt 0 film.period) o false ≡ true → HasPeriod w entry.0
     by None p h = absurd (true≢false (sym h))
@@ -130,7 +130,7 @@ module _ (old now new : Widgets) (entries : List (ℕ × ℕ)) (i : ℕ) (entry 
   admission = admission_at (nodes old.entries) entry
 
   title : title_at (nodes old.entries) entry.0 ≡ (here_row.client, here_row.name)
-  title = found-title old here_row.client here_row.name entry.0 here_row.kind (found-live old entry.0 here_row sound.forest found.1)
+  title = found-title old here_row.client here_row.name entry.0 here_row.kind (found-live old entry.0 here_row sound found.1)
 
   client_is : admission.client ≡ here_row.client
   client_is = ap (λ (t : ℕ × List ℕ). t.0) title
@@ -142,12 +142,12 @@ module _ (old now new : Widgets) (entries : List (ℕ × ℕ)) (i : ℕ) (entry 
   more = ap (admissions_at (nodes old.entries)) (take-one entries i entry there) ∙ admissions-push (nodes old.entries) (take i entries) entry
 
   id_here : id_named (nodes now.entries) admission.client admission.name ≡ Some entry.0
-  id_here = ap₂ (id_named (nodes now.entries)) client_is name_is ∙ id_named-row now.entries entry.0 here_row done.valid.forest.own_names here
+  id_here = ap₂ (id_named (nodes now.entries)) client_is name_is ∙ id_named-row now.entries entry.0 here_row done.valid.rows.names here
 
   rows-one : rows_of new ≡ beaten_along (rows_of old) (admissions_at (nodes old.entries) (take (i + 1) entries))
   rows-one =
       ap (λ (w : Widgets). rows_of w) left
-      ∙ rows-with_row now.entries admission.client admission.name entry.0 (with_film_changed beaten) done.valid.forest.own_numbers done.valid.forest.own_names id_here
+      ∙ rows-with_row now.entries admission.client admission.name entry.0 (with_film_changed beaten) done.valid.numbered.own_numbers done.valid.rows.names id_here
       ∙ ap (λ (rows : List Row). beaten_one rows admission) done.rows
       ∙ sym (beaten_along-push (admissions_at (nodes old.entries) (take i entries)) (rows_of old) admission)
       ∙ ap (beaten_along (rows_of old)) (sym more)
@@ -173,7 +173,7 @@ module _ (old now new : Widgets) (entries : List (ℕ × ℕ)) (i : ℕ) (entry 
       ∙ ap₂ (λ (client : ℕ) (name : List ℕ). let key : ℕ × List ℕ = (client, name) in Some key) (sym client_is) (sym name_is)
 
   film_is : film_named (rows_of old) admission.client admission.name ≡ here_row.film
-  film_is = ap₂ (film_named (rows_of old)) client_is name_is ∙ ap film_in (row_named-row old.entries entry.0 here_row sound.forest.own_numbers sound.forest.own_names found.1)
+  film_is = ap₂ (film_named (rows_of old)) client_is name_is ∙ ap film_in (row_named-row old.entries entry.0 here_row sound.numbered.own_numbers sound.rows.names found.1)
 
   band_is : band ≡ band_next (rows_of old) admission
   band_is =

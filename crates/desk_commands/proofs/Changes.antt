@@ -1,6 +1,7 @@
 -- When rows change: where the row that was found isn't left as it was.
-use Rattle.std.proofs.Common.{◌≡◌, ℕ, zero, suc, Bool, true, false, cond, not, ◌&&◌, nat_eq, List, [], ◌∷◌, Option, Some, None, is_some, slice_index_or, slice_set, refl, sym, ap, ◌∙◌}
+use Rattle.std.proofs.Common.{◌≡◌, ℕ, zero, suc, Bool, true, false, not, ◌&&◌, nat_eq, List, [], ◌∷◌, Option, Some, None, is_some, slice_index_or, slice_set, refl, sym, ap, ◌∙◌}
 use Rattle.std.proofs.lemmas.Bool.{true≢false, eqb-true, eq-eqb, and_parts, and_from}
+use Rattle.std.specs.Cmp.{nat_eq_equiv}
 use Rattle.std.specs.List.{list_all}
 use Rattle.std.specs.Option.{option_map, option_eq}
 use Rattle.kind_core.specs.declared.kinds.Kind.{Kind}
@@ -9,6 +10,7 @@ use Rattle.widget_model.specs.Rows.{Row}
 use Rattle.widget_model.specs.Named.{with_named}
 use Rattle.widget_model.specs.Widgets.{Widgets, nodes, rows_of, row_at, with_row, edited}
 use Rattle.widget_model.specs.Forest.{IsWidgets}
+use Rattle.row_store.proofs.UnderNumbers.{row_at-with_row}
 use Rattle.desk_model.specs.Desk.{Desk}
 use Rattle.widget_model.proofs.Naming.{rows-with_row, with_named-kept, with_named-same}
 use Rattle.desk_commands.specs.Parts.{names_window}
@@ -23,19 +25,14 @@ tells_edit w new client name key kind change changed kept found left differs sam
     (λ h r. differs h (with_named-kept (rows_of w) client name change found.row found.named (sym is ∙ r)), by changed refl)
   where
     is : rows_of new ≡ with_named client name change (rows_of w)
-    is = ap rows_of left ∙ rows-with_row w.entries client name key change kept.forest.own_numbers kept.forest.own_names found.id
+    is = ap rows_of left ∙ rows-with_row w.entries client name key change kept.numbered.own_numbers kept.rows.names found.id
 
     by : (b : Bool) → changed ≡ b → (rows_of new ≡ rows_of w → ⊥) → changed ≡ true
     by true p n = p
-    by false p n = absurd (n (is ∙ with_named-same w.entries client name change found.row kept.forest.own_names found.named (same p)))
+    by false p n = absurd (n (is ∙ with_named-same w.entries client name change found.row kept.rows.names found.named (same p)))
 
-row_at-with_row : (es : List (ℕ × Row)) (id : ℕ) (change : Row → Row) (row : Row) → row_at es id ≡ Some row → row_at (with_row id change es) id ≡ Some (change row)
-row_at-with_row [] id change row there = absurd (cc)
-row_at-with_row (e ∷ es) id change row there = by (row_at-with_row es id change row) (nat_eq id e.0) refl there
-  where
-    by : (row_at es id ≡ Some row → row_at (with_row id change es) id ≡ Some (change row)) → (b : Bool) → nat_eq id e.0 ≡ b → cond b (Some e.1) (row_at es id) ≡ Some row → row_at (cond b (e.0, change e.1) e ∷ with_row id change es) id ≡ Some (change row)
-    by rest true q h = let same : e.1 ≡ row = cc in rw q (ap Some (ap change same))
-    by rest false q h = rw q (rest h)
+changed_at : (es : List (ℕ × Row)) (id : ℕ) (change : Row → Row) (row : Row) → row_at es id ≡ Some row → row_at (with_row id change es) id ≡ Some (change row)
+changed_at es id change row there = row_at-with_row es id change id ∙ rw (there, nat_eq_equiv.refl id) refl
 
 -- what is read of the row before and after tells it, where a change that leaves what is read is none
 pub tells_read : {V : Type 0} (obs : Row → V) (w new : Widgets) (client : ℕ) (name : List ℕ) (key : ℕ) (kind : Kind) (change : Row → Row) (before after : V) (same changed : Bool) → IsWidgets w → IsFound w client name key kind → new ≡ edited key change w → option_map obs (row_at w.entries key) ≡ Some before → option_map obs (row_at new.entries key) ≡ Some after → changed ≡ not same → (same ≡ true → before ≡ after) → (same ≡ false → before ≡ after → ⊥) → ((row : Row) → obs (change row) ≡ obs row → change row ≡ row) → TellsRows w new changed
@@ -47,7 +44,7 @@ tells_read {V} obs w new client name key kind change before after same changed k
 
     then : after ≡ obs (change found.row)
     then =
-        let one : Some after ≡ Some (obs (change found.row)) = sym last ∙ ap (λ (v : Widgets). option_map obs (row_at v.entries key)) left ∙ ap (option_map obs) (row_at-with_row w.entries key change found.row found.there) in
+        let one : Some after ≡ Some (obs (change found.row)) = sym last ∙ ap (λ (v : Widgets). option_map obs (row_at v.entries key)) left ∙ ap (option_map obs) (changed_at w.entries key change found.row found.there) in
         cc
 
     by : (b : Bool) → changed ≡ not b → changed ≡ true → same ≡ b → change found.row ≡ found.row → ⊥

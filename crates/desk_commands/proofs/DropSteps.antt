@@ -2,10 +2,10 @@
 use Rattle.std.proofs.Common.{◌≡◌, ℕ, Bool, true, false, cond, not, ◌||◌, nat_eq, List, [], ◌∷◌, Option, Some, None, refl, sym, ap, ap₂, ◌∙◌, subst}
 use Rattle.std.proofs.lemmas.Bool.{true≢false, eqb-true, and_parts, and_from, or_parts}
 use Rattle.std.proofs.lemmas.Option.{same_Some as some_same}
-use Rattle.std.specs.List.{list_all, list_any}
-use Rattle.std.specs.Option.{option_map, option_map_or, option_and_then}
+use Rattle.std.specs.Cmp.{nat_eq_equiv}
+use Rattle.std.specs.List.{list_all}
+use Rattle.std.specs.Option.{option_map, option_map_or}
 use Rattle.kind_core.specs.declared.kinds.Kind.{Kind}
-use Rattle.kind_core.specs.declared.shapes.Cell.{Cell}
 use Rattle.cmd_words.specs.declared.replies.Reply.{Reply}
 use Rattle.cmd_words.specs.declared.replies.Reply.TheVariants.{Done}
 use Rattle.cmd_words.specs.declared.replies.Refusal.TheVariants.{InUse}
@@ -13,14 +13,17 @@ use Rattle.stack_core.specs.Stack.{holds_key}
 use Rattle.widget_model.specs.Rows.{Row}
 use Rattle.widget_model.specs.Nodes.{node_of, node_at}
 use Rattle.widget_model.specs.Named.{has_name, row_named, without_named}
-use Rattle.widget_model.specs.Trees.{hangs, is_child, links_to, is_admitted, is_used, parent_of, most_levels}
+use Rattle.widget_model.specs.Trees.{is_admitted, is_used, parent_of, most_levels}
 use Rattle.widget_model.specs.Keys.{key_of}
 use Rattle.widget_model.specs.Widgets.{key_at, Widgets, nodes, rows_of, row_at, without_row, removed}
 use Rattle.widget_model.specs.Forest.{IsWidgets}
 use Rattle.desk_model.specs.Desk.{Desk, is_open}
 use Rattle.desk_model.specs.Refusals.{when, first_refusal, outcome, unless_there}
 use Rattle.desk_model.specs.WidgetCommands.{drop_effect, step_drop}
+use Rattle.widget_model.proofs.Hanging.{parent_in, parent_in-loose}
+use Rattle.widget_model.proofs.LeftRows.{IsFree-unused}
 use Rattle.widget_model.proofs.Naming.{rows-without_row}
+use Rattle.row_store.proofs.UnderNumbers.{node_at-nodes, row_at-without_row}
 use Rattle.desk_commands.specs.Parts.{Stage, windows_at, desk_of, names_window, names_admitted, AreParts}
 use Rattle.desk_model.specs.LetGo.{is_in_window}
 use Rattle.desk_commands.specs.Effects.{DidAll, TellsAll}
@@ -37,14 +40,10 @@ step_drop-by desk client name row opened h k = rw (h, k) refl
 
 -- the nodes of other numbers stay
 node_at-without_row : (es : List (ℕ × Row)) (id other : ℕ) → nat_eq other id ≡ false → node_at (nodes (without_row id es)) other ≡ node_at (nodes es) other
-node_at-without_row [] id other differ = refl
-node_at-without_row (e ∷ es) id other differ = by (node_at-without_row es id other differ) (nat_eq id e.0) refl
-  where
-    by : node_at (nodes (without_row id es)) other ≡ node_at (nodes es) other → (b : Bool) → nat_eq id e.0 ≡ b → node_at (nodes (cond b (without_row id es) (e ∷ without_row id es))) other ≡ cond (nat_eq other e.0) (Some (node_of e.1)) (node_at (nodes es) other)
-    by rest true q =
-        let apart : nat_eq other e.0 ≡ false = ap (nat_eq other) (sym (eqb-true id e.0 q)) ∙ differ in
-        rw apart rest
-    by rest false q = ap (cond (nat_eq other e.0) (Some (node_of e.1))) rest
+node_at-without_row es id other differ =
+    node_at-nodes (without_row id es) other
+    ∙ ap (option_map node_of) (row_at-without_row es id other ∙ rw (nat_eq_equiv.symm id other, differ) refl)
+    ∙ sym (node_at-nodes es other)
 
 -- and so do the open windows, where the number isn't among them
 titles_left : (es : List (ℕ × Row)) (id : ℕ) (keys : List ℕ) → holds_key keys id ≡ false → windows_at (nodes (without_row id es)) keys ≡ windows_at (nodes es) keys
@@ -69,12 +68,8 @@ names_left w client name id kind keys stage found shut unused other key named in
     parts : (found.row.client ≡ client) × (found.row.name ≡ name)
     parts = found-parts w client name id kind found
 
-    loose : (o : Option (List ℕ × Cell)) → option_map_or (λ (attached : List ℕ × Cell). true) o false ≡ false → option_map (λ (attached : List ℕ × Cell). attached.0) o ≡ None
-    loose None h = refl
-    loose (Some attached) h = absurd (true≢false h)
-
     alone : parent_of (rows_of w) client name ≡ None
-    alone = ap (option_and_then (λ (row : Row). option_map (λ attached. attached.0) row.attached)) found.named ∙ loose found.row.attached (or_parts (hangs found.row) _ unused).0
+    alone = ap parent_in found.named ∙ parent_in-loose found.row (IsFree-unused (rows_of w) found.row unused).alone
 
     out : is_in_window (desk_of stage w keys) (client, name) ≡ false
     out = ap (is_open (desk_of stage w keys) client) (root_in-alone most_levels (rows_of w) client name alone) ∙ shut
@@ -91,14 +86,8 @@ names_left w client name id kind keys stage found shut unused other key named in
 admitted_left : (w : Widgets) (client : ℕ) (name : List ℕ) (id : ℕ) (kind : Kind) → (found : IsFound w client name id kind) → is_used (rows_of w) found.row ≡ false → (entry : ℕ × ℕ) → names_admitted w.entries entry ≡ true → node_at (nodes (without_row id w.entries)) entry.0 ≡ node_at (nodes w.entries) entry.0
 admitted_left w client name id kind found unused entry there = by (nat_eq entry.0 id) refl
   where
-    links : Bool
-    links = list_any (links_to found.row.client found.row.name) (rows_of w)
-
-    child : Bool
-    child = list_any (is_child found.row.client found.row.name) (rows_of w)
-
     free : is_admitted found.row ≡ false
-    free = (or_parts links (is_admitted found.row) (or_parts child (links || is_admitted found.row) (or_parts (hangs found.row) (child || (links || is_admitted found.row)) unused).1).1).1
+    free = (IsFree-unused (rows_of w) found.row unused).unadmitted
 
     by : (b : Bool) → nat_eq entry.0 id ≡ b → node_at (nodes (without_row id w.entries)) entry.0 ≡ node_at (nodes w.entries) entry.0
     by true q =
@@ -107,7 +96,7 @@ admitted_left w client name id kind found unused entry there = by (nat_eq entry.
     by false q = node_at-without_row w.entries id entry.0 q
 
 -- there is none of the name left
-unnamed : (rs : List Row) (client : ℕ) (name : List ℕ) → row_named (without_named client name rs) client name ≡ None
+pub unnamed : (rs : List Row) (client : ℕ) (name : List ℕ) → row_named (without_named client name rs) client name ≡ None
 unnamed [] client name = refl
 unnamed (r ∷ rs) client name = by (unnamed rs client name) (has_name client name r) refl
   where
@@ -118,8 +107,8 @@ unnamed (r ∷ rs) client name = by (unnamed rs client name) (has_name client na
 pub dropped_all : (w new : Widgets) (client : ℕ) (name : List ℕ) (key : ℕ) (kind : Kind) (keys : List ℕ) (reply : Reply) → AreParts w.clients w keys → (found : IsFound w client name key kind) → holds_key keys key ≡ false → is_used (rows_of w) found.row ≡ false → new ≡ removed key w → IsWidgets new → reply ≡ Done → DidAll (λ desk. step_drop desk client name) w new keys keys reply
 dropped_all w new client name key kind keys reply kept found closed unused left valid replied =
     let P : Widgets → Type 0 = λ v. IsWidgets v → DidAll (λ desk. step_drop desk client name) w v keys keys reply in
-    let shut = is_open-holds_key w client name key kind keys kept.tree.forest.own_names found kept.windows ∙ closed in
-    let gone = rows-without_row w.entries client name key kept.tree.forest.own_numbers kept.tree.forest.own_names found.id in
+    let shut = is_open-holds_key w client name key kind keys kept.tree.rows.names found kept.windows ∙ closed in
+    let gone = rows-without_row w.entries client name key kept.tree.numbered.own_numbers kept.tree.rows.names found.id in
     subst P (sym left)
     (λ sound.
     record {
@@ -131,14 +120,14 @@ dropped_all w new client name key kind keys reply kept found closed unused left 
       kept = record { clients = refl; tree = sound; stack = kept.stack; windows = windows_left w.entries key keys closed kept.windows };
       names = λ stage. names_left w client name key kind keys stage found shut unused;
       admitted = admitted_left w client name key kind found unused;
-      numbers = numbers-fewer w.entries (without_row key w.entries) kept.tree.forest.own_names (λ id row there. (without-left w.entries key id row there).was);
+      numbers = numbers-fewer w.entries (without_row key w.entries) kept.tree.rows.names (λ id row there. (without-left w.entries key id row there).was);
       places = λ id row there. removed-place w key id row there;
     })
     valid
 
 pub dropped_tells : (w new : Widgets) (client : ℕ) (name : List ℕ) (key : ℕ) (kind : Kind) (keys : List ℕ) (changed : Bool) → IsWidgets w → IsFound w client name key kind → new ≡ removed key w → changed ≡ true → TellsAll w new keys keys changed
 dropped_tells w new client name key kind keys changed kept found left told =
-    let gone = ap rows_of left ∙ rows-without_row w.entries client name key kept.forest.own_numbers kept.forest.own_names found.id in
+    let gone = ap rows_of left ∙ rows-without_row w.entries client name key kept.numbered.own_numbers kept.rows.names found.id in
     (λ h both. by (sym found.named ∙ ap (λ (rs : List Row). row_named rs client name) (sym both.0 ∙ gone) ∙ unnamed (rows_of w) client name), λ n. told)
   where
     by : Some found.row ≡ None → ⊥

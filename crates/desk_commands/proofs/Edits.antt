@@ -1,7 +1,8 @@
 -- One change after another, and changes that are none.
-use Rattle.std.proofs.Common.{◌≡◌, ℕ, Bool, true, false, cond, nat_eq, List, [], ◌∷◌, Some, refl, ap}
+use Rattle.std.proofs.Common.{◌≡◌, ℕ, Bool, true, false, cond, nat_eq, List, [], ◌∷◌, Option, Some, None, refl, ap, ◌∙◌}
 use Rattle.std.specs.Option.{option_map}
 use Rattle.widget_model.specs.Rows.{Row}
+use Rattle.row_store.proofs.UnderNumbers.{row_at-with_row}
 use Rattle.widget_model.specs.Widgets.{Widgets, row_at, row_kind, with_row, edited}
 
 with_row-same : (es : List (ℕ × Row)) (id : ℕ) (change : Row → Row) → ((row : Row) → change row ≡ row) → with_row id change es ≡ es
@@ -28,11 +29,9 @@ edited-edited w id first second both same = ap (λ (es : List (ℕ × Row)). rec
 
 -- a change that leaves a row's kind leaves all kinds
 pub row_kind-with_row : (es : List (ℕ × Row)) (id : ℕ) (change : Row → Row) (other : ℕ) → ((row : Row) → (change row).kind ≡ row.kind) → row_kind (with_row id change es) other ≡ row_kind es other
-row_kind-with_row [] id change other same = refl
-row_kind-with_row (e ∷ es) id change other same = by (row_kind-with_row es id change other same) (nat_eq id e.0) (nat_eq other e.0) refl
+row_kind-with_row es id change other same = ap (option_map (λ (row : Row). row.kind)) (row_at-with_row es id change other) ∙ by (row_at es other) (nat_eq id other)
   where
-    by : row_kind (with_row id change es) other ≡ row_kind es other → (b d : Bool) → nat_eq other e.0 ≡ d → row_kind (cond b (e.0, change e.1) e ∷ with_row id change es) other ≡ option_map (λ (row : Row). row.kind) (cond d (Some e.1) (row_at es other))
-    by rest true true q = rw q (ap Some (same e.1))
-    by rest true false q = rw q rest
-    by rest false true q = rw q refl
-    by rest false false q = rw q rest
+    by : (o : Option Row) (b : Bool) → option_map (λ (row : Row). row.kind) (option_map (λ (row : Row). cond b (change row) row) o) ≡ option_map (λ (row : Row). row.kind) o
+    by None b = refl
+    by (Some row) true = ap Some (same row)
+    by (Some row) false = refl

@@ -11,7 +11,7 @@ use Rattle.widget_model.specs.Rows.{Row}
 use Rattle.widget_model.specs.Nodes.{Node, node_of, node_at, id_named}
 use Rattle.widget_model.specs.Named.{with_named}
 use Rattle.widget_model.specs.Widgets.{Widgets, nodes, rows_of, row_at, edited}
-use Rattle.widget_model.specs.Forest.{IsForest, IsWidgets}
+use Rattle.widget_model.specs.Forest.{IsWidgets}
 use Rattle.desk_model.specs.Desk.{Desk}
 use Rattle.widget_model.proofs.Naming.{id_named-row, row_named-found, row_named-parts, rows-with_row}
 use Rattle.tree_core.proofs.Listed.{row_named-row}
@@ -27,12 +27,12 @@ is_found w client name key kind kept id has = by (row_at w.entries key) refl has
   where
     by : (o : Option Row) → row_at w.entries key ≡ o → option_map (λ (row : Row). row.kind) o ≡ Some kind → IsFound w client name key kind
     by None p h = absurd (cc)
-    by (Some row) p h = record { row = row; id = id; there = p; named = row_named-found w.entries client name key kept.forest.own_numbers id ∙ p; has = cc }
+    by (Some row) p h = record { row = row; id = id; there = p; named = row_named-found w.entries client name key kept.numbered.own_numbers id ∙ p; has = cc }
 
 -- a widget with a number is found under its client and name
-pub found-live : (w : Widgets) (id : ℕ) (row : Row) → IsForest w.clients (nodes w.entries) → row_at w.entries id ≡ Some row → IsFound w row.client row.name id row.kind
-found-live w id row forest there =
-    record { row = row; id = id_named-row w.entries id row forest.own_names there; there = there; named = row_named-row w.entries id row forest.own_numbers forest.own_names there; has = refl }
+pub found-live : (w : Widgets) (id : ℕ) (row : Row) → IsWidgets w → row_at w.entries id ≡ Some row → IsFound w row.client row.name id row.kind
+found-live w id row valid there =
+    record { row = row; id = id_named-row w.entries id row valid.rows.names there; there = there; named = row_named-row w.entries id row valid.numbered.own_numbers valid.rows.names there; has = refl }
 
 -- its row has the client and name that were asked for
 pub found-parts : (w : Widgets) (client : ℕ) (name : List ℕ) (key : ℕ) (kind : Kind) (found : IsFound w client name key kind) → (found.row.client ≡ client) × (found.row.name ≡ name)
@@ -49,7 +49,7 @@ refused_did step w reply refusal is answer = same_did step w reply (λ desk. ap 
 pub edited_did : (step : Desk → Reply × Desk) (w : Widgets) (client : ℕ) (name : List ℕ) (key : ℕ) (change : Row → Row) (reply : Reply) → IsWidgets w → id_named (nodes w.entries) client name ≡ Some key → ((row : Row) → node_of (change row) ≡ node_of row) → ((desk : Desk) → step (with_rows (rows_of w) desk) ≡ (reply, with_rows (with_named client name change (rows_of w)) desk)) → Did step w (edited key change w) reply
 edited_did step w client name key change reply kept id same answer =
     record {
-      answer = λ desk. ap (λ (rs : List Row). (reply, with_rows rs desk)) (rows-with_row w.entries client name key change kept.forest.own_numbers kept.forest.own_names id) ∙ sym (answer desk);
+      answer = λ desk. ap (λ (rs : List Row). (reply, with_rows rs desk)) (rows-with_row w.entries client name key change kept.numbered.own_numbers kept.rows.names id) ∙ sym (answer desk);
       clients = refl;
       kept = λ other h. ap (λ (ns : List (ℕ × Node)). node_at ns other) (nodes-with_row w.entries key change same);
       places = refl;

@@ -1,5 +1,5 @@
 -- The films of VScreens: whether two are the same, and what a command makes of one.
-use Rattle.std.proofs.Common.{◌≡◌, ℕ, zero, suc, Bool, true, false, cond, not, ◌&&◌, ◌||◌, nat_eq, nat_lt, List, length, Option, Some, None, refl, sym, ap, ap₂, ◌∙◌, subst, arith}
+use Rattle.std.proofs.Common.{◌≡◌, ℕ, zero, suc, Bool, true, false, cond, not, ◌&&◌, ◌||◌, nat_eq, nat_lt, List, length, Option, Some, None, refl, sym, ap, ap₂, ◌∙◌, arith}
 use Rattle.std.proofs.lemmas.Bool.{true≢false, and_parts, and_from, or_parts, eq-eqb, eqb-true, lt-ltb}
 use Rattle.std.proofs.lemmas.Slice.Eq.{bytes_eq-Decides}
 use Rattle.std.specs.Str.{bytes_eq}
@@ -14,7 +14,6 @@ use Rattle.widget_model.specs.Trees.{is_admitted}
 use Rattle.widget_model.specs.Forest.{IsWidgets}
 use Rattle.desk_model.specs.Screens.{is_screen, with_film_changed, framed}
 use Rattle.desk_commands.specs.Screens.{same_size, same_time, same_pictures, same_film, begins, keeps_film, HasFilm}
-use Rattle.desk_commands.specs.Lookup.{IsFound}
 use Rattle.desk_commands.proofs.Edits.{edited-edited, row_kind-with_row}
 use Rattle.desk_commands.proofs.TrackSteps.{edited-agree}
 
@@ -174,7 +173,3 @@ read-row f w key row v there read =
 pub screen-kind : (kind : Kind) → is_screen kind ≡ true → kind ≡ VScreen
 screen-kind VScreen h = refl
 screen-kind _ h = absurd (cc)
-
--- a VScreen that was found, by its kind
-pub found-screen : (w : Widgets) (client : ℕ) (name : List ℕ) (key : ℕ) (kind : Kind) → IsFound w client name key kind → is_screen kind ≡ true → IsFound w client name key VScreen
-found-screen w client name key kind found screen = subst (λ (k : Kind). IsFound w client name key k) (screen-kind kind screen) found

@@ -38,7 +38,7 @@ in_window-found w keys client name key kind root stage kept found root_is live =
     by : (o : Option Row) → row_at w.entries root ≡ o → IsSome o → holds_key keys root ≡ is_in_window (desk_of stage w keys) (client, name)
     by None there is_there = absurd (false≢true is_there)
     by (Some row) there is_there =
-        sym (is_open-holds_key w client upper root row.kind keys kept.tree.forest.own_names (is_found w client upper root row.kind kept.tree id (ap (option_map (λ (r : Row). r.kind)) there)) kept.windows)
+        sym (is_open-holds_key w client upper root row.kind keys kept.tree.rows.names (is_found w client upper root row.kind kept.tree id (ap (option_map (λ (r : Row). r.kind)) there)) kept.windows)
 
 pub root_in-alone : (most : ℕ) (rows : List Row) (client : ℕ) (name : List ℕ) → parent_of rows client name ≡ None → root_in most rows client name ≡ name
 root_in-alone zero rows client name alone = refl
@@ -50,7 +50,7 @@ in_window-live w keys id root stage kept root_is live = by (row_at w.entries id)
   where
     by : (o : Option Row) → row_at w.entries id ≡ o → IfSome (option_map key_of o) (λ key. holds_key keys root ≡ is_in_window (desk_of stage w keys) key)
     by None there = tt
-    by (Some row) there = in_window-found w keys row.client row.name id row.kind root stage kept (found-live w id row kept.tree.forest there) root_is live
+    by (Some row) there = in_window-found w keys row.client row.name id row.kind root stage kept (found-live w id row kept.tree there) root_is live
 
 cond-same : {X : Type 0} (b : Bool) (x : X) → cond b x x ≡ x
 cond-same true x = refl

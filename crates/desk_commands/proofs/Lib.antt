@@ -2,13 +2,6 @@ pub mod Counting
 pub mod Effects
 pub mod Rosters
 pub mod Wholes
-pub mod Frames
-pub mod Unmoved
-mod NewStays
-mod DropStays
-mod LeftAsked
-pub mod SetStays
-pub mod StillCommands
 pub mod LinkSteps
 pub mod Edits
 pub mod AttrSteps
@@ -21,7 +14,6 @@ pub mod WindowSteps
 pub mod Admissions
 pub mod AdmitSteps
 pub mod Beats
-pub mod BeatPlaces
 pub mod WindowOrder
 pub mod CommandSteps
 pub mod Changes
@@ -32,5 +24,5 @@ pub mod OthersLists
 pub mod PlaceSteps
 pub mod LiftSteps
 pub mod DropSteps
-mod InWindows
+pub mod InWindows
 pub mod PointerKept

@@ -44,7 +44,7 @@ parent_is w client parent child key key' kind kind' kept upper lower is = by (pa
     by : (o : Option (List ℕ)) → option_and_then (id_named (nodes w.entries) lower.row.client) o ≡ Some key → o ≡ Some parent
     by None h = absurd (cc)
     by (Some u) h =
-        let there = row_named-found w.entries lower.row.client u key kept.forest.own_numbers h ∙ upper.there in
+        let there = row_named-found w.entries lower.row.client u key kept.numbered.own_numbers h ∙ upper.there in
         let name_is : upper.row.name ≡ u = (row_named-parts (rows_of w) lower.row.client u upper.row there).1 in
         ap Some (sym name_is ∙ (found-parts w client parent key kind upper).1)
 

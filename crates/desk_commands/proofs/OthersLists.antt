@@ -1,6 +1,6 @@
 -- What is left where a client leaves.
 use Rattle.std.proofs.Common.{◌≡◌, ℕ, zero, suc, ◌+◌, Bool, true, false, cond, not, ◌&&◌, nat_eq, List, [], ◌∷◌, drop, slice_get, Option, Some, None, is_some, MatchOption, refl, sym, ap, ◌∙◌, add-one}
-use Rattle.std.proofs.lemmas.Bool.{true≢false, false≢true, eqb-true, and_parts, and_from}
+use Rattle.std.proofs.lemmas.Bool.{true≢false, false≢true, eqb-true, and_parts}
 use Rattle.std.specs.Cmp.{nat_eq_equiv}
 use Rattle.std.specs.List.{list_all, filter}
 use Rattle.std.specs.Option.{option_map}
@@ -9,7 +9,8 @@ use Rattle.widget_model.specs.Rows.{Row}
 use Rattle.widget_model.specs.Nodes.{Node, node_of, node_at}
 use Rattle.widget_model.specs.Widgets.{nodes, row_at, key_at}
 use Rattle.tree_core.proofs.ForestLemmas.{node_at-nodes}
-use Rattle.widget_model.proofs.Hanging.{all_at, all-filter}
+use Rattle.widget_model.proofs.LeftRows.{all-kept}
+use Rattle.desk_model.proofs.OthersRows.{filter-within}
 use Rattle.std.proofs.lemmas.Option.{same_Some}
 use Rattle.desk_layout.proofs.KeyNumbers.{key_at-node, key_at-kept}
 use Rattle.desk_commands.specs.Parts.{title_at, windows_at, is_others}
@@ -24,26 +25,15 @@ without-filter (k ∷ ks) key = rw (nat_eq_equiv.symm key k) (by (without-filter
     by rest false = rw rest refl
 
 pub list_all-without : (p : ℕ → Bool) (ks : List ℕ) (key : ℕ) → list_all p ks ≡ true → list_all p (without ks key) ≡ true
-list_all-without p [] key h = refl
-list_all-without p (k ∷ ks) key h = by (list_all-without p ks key parts.1) (nat_eq k key)
-  where
-    parts : (p k ≡ true) × (list_all p ks ≡ true)
-    parts = and_parts (p k) (list_all p ks) h
-
-    by : list_all p (without ks key) ≡ true → (b : Bool) → list_all p (cond b (without ks key) (k ∷ without ks key)) ≡ true
-    by rest true = rest
-    by rest false = and_from _ _ parts.0 rest
+list_all-without p ks key h = ap (list_all p) (without-filter ks key) ∙ all-kept p (λ other. not (nat_eq key other)) ks h
 
 -- a key that doesn't pass is left out anyway
 pub filter-without : (p : ℕ → Bool) (ks : List ℕ) (key : ℕ) → p key ≡ false → filter p (without ks key) ≡ filter p ks
-filter-without p [] key fails = refl
-filter-without p (k ∷ ks) key fails = by (filter-without p ks key fails) (nat_eq k key) refl
+filter-without p ks key fails = ap (filter p) (without-filter ks key) ∙ filter-within (λ other. not (nat_eq key other)) p (λ other passes. by other passes (nat_eq key other) refl) ks
   where
-    by : filter p (without ks key) ≡ filter p ks → (b : Bool) → nat_eq k key ≡ b → filter p (cond b (without ks key) (k ∷ without ks key)) ≡ filter p (k ∷ ks)
-    by rest true q =
-        let here : p k ≡ false = ap p (eqb-true k key q) ∙ fails in
-        rw here rest
-    by rest false q = rw rest refl
+    by : (other : ℕ) → p other ≡ true → (b : Bool) → nat_eq key other ≡ b → not b ≡ true
+    by other passes false q = refl
+    by other passes true q = absurd (true≢false (sym passes ∙ ap p (sym (eqb-true key other q)) ∙ fails))
 
 -- where all pass, all are left
 pub filter-all : {X : Type 0} (p : X → Bool) (xs : List X) → list_all p xs ≡ true → filter p xs ≡ xs
@@ -109,7 +99,7 @@ key_at-others es client id key named other =
         node_at-others es client id node p (ap (nat_eq client) same ∙ other)
 
 pub list_all-filter : {X : Type 0} (p q : X → Bool) (xs : List X) → list_all p xs ≡ true → list_all p (filter q xs) ≡ true
-list_all-filter p q xs all = all-filter p q xs (λ i x there kept. all_at p xs i x all there)
+list_all-filter p q xs all = all-kept p q xs all
 
 -- what holds of None, where there is no other answer
 pub none_given : {X : Type 0} (o : Option X) (P : Type 0) (Q : X → Type 0) → MatchOption o P Q → ((x : X) → o ≡ Some x → ⊥) → P

@@ -3,6 +3,8 @@ use Rattle.std.proofs.Common.{◌≡◌, ℕ, ◌-◌, ℤ, Bool, true, false, c
 use Rattle.std.proofs.lemmas.Bool.{eqb-true, and_parts}
 use Rattle.std.specs.List.{list_all}
 use Rattle.std.specs.Option.{option_map}
+use Rattle.kind_core.specs.declared.kinds.Kind.{Kind}
+use Rattle.kind_core.specs.declared.kinds.Kind.TheVariants.{Grid}
 use Rattle.cmd_words.specs.declared.commands.ConfigOption.{ConfigOption}
 use Rattle.cmd_words.specs.declared.replies.Reply.{Reply}
 use Rattle.cmd_words.specs.declared.replies.Reply.TheVariants.{Done}
@@ -13,14 +15,16 @@ use Rattle.scene_model.specs.Tracks.{rules_of, rule_of}
 use Rattle.widget_model.specs.Rows.{Row}
 use Rattle.widget_model.specs.Nodes.{node_of, node_at}
 use Rattle.widget_model.specs.Named.{with_named}
-use Rattle.widget_model.specs.Widgets.{Widgets, nodes, rows_of, row_at, row_kind, IsGrid, with_row, edited}
+use Rattle.widget_model.specs.Widgets.{Widgets, nodes, rows_in, rows_of, row_at, row_kind, IsGrid, with_row, edited}
 use Rattle.widget_model.specs.Forest.{HaveOwnNumbers, IsWidgets}
 use Rattle.widget_model.specs.Fitting.{fits_rule, fits_rules}
-use Rattle.widget_model.proofs.Naming.{rows}
+use Rattle.widget_model.proofs.Hanging.{all_at}
+use Rattle.widget_model.proofs.Naming.{with_row-absent}
+use Rattle.tree_core.proofs.Listed.{numbered_place}
 use Rattle.desk_model.specs.Desk.{Desk}
 use Rattle.desk_model.specs.Refusals.{outcome}
 use Rattle.desk_model.specs.ConfigOptions.{with_rule_options}
-use Rattle.desk_model.specs.Tracks.{with_rule, with_track, track_refusal, track_effect, step_track}
+use Rattle.desk_model.specs.Tracks.{is_grid, with_rule, with_track, track_refusal, track_effect, step_track}
 use Rattle.desk_model.proofs.Tracks.{read_fits, options_fit}
 use Rattle.desk_commands.specs.Effects.{Did, with_rows}
 use Rattle.desk_commands.specs.Tracks.{IsRuled}
@@ -29,26 +33,14 @@ use Rattle.desk_commands.proofs.Edits.{row_kind-with_row}
 use Rattle.desk_commands.proofs.Changes.{slice_set-same}
 
 -- each row's rules fit
-row_fits : (es : List (ℕ × Row)) (id : ℕ) (row : Row) → list_all fits_rules (rows es) ≡ true → row_at es id ≡ Some row → fits_rules row ≡ true
-row_fits [] id row fits there = absurd (cc)
-row_fits (e ∷ es) id row fits there = by (row_fits es id row parts.1) (nat_eq id e.0) there
-  where
-    parts : (fits_rules e.1 ≡ true) × (list_all fits_rules (rows es) ≡ true)
-    parts = and_parts (fits_rules e.1) (list_all fits_rules (rows es)) fits
+row_fits : (es : List (ℕ × Row)) (id : ℕ) (row : Row) → list_all fits_rules (rows_in es) ≡ true → row_at es id ≡ Some row → fits_rules row ≡ true
+row_fits es id row fits there = let place = numbered_place es id row there in all_at fits_rules (rows_in es) place.0 row fits place.1
 
-    by : (row_at es id ≡ Some row → fits_rules row ≡ true) → (b : Bool) → cond b (Some e.1) (row_at es id) ≡ Some row → fits_rules row ≡ true
-    by rest true h = let same : e.1 ≡ row = cc in ap fits_rules (sym same) ∙ parts.0
-    by rest false h = rest h
+pub grid-kind : (kind : Kind) → is_grid kind ≡ true → kind ≡ Grid
+grid-kind Grid h = refl
+grid-kind _ h = absurd (cc)
 
 -- two changes that agree on the numbered row are one
-agree_absent : (es : List (ℕ × Row)) (id : ℕ) (one other : Row → Row) → node_at (nodes es) id ≡ None → with_row id one es ≡ with_row id other es
-agree_absent [] id one other absent = refl
-agree_absent (e ∷ es) id one other absent = by (agree_absent es id one other) (nat_eq id e.0) absent
-  where
-    by : (node_at (nodes es) id ≡ None → with_row id one es ≡ with_row id other es) → (b : Bool) → cond b (Some (node_of e.1)) (node_at (nodes es) id) ≡ None → cond b (e.0, one e.1) e ∷ with_row id one es ≡ cond b (e.0, other e.1) e ∷ with_row id other es
-    by rest true h = absurd (cc)
-    by rest false h = rw (rest h) refl
-
 agree : (es : List (ℕ × Row)) (id : ℕ) (one other : Row → Row) (row : Row) → HaveOwnNumbers (nodes es) → row_at es id ≡ Some row → one row ≡ other row → with_row id one es ≡ with_row id other es
 agree [] id one other row own there same = refl
 agree (e ∷ es) id one other row own there same = by (agree es id one other row own.1) (nat_eq id e.0) refl there
@@ -58,11 +50,11 @@ agree (e ∷ es) id one other row own there same = by (agree es id one other row
         let here : e.1 ≡ row = cc in
         let first : one e.1 ≡ other e.1 = ap one here ∙ same ∙ ap other (sym here) in
         let absent : node_at (nodes es) id ≡ None = rw (eqb-true id e.0 q) own.0 in
-        rw (first, agree_absent es id one other absent) refl
+        rw (first, with_row-absent es id one absent, with_row-absent es id other absent) refl
     by rest false q h = rw (rest h same) refl
 
 pub edited-agree : (w : Widgets) (id : ℕ) (one other : Row → Row) (row : Row) → IsWidgets w → row_at w.entries id ≡ Some row → one row ≡ other row → edited id one w ≡ edited id other w
-edited-agree w id one other row kept there same = ap (λ (es : List (ℕ × Row)). record w { entries = es }) (agree w.entries id one other row kept.forest.own_numbers there same)
+edited-agree w id one other row kept there same = ap (λ (es : List (ℕ × Row)). record w { entries = es }) (agree w.entries id one other row kept.numbered.own_numbers there same)
 
 rules-fit : (axis : Axis) (row : Row) → fits_rules row ≡ true → list_all fits_rule (rules_of axis row) ≡ true
 rules-fit Across row fits = (and_parts (list_all fits_rule row.column_rules) (list_all fits_rule row.row_rules) fits).0

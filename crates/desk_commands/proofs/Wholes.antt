@@ -24,7 +24,7 @@ did_all step old new keys reply did parts valid =
       kept = record { clients = refl; tree = valid; stack = parts.stack; windows = windows_kept (nodes old.entries) (nodes new.entries) keys did.kept parts.windows };
       names = λ stage id key named inside. key_at-kept old.entries new.entries id key (did.kept id) named;
       admitted = λ entry there. did.kept entry.0 (admitted-node old.entries entry there);
-      numbers = numbers-more old.entries new.entries valid.forest.own_names did.kept;
+      numbers = numbers-more old.entries new.entries valid.rows.names did.kept;
       places = λ id row there. ap (λ (places : List (Option Rect)). place_in places id) did.places;
     }
 
@@ -41,6 +41,6 @@ listed_whole step old new keys roster roster' reply did parts valid =
       limit = did.limit;
       listed = did.listed;
       names = λ stage id key named inside. key_at-kept old.entries new.entries id key (did.kept id) named;
-      numbers = numbers-more old.entries new.entries valid.forest.own_names did.kept;
+      numbers = numbers-more old.entries new.entries valid.rows.names did.kept;
       places = λ id row there. ap (λ (places : List (Option Rect)). place_in places id) did.places;
     }

@@ -14,9 +14,8 @@ use Rattle.stack_core.specs.Stack.{holds_key, IsStack}
 use Rattle.widget_model.specs.Rows.{Row}
 use Rattle.widget_model.specs.Nodes.{Node, node_of, id_named, node_at}
 use Rattle.widget_model.specs.Kinds.{counts_with, is_window_kind}
-use Rattle.widget_model.specs.Named.{has_name, row_named}
-use Rattle.widget_model.specs.Widgets.{Widgets, nodes, row_at}
-use Rattle.widget_model.specs.Forest.{HaveOwnNames}
+use Rattle.widget_model.specs.Named.{has_name, row_named, AreNamedApart}
+use Rattle.widget_model.specs.Widgets.{Widgets, nodes, row_at, rows_in}
 use Rattle.desk_model.specs.Desk.{Desk, is_window, is_open}
 use Rattle.desk_model.specs.Refusals.{when, first_refusal, outcome, unless_there, unless_kind}
 use Rattle.desk_model.specs.Windows.{open_effect, step_open}
@@ -25,7 +24,7 @@ use Rattle.tree_core.proofs.ForestLemmas.{node_at-nodes}
 use Rattle.desk_commands.specs.Parts.{title_at, windows_at, desk_of, names_window, AreParts}
 use Rattle.desk_commands.specs.Effects.{DidAll}
 use Rattle.desk_commands.specs.Lookup.{IsFound}
-use Rattle.desk_commands.proofs.KindRoom.{room_for_one}
+use Rattle.desk_commands.proofs.KindRoom.{IsAlike, room_for_one}
 use Rattle.desk_layout.proofs.KeyNumbers.{numbers-same}
 use Rattle.desk_commands.proofs.Effects.{found-parts}
 
@@ -41,16 +40,31 @@ holds_key-past [] (suc i) key past = rw (add-one (suc i)) refl
 holds_key-past (j ∷ js) zero key past = absurd (cc)
 holds_key-past (j ∷ js) (suc i) key past = rw (add-one (suc i)) (holds_key-past js i key past ∙ rw (add-one i) refl)
 
-same_test : (kind : Kind) → counts_with Window kind ≡ is_window_kind kind
-same_test Window = refl
-same_test _ = refl
+-- Windows are counted by themselves
+windows_alike : (kind : Kind) → counts_with Window kind ≡ is_window_kind kind
+windows_alike Window = refl
+windows_alike _ = refl
+
+pub window-kind : (kind : Kind) → is_window_kind kind ≡ true → kind ≡ Window
+window-kind Window h = refl
+window-kind _ h = absurd (cc)
+
+pub window_at : (w : Widgets) (key : ℕ) → names_window (nodes w.entries) key ≡ true → IsAlike Window w key
+window_at w key window = by (row_at w.entries key) refl (ap named (sym (node_at-nodes w.entries key)) ∙ window)
+  where
+    named : Option Node → Bool
+    named o = option_map_or (λ (node : Node). is_window_kind node.kind) o false
+
+    by : (o : Option Row) → row_at w.entries key ≡ o → named (option_map node_of o) ≡ true → IsAlike Window w key
+    by None p h = absurd (true≢false (sym h))
+    by (Some row) p h = record { row = row; there = p; counts = windows_alike row.kind ∙ h }
 
 -- there are at most 8 Windows of each of 16 clients, and a Window that isn't open is one more than those that are
-pub room_to_open : (clients : List ℕ) (w : Widgets) (keys : List ℕ) (key : ℕ) → AreParts clients w keys → names_window (nodes w.entries) key ≡ true → holds_key keys key ≡ false → length keys < 128
-room_to_open clients w keys key kept window new = room_for_one Window is_window_kind same_test w.clients (nodes w.entries) keys key kept.tree.forest kept.stack.distinct kept.windows window new
+pub room_to_open : (w : Widgets) (keys : List ℕ) (key : ℕ) → AreParts w.clients w keys → names_window (nodes w.entries) key ≡ true → holds_key keys key ≡ false → length keys < 128
+room_to_open w keys key kept window new = room_for_one Window w keys key (names_window (nodes w.entries)) kept.tree kept.stack.distinct kept.windows (window_at w) (window_at w key window) new
 
 -- a widget has the client and name of the one that was found exactly where it has its number
-pub same_title : (w : Widgets) (client : ℕ) (name : List ℕ) (key : ℕ) (kind : Kind) (k : ℕ) → HaveOwnNames (nodes w.entries) → IsFound w client name key kind → is_some (row_at w.entries k) ≡ true → is_window client name (title_at (nodes w.entries) k) ≡ nat_eq k key
+pub same_title : (w : Widgets) (client : ℕ) (name : List ℕ) (key : ℕ) (kind : Kind) (k : ℕ) → AreNamedApart (rows_in w.entries) → IsFound w client name key kind → is_some (row_at w.entries k) ≡ true → is_window client name (title_at (nodes w.entries) k) ≡ nat_eq k key
 same_title w client name key kind k own found live = by (row_at w.entries k) refl (node_at-nodes w.entries k) live
   where
     parts : (found.row.client ≡ client) × (found.row.name ≡ name)
@@ -77,14 +91,14 @@ same_title w client name key kind k own found live = by (row_at w.entries k) ref
         rw there (same row p (has_name client name row) refl)
 
 -- an open window has the client and name of the one that was found exactly where it has its number
-pub same_window : (w : Widgets) (client : ℕ) (name : List ℕ) (key : ℕ) (kind : Kind) (k : ℕ) → HaveOwnNames (nodes w.entries) → IsFound w client name key kind → names_window (nodes w.entries) k ≡ true → is_window client name (title_at (nodes w.entries) k) ≡ nat_eq k key
+pub same_window : (w : Widgets) (client : ℕ) (name : List ℕ) (key : ℕ) (kind : Kind) (k : ℕ) → AreNamedApart (rows_in w.entries) → IsFound w client name key kind → names_window (nodes w.entries) k ≡ true → is_window client name (title_at (nodes w.entries) k) ≡ nat_eq k key
 same_window w client name key kind k own found window = same_title w client name key kind k own found (by (row_at w.entries k) (sym (ap (λ (o : Option Node). option_map_or (λ (node : Node). is_window_kind node.kind) o false) (node_at-nodes w.entries k)) ∙ window))
   where
     by : (o : Option Row) → option_map_or (λ (node : Node). is_window_kind node.kind) (option_map node_of o) false ≡ true → is_some o ≡ true
     by None h = absurd (true≢false (sym h))
     by (Some row) h = refl
 
-pub is_open-holds_key : (w : Widgets) (client : ℕ) (name : List ℕ) (key : ℕ) (kind : Kind) (keys : List ℕ) → HaveOwnNames (nodes w.entries) → IsFound w client name key kind → list_all (names_window (nodes w.entries)) keys ≡ true → list_any (is_window client name) (windows_at (nodes w.entries) keys) ≡ holds_key keys key
+pub is_open-holds_key : (w : Widgets) (client : ℕ) (name : List ℕ) (key : ℕ) (kind : Kind) (keys : List ℕ) → AreNamedApart (rows_in w.entries) → IsFound w client name key kind → list_all (names_window (nodes w.entries)) keys ≡ true → list_any (is_window client name) (windows_at (nodes w.entries) keys) ≡ holds_key keys key
 is_open-holds_key w client name key kind [] own found windows = refl
 is_open-holds_key w client name key kind (k ∷ ks) own found windows =
     let parts = and_parts (names_window (nodes w.entries) k) (list_all (names_window (nodes w.entries)) ks) windows in
@@ -109,14 +123,14 @@ step_open-by desk client name row b h k = rw (h, k) refl
 -- a step that leaves the widgets and the windows
 pub refused_all : (step : Desk → Reply × Desk) (w : Widgets) (keys : List ℕ) (reply : Reply) (refusal : Refusal) → AreParts w.clients w keys → reply ≡ Refused refusal → ((stage : Stage) → step (desk_of stage w keys) ≡ (Refused refusal, desk_of stage w keys)) → DidAll step w w keys keys reply
 refused_all step w keys reply refusal kept replied answer =
-    record { answer = λ stage. ap (λ (r : Reply). (r, desk_of stage w keys)) replied ∙ sym (answer stage); clients = refl; kept = kept; names = λ stage id key named inside. named; admitted = λ entry there. refl; numbers = numbers-same w.entries kept.tree.forest.own_names; places = λ id row there. refl }
+    record { answer = λ stage. ap (λ (r : Reply). (r, desk_of stage w keys)) replied ∙ sym (answer stage); clients = refl; kept = kept; names = λ stage id key named inside. named; admitted = λ entry there. refl; numbers = numbers-same w.entries kept.tree.rows.names; places = λ id row there. refl }
 
 pub opened_all : (w : Widgets) (client : ℕ) (name : List ℕ) (key : ℕ) (kind : Kind) (keys keys' : List ℕ) (reply : Reply) → AreParts w.clients w keys → IsFound w client name key kind → is_window_kind kind ≡ true → holds_key keys key ≡ false → keys' ≡ key ∷ keys → IsStack keys' → reply ≡ Done → DidAll (λ desk. step_open desk client name) w w keys keys' reply
 opened_all w client name key kind keys keys' reply kept found window new pushed stack replied =
     let right : is_window_kind found.row.kind ≡ true = ap is_window_kind found.has ∙ window in
     let title = found-title w client name key kind found in
     let P : List ℕ → Type 0 = λ ks. list_all (names_window (nodes w.entries)) ks ≡ true in
-    let closed = is_open-holds_key w client name key kind keys kept.tree.forest.own_names found kept.windows ∙ new in
+    let closed = is_open-holds_key w client name key kind keys kept.tree.rows.names found kept.windows ∙ new in
     record {
       answer = λ stage.
           ap₂ (λ (r : Reply) (ks : List ℕ). (r, desk_of stage w ks)) replied pushed
@@ -126,6 +140,6 @@ opened_all w client name key kind keys keys' reply kept found window new pushed 
       kept = record { clients = kept.clients; tree = kept.tree; stack = stack; windows = subst P (sym pushed) (and_from _ _ (found-window w client name key kind found window) kept.windows) };
       names = λ stage id key named inside. named;
       admitted = λ entry there. refl;
-      numbers = numbers-same w.entries kept.tree.forest.own_names;
+      numbers = numbers-same w.entries kept.tree.rows.names;
       places = λ id row there. refl;
     }

@@ -1,6 +1,5 @@
 pub mod Pointer
 pub mod Parts
-pub mod Stays
 pub mod Effects
 pub mod Lookup
 pub mod TreeRefusals

@@ -14,12 +14,11 @@ ghost use Rattle.desk_commands.specs.Effects.{DidListed, TellsRows};
 ghost use Rattle.desk_commands.specs.Screens.{HasFilm, AnswersWanted, begins};
 
 use crate::answer::Answer;
-use crate::kinds::is_screen;
-use crate::lookup::find;
+use crate::lookup::find_kind;
 use crate::ranges::unless_within;
 use admit_core::Roster;
 use cmd_words::Refusal;
-use kind_core::Name;
+use kind_core::{Kind, Name};
 use tree_core::{Id, Tree};
 use vscreen_core::{Film, share};
 
@@ -43,20 +42,17 @@ fn screen_wanted(tree: &Tree, client: u32, name: &Name, period: i32) -> Result<W
     ensures wanted { AnswersWanted tree.now client name.now period result }
     ensures valid { IsWidgets tree.now }
 {
-    let found = match find(tree, client, name) {
-        Some(found) => found,
-        None => return Err(Refusal::NoSuchName),
+    let id = match find_kind(tree, client, name, Kind::VScreen) {
+        Ok(id) => id,
+        Err(refusal) => return Err(refusal),
     };
-    if !is_screen(found.kind) {
-        return Err(Refusal::WrongKind);
-    }
     match unless_within(1, 64, period) {
         Some(refusal) => return Err(refusal),
         None => {}
     }
-    match tree.film(found.id) {
+    match tree.film(id) {
         Some(film) => Ok(Wanted {
-            id: found.id,
+            id,
             share: share(film.width(), film.height(), period.unsigned_abs()),
             changed: begins(film, period.unsigned_abs()),
         }),
@@ -146,18 +142,15 @@ pub(crate) fn leave(tree: &mut Tree, roster: &mut Roster, client: u32, name: &Na
     ensures tells { TellsRows tree.old tree.new result.changed }
     ensures valid { IsWidgets tree.new }
 {
-    let found = match find(tree, client, name) {
-        Some(found) => found,
-        None => return Answer::refused(Refusal::NoSuchName),
+    let id = match find_kind(tree, client, name, Kind::VScreen) {
+        Ok(id) => id,
+        Err(refusal) => return Answer::refused(refusal),
     };
-    if !is_screen(found.kind) {
-        return Answer::refused(Refusal::WrongKind);
-    }
-    if !is_admitted(tree, found.id) {
+    if !is_admitted(tree, id) {
         return Answer::refused(Refusal::NotAdmitted);
     }
-    settle_film(tree, found.id);
-    roster.leave(found.id.key);
+    settle_film(tree, id);
+    roster.leave(id.key);
     Answer::done(true)
 }
 

@@ -24,8 +24,8 @@ pub(crate) fn bind(
     ensures valid { IsWidgets tree.new }
 {
     let found = match find(tree, client, name) {
-        Some(found) => found,
-        None => return Answer::refused(Refusal::NoSuchName),
+        Ok(found) => found,
+        Err(refusal) => return Answer::refused(refusal),
     };
     if !gives(found.kind, event) {
         return Answer::refused(Refusal::WrongKind);

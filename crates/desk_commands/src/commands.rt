@@ -30,10 +30,7 @@ use tree_core::Tree;
 pub fn is_poll(command: &Command) -> bool
     ensures { result ≡ is_poll command.now }
 {
-    match command {
-        Command::Poll => true,
-        _ => false,
-    }
+    matches!(command, Command::Poll)
 }
 
 /// Carries out a connected client's command, any but `poll`, on the tree, the order of the open windows and the roster,

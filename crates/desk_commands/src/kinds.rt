@@ -1,42 +1,11 @@
-//! What the kinds of widgets can do. Each question on a kind is answered here, but for `is_window` of desk_layout.
+//! What the kinds of widgets can do.
 
 ghost use Rattle.std.specs.Prelude.{◌≡◌, ◌&&◌};
 ghost use Rattle.widget_model.specs.Trees.{has_children, can_be_child};
 ghost use Rattle.widget_model.specs.Kinds.{can_link, is_variable_kind};
-ghost use Rattle.desk_model.specs.Screens.{is_screen};
-ghost use Rattle.desk_model.specs.Tracks.{is_grid};
 ghost use Rattle.desk_model.specs.PlaceOptions.{last_cell};
-ghost use Rattle.desk_commands.specs.Stays.{is_entry, is_frame};
 
 use kind_core::Kind;
-
-/// Whether the kind is Entry.
-pub(crate) fn is_entry(kind: Kind) -> bool
-    ensures { result ≡ is_entry kind }
-{
-    matches!(kind, Kind::Entry)
-}
-
-/// Whether the kind is Frame, whose offset a Variable can be.
-pub(crate) fn is_frame(kind: Kind) -> bool
-    ensures { result ≡ is_frame kind }
-{
-    matches!(kind, Kind::Frame)
-}
-
-/// Whether the kind is Grid, which has tracks.
-pub(crate) fn is_grid(kind: Kind) -> bool
-    ensures { result ≡ is_grid kind }
-{
-    matches!(kind, Kind::Grid)
-}
-
-/// Whether the kind is VScreen, which shows films.
-pub(crate) fn is_screen(kind: Kind) -> bool
-    ensures { result ≡ is_screen kind }
-{
-    matches!(kind, Kind::VScreen)
-}
 
 /// The last column and row of a widget of the kind.
 pub(crate) fn last_cell(kind: Kind) -> i32
@@ -79,8 +48,8 @@ pub(crate) fn can_link(kind: Kind) -> bool
     )
 }
 
-/// Whether the kind is Variable.
-pub(crate) fn is_variable(kind: Kind) -> bool
+/// Whether the kind is Variable: a widget of that kind is not shown, and others show its value. See docs/GUIDE.md, "Kinds".
+pub fn is_variable(kind: Kind) -> bool
     ensures { result ≡ is_variable_kind kind }
 {
     matches!(kind, Kind::Variable)

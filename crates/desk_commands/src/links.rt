@@ -19,12 +19,12 @@ pub(crate) fn link(tree: &mut Tree, client: u32, name: &Name, variable: &Name) -
     ensures valid { IsWidgets tree.new }
 {
     let found = match find(tree, client, name) {
-        Some(found) => found,
-        None => return Answer::refused(Refusal::NoSuchName),
+        Ok(found) => found,
+        Err(refusal) => return Answer::refused(refusal),
     };
     let other = match find(tree, client, variable) {
-        Some(other) => other,
-        None => return Answer::refused(Refusal::NoSuchName),
+        Ok(other) => other,
+        Err(refusal) => return Answer::refused(refusal),
     };
     if !can_lead(found.kind, other.kind) {
         return Answer::refused(Refusal::WrongKind);
@@ -41,8 +41,8 @@ pub(crate) fn unlink(tree: &mut Tree, client: u32, name: &Name) -> Answer
     ensures valid { IsWidgets tree.new }
 {
     let found = match find(tree, client, name) {
-        Some(found) => found,
-        None => return Answer::refused(Refusal::NoSuchName),
+        Ok(found) => found,
+        Err(refusal) => return Answer::refused(refusal),
     };
     if !can_link(found.kind) {
         return Answer::refused(Refusal::WrongKind);

@@ -3,8 +3,9 @@
 ghost use Rattle.std.specs.Prelude.{◌≡◌, ◌↔◌, Some, IsTrue};
 ghost use Rattle.std.specs.Option.{option_map};
 ghost use Rattle.widget_model.specs.Forest.{IsWidgets};
-ghost use Rattle.desk_commands.specs.Lookup.{AnswersFound};
+ghost use Rattle.desk_commands.specs.Lookup.{AnswersFound, AnswersKind};
 
+use cmd_words::Refusal;
 use kind_core::{Kind, Name};
 use tree_core::{Id, Tree};
 
@@ -15,18 +16,33 @@ pub(crate) struct Found {
     pub kind: Kind,
 }
 
-/// The client's widget of that name.
-pub(crate) fn find(tree: &Tree, client: u32, name: &Name) -> Option<Found>
+/// The client's widget of that name, or the refusal where there is none.
+pub(crate) fn find(tree: &Tree, client: u32, name: &Name) -> Result<Found, Refusal>
     ensures found { AnswersFound tree.now client name.now result }
     ensures valid { IsWidgets tree.now }
 {
     match tree.find(client, name) {
-        Some(id) => Some(Found {
+        Some(id) => Ok(Found {
             id,
             kind: tree.kind(id),
         }),
-        None => None,
+        None => Err(Refusal::NoSuchName),
     }
+}
+
+/// The client's widget of that name and that kind, or the first refusal where there is none.
+pub(crate) fn find_kind(tree: &Tree, client: u32, name: &Name, kind: Kind) -> Result<Id, Refusal>
+    ensures found { AnswersKind tree.now client name.now kind result }
+    ensures valid { IsWidgets tree.now }
+{
+    let found = match find(tree, client, name) {
+        Ok(found) => found,
+        Err(refusal) => return Err(refusal),
+    };
+    if found.kind != kind {
+        return Err(Refusal::WrongKind);
+    }
+    Ok(found.id)
 }
 
 /// Whether this is the widget of that number.

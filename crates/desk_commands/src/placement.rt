@@ -40,12 +40,12 @@ pub(crate) fn place(
     ensures valid { IsWidgets tree.new }
 {
     let upper = match find(tree, client, parent) {
-        Some(upper) => upper,
-        None => return Answer::refused(Refusal::NoSuchName),
+        Ok(upper) => upper,
+        Err(refusal) => return Answer::refused(refusal),
     };
     let lower = match find(tree, client, child) {
-        Some(lower) => lower,
-        None => return Answer::refused(Refusal::NoSuchName),
+        Ok(lower) => lower,
+        Err(refusal) => return Answer::refused(refusal),
     };
     if !can_hang(upper.kind, lower.kind) {
         return Answer::refused(Refusal::WrongKind);
@@ -67,12 +67,12 @@ pub(crate) fn lift(tree: &mut Tree, client: u32, parent: &Name, child: &Name) ->
     ensures valid { IsWidgets tree.new }
 {
     let upper = match find(tree, client, parent) {
-        Some(upper) => upper,
-        None => return Answer::refused(Refusal::NoSuchName),
+        Ok(upper) => upper,
+        Err(refusal) => return Answer::refused(refusal),
     };
     let lower = match find(tree, client, child) {
-        Some(lower) => lower,
-        None => return Answer::refused(Refusal::NoSuchName),
+        Ok(lower) => lower,
+        Err(refusal) => return Answer::refused(refusal),
     };
     if !is_number(tree.parent(lower.id), upper.id.key) {
         return Answer::refused(Refusal::NotHere);

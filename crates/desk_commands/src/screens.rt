@@ -6,39 +6,26 @@ ghost use Rattle.widget_model.specs.Forest.{IsWidgets};
 ghost use Rattle.desk_model.specs.Refusals.{is_memory};
 ghost use Rattle.desk_model.specs.Screens.{step_mode, step_frame, framed, with_film_changed};
 ghost use Rattle.desk_commands.specs.Effects.{Did, TellsRows};
-ghost use Rattle.desk_commands.specs.Screens.{same_size, same_time, same_pictures, keeps_film, AnswersMode, AnswersFrame, HasFilm, HasFilmOf};
+ghost use Rattle.desk_commands.specs.Screens.{same_film, keeps_film, AnswersMode, AnswersFrame, HasFilm, HasFilmOf};
 
 use crate::admission::is_admitted;
 use crate::answer::Answer;
-use crate::kinds::is_screen;
-use crate::lookup::find;
+use crate::lookup::find_kind;
 use crate::ranges::unless_within;
 use cmd_words::Refusal;
-use kind_core::Name;
+use kind_core::{Kind, Name};
 use std::alloc::Global;
 use tree_core::{Id, Tree};
 use vscreen_core::Film;
 
-/// Whether the films have one size.
-fn is_same_size(one: &Film, other: &Film) -> bool
-    ensures { result ≡ same_size one.now other.now }
+/// Whether the films are the same: of one size, at one phase of one period, with the same frames, and showing the same.
+fn is_same_film(one: &Film, other: &Film) -> bool
+    ensures { result ≡ same_film one.now other.now }
 {
-    one.width() == other.width() && one.height() == other.height()
-}
-
-/// Whether the films stand at the same phase of the same period.
-fn is_same_time(one: &Film, other: &Film) -> bool
-    ensures { result ≡ same_time one.now other.now }
-{
-    one.period() == other.period() && one.phase() == other.phase()
-}
-
-/// Whether the films have the same frames and show the same.
-fn are_same_pictures(one: &Film, other: &Film) -> bool
-    ensures { result ≡ same_pictures one.now other.now }
-{
-    one.newest() == other.newest()
-        && (one.current() == other.current() && one.shown() == other.shown())
+    (one.width() == other.width() && one.height() == other.height())
+        && ((one.period() == other.period() && one.phase() == other.phase())
+            && (one.newest() == other.newest()
+                && (one.current() == other.current() && one.shown() == other.shown())))
 }
 
 /// Whether the VScreen has a film that is as that one in all.
@@ -47,9 +34,7 @@ fn has_film(tree: &Tree, id: Id, film: &Film) -> bool
     ensures has { HasFilmOf tree.now id.key film.now result }
 {
     match tree.film(id) {
-        Some(own) => {
-            is_same_size(own, film) && (is_same_time(own, film) && are_same_pictures(own, film))
-        }
+        Some(own) => is_same_film(own, film),
         None => false,
     }
 }
@@ -59,13 +44,10 @@ fn screen_for(tree: &Tree, client: u32, name: &Name, w: i32, h: i32) -> Result<I
     ensures screen { AnswersMode tree.now client name.now w h result }
     ensures valid { IsWidgets tree.now }
 {
-    let found = match find(tree, client, name) {
-        Some(found) => found,
-        None => return Err(Refusal::NoSuchName),
+    let id = match find_kind(tree, client, name, Kind::VScreen) {
+        Ok(id) => id,
+        Err(refusal) => return Err(refusal),
     };
-    if !is_screen(found.kind) {
-        return Err(Refusal::WrongKind);
-    }
     match unless_within(1, 256, w) {
         Some(refusal) => return Err(refusal),
         None => {}
@@ -74,10 +56,10 @@ fn screen_for(tree: &Tree, client: u32, name: &Name, w: i32, h: i32) -> Result<I
         Some(refusal) => return Err(refusal),
         None => {}
     }
-    if is_admitted(tree, found.id) {
+    if is_admitted(tree, id) {
         return Err(Refusal::Admitted);
     }
-    Ok(found.id)
+    Ok(id)
 }
 
 /// `v.mode(w, h)`
@@ -126,28 +108,21 @@ fn screen_of(tree: &Tree, client: u32, name: &Name, frame: &[u8]) -> Result<Fram
     ensures screen { AnswersFrame tree.now client name.now frame.now result }
     ensures valid { IsWidgets tree.now }
 {
-    let found = match find(tree, client, name) {
-        Some(found) => found,
-        None => return Err(Refusal::NoSuchName),
+    let id = match find_kind(tree, client, name, Kind::VScreen) {
+        Ok(id) => id,
+        Err(refusal) => return Err(refusal),
     };
-    if !is_screen(found.kind) {
-        return Err(Refusal::WrongKind);
-    }
-    let film = match tree.film(found.id) {
+    let film = match tree.film(id) {
         Some(film) => film,
         None => return Err(Refusal::NoMode),
     };
     let want = film.width() * film.height();
-    if frame.len() as u32 != want {
-        return Err(Refusal::FrameSize {
-            want,
-            got: frame.len() as u32,
-        });
+    let got = frame.len() as u32;
+    if got != want {
+        return Err(Refusal::FrameSize { want, got });
     }
-    Ok(Framed {
-        id: found.id,
-        changed: !keeps_film(film, frame),
-    })
+    let changed = !keeps_film(film, frame);
+    Ok(Framed { id, changed })
 }
 
 /// Gives the film the frame; it is shown at once where the film isn't admitted.

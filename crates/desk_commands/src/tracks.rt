@@ -13,12 +13,11 @@ ghost use Rattle.desk_commands.specs.Effects.{Did, TellsRows};
 ghost use Rattle.desk_commands.specs.Tracks.{AnswersRuled};
 
 use crate::answer::Answer;
-use crate::kinds::is_grid;
-use crate::lookup::find;
+use crate::lookup::find_kind;
 use crate::ranges::unless_within;
 use crate::rule_options::{rule_options_refusal, with_rule_options};
 use cmd_words::{ConfigOption, Refusal};
-use kind_core::Name;
+use kind_core::{Kind, Name};
 use scene_model::Axis;
 use tree_core::{Id, Tree};
 
@@ -40,13 +39,10 @@ fn grid_to_rule(
     ensures ruled { AnswersRuled tree.now client name.now index options.now result }
     ensures valid { IsWidgets tree.now }
 {
-    let found = match find(tree, client, name) {
-        Some(found) => found,
-        None => return Err(Refusal::NoSuchName),
+    let id = match find_kind(tree, client, name, Kind::Grid) {
+        Ok(id) => id,
+        Err(refusal) => return Err(refusal),
     };
-    if !is_grid(found.kind) {
-        return Err(Refusal::WrongKind);
-    }
     match unless_within(1, 16, index) {
         Some(refusal) => return Err(refusal),
         None => {}
@@ -55,10 +51,8 @@ fn grid_to_rule(
         Some(refusal) => return Err(refusal),
         None => {}
     }
-    Ok(Ruled {
-        id: found.id,
-        at: index.unsigned_abs(),
-    })
+    let at = index.unsigned_abs();
+    Ok(Ruled { id, at })
 }
 
 /// The size and the weight of the Grid's track.

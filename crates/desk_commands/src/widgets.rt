@@ -116,8 +116,8 @@ pub(crate) fn set(tree: &mut Tree, client: u32, name: &Name, options: &[(Attr, V
     ensures valid { IsWidgets tree.new }
 {
     let found = match find(tree, client, name) {
-        Some(found) => found,
-        None => return Answer::refused(Refusal::NoSuchName),
+        Ok(found) => found,
+        Err(refusal) => return Answer::refused(refusal),
     };
     match attrs_refusal(found.kind, options) {
         Some(refusal) => return Answer::refused(refusal),
@@ -148,8 +148,8 @@ pub fn get(tree: &Tree, client: u32, name: &Name, attr: Attr) -> Answer
     ensures valid { IsWidgets tree.now }
 {
     let found = match find(tree, client, name) {
-        Some(found) => found,
-        None => return Answer::refused(Refusal::NoSuchName),
+        Ok(found) => found,
+        Err(refusal) => return Answer::refused(refusal),
     };
     match tree.attr(found.id, attr) {
         Some(value) => Answer {
@@ -167,8 +167,8 @@ pub(crate) fn drop_widget(tree: &mut Tree, windows: &Stack, client: u32, name: &
     ensures tells { TellsAll tree.old tree.new windows.now windows.now result.changed }
 {
     let found = match find(tree, client, name) {
-        Some(found) => found,
-        None => return Answer::refused(Refusal::NoSuchName),
+        Ok(found) => found,
+        Err(refusal) => return Answer::refused(refusal),
     };
     if windows.holds(found.id.key) {
         return Answer::refused(Refusal::InUse);

@@ -11,10 +11,9 @@ ghost use Rattle.desk_commands.specs.Parts.{AreParts, names_window, is_others};
 ghost use Rattle.desk_commands.specs.Effects.{DidAll, TellsAll};
 
 use crate::answer::Answer;
-use crate::lookup::find;
+use crate::lookup::find_kind;
 use cmd_words::Refusal;
-use desk_layout::is_window;
-use kind_core::{Attr, Name, Value};
+use kind_core::{Attr, Kind, Name, Value};
 use stack_core::Stack;
 use tree_core::{Id, Tree};
 
@@ -24,17 +23,14 @@ pub(crate) fn open_window(tree: &Tree, windows: &mut Stack, client: u32, name: &
     ensures tells { TellsAll tree.now tree.now windows.old windows.new result.changed }
     ensures did { DidAll (λ desk. step_open desk client name.now) tree.now tree.now windows.old windows.new result.reply }
 {
-    let found = match find(tree, client, name) {
-        Some(found) => found,
-        None => return Answer::refused(Refusal::NoSuchName),
+    let id = match find_kind(tree, client, name, Kind::Window) {
+        Ok(id) => id,
+        Err(refusal) => return Answer::refused(refusal),
     };
-    if !is_window(found.kind) {
-        return Answer::refused(Refusal::WrongKind);
-    }
-    if windows.holds(found.id.key) {
+    if windows.holds(id.key) {
         return Answer::refused(Refusal::AlreadyOpen);
     }
-    match windows.push_top(found.id.key) {
+    match windows.push_top(id.key) {
         Ok(()) => Answer::done(true),
         Err(_) => unreachable!(),
     }
@@ -46,14 +42,11 @@ pub(crate) fn close_window(tree: &Tree, windows: &mut Stack, client: u32, name: 
     ensures tells { TellsAll tree.now tree.now windows.old windows.new result.changed }
     ensures did { DidAll (λ desk. step_close desk client name.now) tree.now tree.now windows.old windows.new result.reply }
 {
-    let found = match find(tree, client, name) {
-        Some(found) => found,
-        None => return Answer::refused(Refusal::NoSuchName),
+    let id = match find_kind(tree, client, name, Kind::Window) {
+        Ok(id) => id,
+        Err(refusal) => return Answer::refused(refusal),
     };
-    if !is_window(found.kind) {
-        return Answer::refused(Refusal::WrongKind);
-    }
-    if !windows.remove(found.id.key) {
+    if !windows.remove(id.key) {
         return Answer::refused(Refusal::NotOpen);
     }
     Answer::done(true)
@@ -65,15 +58,12 @@ pub(crate) fn top_window(tree: &Tree, windows: &mut Stack, client: u32, name: &N
     ensures tells { TellsAll tree.now tree.now windows.old windows.new result.changed }
     ensures did { DidAll (λ desk. step_top desk client name.now) tree.now tree.now windows.old windows.new result.reply }
 {
-    let found = match find(tree, client, name) {
-        Some(found) => found,
-        None => return Answer::refused(Refusal::NoSuchName),
+    let id = match find_kind(tree, client, name, Kind::Window) {
+        Ok(id) => id,
+        Err(refusal) => return Answer::refused(refusal),
     };
-    if !is_window(found.kind) {
-        return Answer::refused(Refusal::WrongKind);
-    }
-    let on_top = is_on_top(windows, found.id.key);
-    if !windows.raise(found.id.key) {
+    let on_top = is_on_top(windows, id.key);
+    if !windows.raise(id.key) {
         return Answer::refused(Refusal::NotOpen);
     }
     Answer::done(!on_top)
@@ -83,10 +73,7 @@ pub(crate) fn top_window(tree: &Tree, windows: &mut Stack, client: u32, name: &N
 fn is_on_top(windows: &Stack, key: u32) -> bool
     ensures { IsTrue result ↔ (slice_get windows.now 0 ≡ Some key) }
 {
-    match windows.at(0) {
-        Some(top) => top == key,
-        None => false,
-    }
+    windows.at(0) == Some(key)
 }
 
 /// An open window of the client.

@@ -1,11 +1,10 @@
 -- What the desk's beat makes of its parts: the desk after the beat, and parts that keep what they kept.
 use Rattle.std.proofs.Common.{◌≡◌, ℕ, true, List, refl, sym, ap, ◌∙◌, subst}
 use Rattle.std.specs.List.{list_all}
-use Rattle.std.specs.Option.{option_map}
 use Rattle.kind_core.specs.declared.shapes.Shape.{Shape}
 use Rattle.admit_core.specs.Roster.{RosterState}
-use Rattle.widget_model.specs.Nodes.{Node, node_at}
-use Rattle.widget_model.specs.Widgets.{Widgets, nodes, rows_of, key_at}
+use Rattle.widget_model.specs.Nodes.{Node}
+use Rattle.widget_model.specs.Widgets.{Widgets, nodes, rows_of}
 use Rattle.widget_model.specs.Forest.{IsWidgets}
 use Rattle.widget_model.specs.Pointer as model
 use Rattle.tree_core.specs.declared.pointer.Pointer.{Pointer}
@@ -14,10 +13,10 @@ use Rattle.desk_model.specs.DeskFacts.{IsDesk, IsRosterOf}
 use Rattle.desk_model.specs.Beat.{beat}
 use Rattle.desk_model.proofs.KeptBeat.{beats_keep}
 use Rattle.desk_layout.specs.Numbers.{KeepsNumbers}
-use Rattle.desk_layout.proofs.KeyNumbers.{key_at-node}
+use Rattle.desk_inputs.proofs.GivenValues.{key_at-kept}
 use Rattle.desk_commands.specs.Parts.{Stage, stage_of, desk_of, admissions_at, names_window, ListsAdmitted}
 use Rattle.desk_commands.specs.Beating.{listed_desk, ListsEach}
-use Rattle.desk_commands.proofs.BeatPlaces.{due-beaten}
+use Rattle.desk_moves.proofs.BeatPlaces.{due-beaten}
 use Rattle.desk_commands.proofs.PointerKept.{Holds, pointer-holds}
 use Rattle.desk_core.specs.Kept.{IsKept}
 
@@ -32,15 +31,9 @@ module _ (shape : Shape) (pointer : Pointer) (rings : List Ring) (w : Widgets) (
   lists-each = subst (λ (limit : ℕ). IsRosterOf limit (rows_of w) (admissions_at (nodes w.entries) roster.entries)) (sym kept.limit) kept.desk.roster
 
   module _ (new : Widgets) (beats : (stage : Stage) (keys : List ℕ) → listed_desk stage new roster keys ≡ beat (listed_desk stage w roster keys)) (same : nodes new.entries ≡ nodes w.entries) where
-    key_same : (id : ℕ) → key_at new.entries id ≡ key_at w.entries id
-    key_same id =
-        key_at-node new.entries id
-        ∙ ap (λ (ns : List (ℕ × Node)). option_map (λ (node : Node). let key : ℕ × List ℕ = (node.client, node.name) in key) (node_at ns id)) same
-        ∙ sym (key_at-node w.entries id)
-
     -- the pointer holds what it held
     holds : Holds w.entries new.entries pointer
-    holds = pointer-holds w.entries new.entries unbeaten pointer refl kept.desk.held kept.held (λ id key named inside. key_same id ∙ named)
+    holds = pointer-holds w.entries new.entries unbeaten pointer refl kept.desk.held kept.held (λ id key named inside. key_at-kept w.entries new.entries id same ∙ named)
 
     pub beaten-desk : desk_of (stage_of shape roster rings new pointer) new keys ≡ beat unbeaten
     beaten-desk = ap (λ (p : model.Pointer). let d : Desk = record (listed_desk stage new roster keys) { pointer = p } in d) holds.same ∙ beats stage keys

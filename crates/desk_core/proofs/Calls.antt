@@ -1,5 +1,5 @@
 -- What each call of the desk makes of its parts: the desk of its event's step, and parts that keep what they kept.
-use Rattle.std.proofs.Common.{◌≡◌, ◌≤◌, ◌<◌, ℕ, ◌-◌, Bool, true, false, ◌&&◌, List, [], Option, refl, sym, ap, ap₂, ◌∙◌, subst}
+use Rattle.std.proofs.Common.{◌≡◌, ◌≤◌, ◌<◌, ℕ, ◌-◌, Bool, true, false, ◌&&◌, List, [], refl, sym, ap, ap₂, ◌∙◌, subst}
 use Rattle.admit_core.specs.Roster.{RosterState, IsRoster, empty_roster}
 use Rattle.cmd_words.specs.declared.commands.Command.{Command}
 use Rattle.cmd_words.specs.declared.replies.Reply.{Reply}
@@ -8,13 +8,11 @@ use Rattle.scene_model.specs.Shapes.{IsShape}
 use Rattle.widget_model.specs.Rows.{Row}
 use Rattle.widget_model.specs.Named.{rows_of_others}
 use Rattle.widget_model.specs.Widgets.{Widgets, nodes, no_widgets, rows_of}
-use Rattle.widget_model.specs.Clients.{is_joined}
 use Rattle.widget_model.specs.Forest.{IsWidgets}
 use Rattle.desk_model.specs.Desk.{Desk, Ring, opening_desk, is_connected}
 use Rattle.desk_model.specs.DeskFacts.{IsDesk}
 use Rattle.desk_model.specs.Refusals.{is_memory}
 use Rattle.desk_model.specs.LetGo.{let_go}
-use Rattle.desk_model.specs.Clients.{free_client}
 use Rattle.desk_model.specs.Commands.{row_of, step}
 use Rattle.desk_model.proofs.Desks.{IsDesk-opening, IsDesk-command}
 use Rattle.desk_commands.specs.Parts.{Stage, stage_of, windows_at, admissions_at, desk_of, AreParts, AreListed}
@@ -25,7 +23,7 @@ use Rattle.desk_commands.specs.Pointer.{HoldsLive}
 use Rattle.desk_layout.specs.Placed.{HaveDuePlaces}
 use Rattle.desk_layout.specs.Numbers.{KeepsNumbers}
 use Rattle.desk_layout.specs.Settled.{IsSettled}
-use Rattle.desk_commands.specs.Stays.{MoveNothing, may_move}
+use Rattle.desk_moves.specs.Stays.{MoveNothing, may_move}
 use Rattle.desk_commands.specs.Effects.{DidWhole, TellsAll}
 use Rattle.kind_core.specs.declared.shapes.Shape.{Shape}
 use Rattle.widget_model.specs.Pointer as model
@@ -33,23 +31,15 @@ use Rattle.tree_core.specs.declared.pointer.Pointer.{Pointer}
 use Rattle.desk_model.proofs.OwnPart.{commands_leave_others}
 use Rattle.desk_layout.proofs.KeyNumbers.{others-due}
 use Rattle.desk_layout.proofs.Layouts.{laid-due}
-use Rattle.desk_commands.proofs.Unmoved.{unmoved-untold, unmoved-due}
-use Rattle.desk_commands.proofs.StillCommands.{unmoved-command}
+use Rattle.desk_moves.proofs.Unmoved.{unmoved-untold, unmoved-due}
+use Rattle.desk_moves.proofs.StillCommands.{unmoved-command}
 use Rattle.scene_model.specs.WindowRows.{AreHung}
-use Rattle.tree_core.proofs.Listed.{AreNamedApart-rows}
 use Rattle.desk_commands.proofs.PointerKept.{Holds, pointer-holds}
 use Rattle.bind_core.specs.Polling.{poll_answer, after_poll}
 use Rattle.desk_model.specs.Polling.{ring_of, with_ring, poll_reply}
-use Rattle.desk_commands.specs.Effects.{is_poll}
+use Rattle.cmd_words.specs.declared.commands.Command.TheVariants.{Poll}
 use Rattle.desk_core.proofs.ClientLists.{clients-with_ring}
-use Rattle.desk_core.proofs.CallSteps.{step-obeyed, held-with_rings, poll-row}
-
--- whether a client is connected, by the list kept beside the tree
-pub connected-joined : (stage : Stage) (clients : List ℕ) (w : Widgets) (keys : List ℕ) (client : ℕ) (there : Bool) → AreParts clients w keys → there ≡ is_joined clients client → is_connected (desk_of stage w keys) client ≡ there
-connected-joined stage clients w keys client there kept is = ap (λ (cs : List ℕ). is_joined cs client) (sym kept.clients) ∙ sym is
-
-pub free-joined : (stage : Stage) (clients : List ℕ) (w : Widgets) (keys : List ℕ) (free : Option ℕ) → AreParts clients w keys → free ≡ free_client clients → free_client (desk_of stage w keys).clients ≡ free
-free-joined stage clients w keys free kept is = ap free_client (sym kept.clients) ∙ sym is
+use Rattle.desk_core.proofs.CallSteps.{step-obeyed, polled-step}
 
 -- the pointer stays where it is as it lets go
 pub let_go-stays : (shape : Shape) (roster : RosterState) (rings : List Ring) (w : Widgets) (keys : List ℕ) (pointer after : Pointer) → desk_of (stage_of shape roster rings w after) w keys ≡ let_go (desk_of (stage_of shape roster rings w pointer) w keys) → (after.x ≡ pointer.x) × (after.y ≡ pointer.y)
@@ -99,7 +89,7 @@ module _ (shape : Shape) (pointer : Pointer) (rings : List Ring) (w new : Widget
   obeyed-still changed tells still = told changed refl
     where
       after : AreHung (rows_of new)
-      after = record { names = AreNamedApart-rows new.entries obeyed-tree.forest.own_names; planted = obeyed-tree.planted }
+      after = record { names = obeyed-tree.rows.names; planted = obeyed-tree.rows.planted }
 
       rows : rows_of new ≡ (row_of command payload was client (is_memory reply)).1.rows
       rows = ap (λ (done : Reply × Desk). done.1.rows) obeyed-row
@@ -164,28 +154,17 @@ module _ (shape : Shape) (pointer : Pointer) (rings : List Ring) (w new : Widget
           }
 
 -- `poll`: the client's ring changes, and nothing else
-module _ (shape : Shape) (pointer : Pointer) (rings now : List Ring) (w : Widgets) (keys : List ℕ) (roster : RosterState) (client : ℕ) (command : Command) (payload : List ℕ) (reply : Reply) (kept : IsKept shape pointer rings w keys roster) (there : is_connected (desk_of (stage_of shape roster rings w pointer) w keys) client ≡ true) (asks : is_poll command ≡ true) (told : reply ≡ poll_reply (poll_answer (ring_of rings client))) (changed : now ≡ with_ring client after_poll rings) where
-  abbrev unpolled : Desk
-  unpolled = desk_of (stage_of shape roster rings w pointer) w keys
-
-  abbrev polled : Desk
-  polled = desk_of (stage_of shape roster now w pointer) w keys
-
-  pub polled-step : (reply, polled) ≡ step unpolled client command payload (is_memory reply)
-  polled-step =
-      step-obeyed unpolled client command payload (is_memory reply) reply polled polled there
-      (ap₂ (λ (r : Reply) (rs : List Ring). (r, record unpolled { rings = rs })) told changed ∙ poll-row command payload unpolled client (is_memory reply) asks)
-      (sym (held-with_rings now unpolled kept.desk.held))
-
-  pub polled-kept : IsKept shape pointer now w keys roster
-  polled-kept =
-      record {
-        parts = subst (λ (clients : List ℕ). AreParts clients w keys) (sym (ap clients_of changed ∙ clients-with_ring client after_poll rings)) kept.parts;
-        held = kept.held;
-        limit = kept.limit;
-        listed = kept.listed;
-        desk = subst IsDesk (sym (ap (λ (done : Reply × Desk). done.1) polled-step)) (IsDesk-command unpolled client command payload (is_memory reply) kept.desk);
-        placed = kept.placed;
-        across = kept.across;
-        down = kept.down;
-      }
+pub polled-kept : (shape : Shape) (pointer : Pointer) (rings now : List Ring) (w : Widgets) (keys : List ℕ) (roster : RosterState) (client : ℕ) → IsKept shape pointer rings w keys roster → is_connected (desk_of (stage_of shape roster rings w pointer) w keys) client ≡ true → now ≡ with_ring client after_poll rings → IsKept shape pointer now w keys roster
+polled-kept shape pointer rings now w keys roster client kept there changed =
+    let old = desk_of (stage_of shape roster rings w pointer) w keys in
+    let stepped = polled-step old (desk_of (stage_of shape roster now w pointer) w keys) client Poll [] false (poll_reply (poll_answer (ring_of rings client))) kept.desk.held there refl refl (ap (λ (rs : List Ring). record old { rings = rs }) changed) in
+    record {
+      parts = subst (λ (clients : List ℕ). AreParts clients w keys) (sym (ap clients_of changed ∙ clients-with_ring client after_poll rings)) kept.parts;
+      held = kept.held;
+      limit = kept.limit;
+      listed = kept.listed;
+      desk = subst IsDesk (sym (ap (λ (done : Reply × Desk). done.1) stepped)) (IsDesk-command old client Poll [] false kept.desk);
+      placed = kept.placed;
+      across = kept.across;
+      down = kept.down;
+    }

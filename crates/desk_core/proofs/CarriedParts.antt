@@ -21,8 +21,8 @@ use Rattle.desk_layout.specs.Placed.{HaveDuePlaces}
 use Rattle.desk_commands.specs.Parts.{desk_of, stage_of, windows_at, AreParts}
 use Rattle.desk_commands.specs.Pointer.{HoldsLive}
 use Rattle.desk_commands.specs.Effects.{TellsAll}
-use Rattle.desk_commands.specs.Stays.{MoveNothing, effects_move}
-use Rattle.desk_commands.proofs.Unmoved.{unmoved-due}
+use Rattle.desk_moves.specs.Stays.{MoveNothing, effects_move}
+use Rattle.desk_moves.proofs.Unmoved.{unmoved-due}
 use Rattle.desk_inputs.specs.Carried.{HasRows}
 use Rattle.desk_inputs.specs.Raised.{windows_after}
 use Rattle.desk_inputs.proofs.CarriedDesks.{carried-desk}

@@ -1,6 +1,5 @@
--- A client comes: the step of its `connect` or `hello`, and what the parts of a desk keep then.
-use Rattle.std.proofs.Common.{◌≡◌, ℕ, true, false, not, nat_eq, List, [], ◌∷◌, ◌++◌, Some, refl, sym, ap, ap₂, ◌∙◌, subst}
-use Rattle.std.specs.Prelude.{pos}
+-- A client comes: the desk then, and what its parts keep.
+use Rattle.std.proofs.Common.{◌≡◌, ℕ, true, false, not, nat_eq, List, [], ◌∷◌, ◌++◌, Result, Ok, Err, OnOk, OnErr, refl, sym, ap, ap₂, ◌∙◌, subst}
 use Rattle.std.specs.List.{filter}
 use Rattle.std.specs.Cmp.{nat_eq_equiv}
 use Rattle.std.proofs.lemmas.Bool.{or_parts}
@@ -8,30 +7,20 @@ use Rattle.kind_core.specs.declared.shapes.Shape.{Shape}
 use Rattle.bind_core.specs.Ring.{RingState, new_ring}
 use Rattle.admit_core.specs.Roster.{RosterState}
 use Rattle.cmd_words.specs.declared.replies.Reply.{Reply}
-use Rattle.cmd_words.specs.declared.replies.Reply.TheVariants.{Done, Number}
 use Rattle.widget_model.specs.Widgets.{Widgets, joined}
 use Rattle.widget_model.specs.Clients.{is_joined, is_client}
 use Rattle.widget_model.specs.Forest.{IsWidgets}
 use Rattle.tree_core.specs.declared.pointer.Pointer.{Pointer}
-use Rattle.scene_model.specs.Scene.{Scene}
 use Rattle.desk_model.specs.Desk.{Desk, Ring, is_connected}
 use Rattle.desk_model.specs.DeskFacts.{IsDesk}
-use Rattle.desk_model.specs.LetGo.{let_go}
-use Rattle.desk_model.specs.Clients.{free_client, step_connect, step_hello, with_client}
-use Rattle.desk_model.specs.Seen as seen
-use Rattle.desk_model.proofs.Desks.{IsDesk-connect, IsDesk-hello}
+use Rattle.desk_model.specs.Clients.{with_client}
+use Rattle.desk_model.proofs.Desks.{IsDesk-connect}
 use Rattle.desk_layout.specs.Placed.{HaveDuePlaces}
-use Rattle.desk_layout.specs.Numbers.{KeepsNumbers}
-use Rattle.desk_layout.proofs.KeyNumbers.{numbers-equal}
 use Rattle.desk_commands.specs.Parts.{stage_of, desk_of, AreParts, ListsAdmitted}
 use Rattle.desk_commands.specs.Pointer.{HoldsLive}
-use Rattle.desk_core.specs.View.{DeskView, StaysUnlessMoved}
-use Rattle.desk_core.specs.Touching.{TellsTouched}
 use Rattle.desk_core.specs.Kept.{IsKept}
 use Rattle.desk_core.specs.ClientList.{clients_of, ring_for}
-use Rattle.desk_core.proofs.CallSteps.{connect-joined, hello-joined}
-use Rattle.desk_core.proofs.StillDesks.{stays-same}
-use Rattle.desk_core.proofs.TouchedLooks.{stayed-touched}
+use Rattle.desk_core.proofs.CallSteps.{connect-joined}
 
 -- a client joins: the rows and the open windows stay
 AreParts-joined : (clients now : List ℕ) (old new : Widgets) (client : ℕ) (keys : List ℕ) → AreParts clients old keys → IsWidgets new → new ≡ joined client old → now ≡ clients ++ client ∷ [] → AreParts now new keys
@@ -70,60 +59,54 @@ rings-added rings now client added = ap clients_of added ∙ by rings
     by [] = refl
     by (r ∷ rs) = ap (λ (cs : List ℕ). r.client ∷ cs) (by rs)
 
--- a client comes: its step, and what the parts keep
-module _ (shape : Shape) (pointer : Pointer) (rings now : List Ring) (w new : Widgets) (keys : List ℕ) (roster : RosterState) (client : ℕ) (left : new ≡ joined client w) (added : now ≡ rings ++ ring_for client ∷ []) where
+-- a client comes, where there is memory for it: the desk, and what its parts keep
+module _ (shape : Shape) (pointer : Pointer) (rings now : List Ring) (w new : Widgets) (keys : List ℕ) (roster : RosterState) (client : ℕ) where
   abbrev unjoined : Desk
   unjoined = desk_of (stage_of shape roster rings w pointer) w keys
 
-  joined-desk : desk_of (stage_of shape roster now new pointer) new keys ≡ with_client client unjoined
-  joined-desk = ap₂ (λ (v : Widgets) (rs : List Ring). desk_of (stage_of shape roster rs v pointer) v keys) left added
+  abbrev joined_now : Desk
+  joined_now = desk_of (stage_of shape roster now new pointer) new keys
 
-  pub connected-step : let_go unjoined ≡ unjoined → is_connected unjoined client ≡ false → (Done, desk_of (stage_of shape roster now new pointer) new keys) ≡ step_connect unjoined client false
-  connected-step held absent = ap (λ (d : Desk). (Done, d)) joined-desk ∙ connect-joined unjoined client held absent
+  abbrev HasCome : Type 0
+  HasCome = (now ≡ rings ++ ring_for client ∷ []) × (new ≡ joined client w)
 
-  pub greeted-step : let_go unjoined ≡ unjoined → free_client unjoined.clients ≡ Some client → (Number (pos client), desk_of (stage_of shape roster now new pointer) new keys) ≡ step_hello unjoined false
-  greeted-step held free = ap (λ (d : Desk). (Number (pos client), d)) joined-desk ∙ hello-joined unjoined client held free
+  abbrev HasStayed : Type 0
+  HasStayed = (now ≡ rings) × (new ≡ w)
 
-  came-kept : IsKept shape pointer rings w keys roster → IsWidgets new → IsDesk (desk_of (stage_of shape roster now new pointer) new keys) → IsKept shape pointer now new keys roster
-  came-kept kept tree desk =
+  came-desk : HasCome → joined_now ≡ with_client client unjoined
+  came-desk come = ap₂ (λ (v : Widgets) (rs : List Ring). desk_of (stage_of shape roster rs v pointer) v keys) come.1 come.0
+
+  came-kept : HasCome → IsKept shape pointer rings w keys roster → IsWidgets new → is_client client ≡ true → is_connected unjoined client ≡ false → IsKept shape pointer now new keys roster
+  came-kept come kept tree range absent =
       record {
-        parts = AreParts-joined (clients_of rings) (clients_of now) w new client keys kept.parts tree left (rings-added rings now client added);
-        held = joined-held pointer w new client left kept.held;
+        parts = AreParts-joined (clients_of rings) (clients_of now) w new client keys kept.parts tree come.1 (rings-added rings now client come.0);
+        held = joined-held pointer w new client come.1 kept.held;
         limit = kept.limit;
-        listed = subst (λ (v : Widgets). ListsAdmitted v.entries roster) (sym left) kept.listed;
-        placed = joined-placed w new client left kept.placed;
+        listed = subst (λ (v : Widgets). ListsAdmitted v.entries roster) (sym come.1) kept.listed;
+        placed = joined-placed w new client come.1 kept.placed;
         across = kept.across;
         down = kept.down;
-        desk = desk;
+        desk = subst IsDesk (sym (came-desk come ∙ ap (λ (done : Reply × Desk). done.1) (connect-joined unjoined client kept.desk.held absent))) (IsDesk-connect unjoined client false range kept.desk);
       }
 
-  pub connected-kept : IsKept shape pointer rings w keys roster → is_client client ≡ true → is_connected unjoined client ≡ false → IsWidgets new → IsKept shape pointer now new keys roster
-  connected-kept kept range absent tree =
-      came-kept kept tree (subst IsDesk (sym (ap (λ (done : Reply × Desk). done.1) (connected-step kept.desk.held absent))) (IsDesk-connect unjoined client false range kept.desk))
+  stayed-kept : HasStayed → IsKept shape pointer rings w keys roster → IsKept shape pointer now new keys roster
+  stayed-kept same kept =
+      let P : List Ring → Type 0 = λ rs. IsKept shape pointer rs new keys roster in
+      let Q : Widgets → Type 0 = λ v. IsKept shape pointer rings v keys roster in
+      subst P (sym same.0) (subst Q (sym same.1) kept)
 
-  pub greeted-kept : IsKept shape pointer rings w keys roster → free_client unjoined.clients ≡ Some client → IsWidgets new → IsKept shape pointer now new keys roster
-  greeted-kept kept free tree =
-      came-kept kept tree (subst IsDesk (sym (ap (λ (done : Reply × Desk). done.1) (greeted-step kept.desk.held free))) (IsDesk-hello unjoined false kept.desk))
+  pub let_in-kept : {T E : Type 0} (result : Result T E) → OnOk result HasCome → OnErr result HasStayed → IsKept shape pointer rings w keys roster → IsWidgets new → is_client client ≡ true → is_connected unjoined client ≡ false → IsKept shape pointer now new keys roster
+  let_in-kept (Ok x) come stay kept tree range absent = came-kept come kept tree range absent
+  let_in-kept (Err e) come stay kept tree range absent = stayed-kept stay kept
 
--- nobody has come: the parts are as they were
-pub stayed-kept : (shape : Shape) (pointer : Pointer) (rings now : List Ring) (w new : Widgets) (keys : List ℕ) (roster : RosterState) → (now ≡ rings) × (new ≡ w) → IsKept shape pointer rings w keys roster → IsKept shape pointer now new keys roster
-stayed-kept shape pointer rings now w new keys roster same kept =
-    let P : List Ring → Type 0 = λ rs. IsKept shape pointer rs new keys roster in
-    let Q : Widgets → Type 0 = λ v. IsKept shape pointer rings v keys roster in
-    subst P (sym same.0) (subst Q (sym same.1) kept)
+  pub let_in-entries : {T E : Type 0} (result : Result T E) → OnOk result HasCome → OnErr result HasStayed → new.entries ≡ w.entries
+  let_in-entries (Ok x) come stay = ap (λ (v : Widgets). v.entries) come.1
+  let_in-entries (Err e) come stay = ap (λ (v : Widgets). v.entries) stay.1
 
--- whoever comes or doesn't, the widgets and the open windows stay, by what they were
-pub record IsVisit (old new : DeskView) : Type 0 where
-  pub before : IsWidgets old.widgets
-  pub entries : new.widgets.entries ≡ old.widgets.entries
-  pub scene : seen.scene_of new.desk ≡ seen.scene_of old.desk
-  pub touched : new.touched ≡ []
+  pub let_in-ok : {T E : Type 0} (result : Result T E) → OnOk result HasCome → OnOk result (joined_now ≡ with_client client unjoined)
+  let_in-ok (Ok x) come = came-desk come
+  let_in-ok (Err e) come = tt
 
-pub visit-numbers : (old new : DeskView) → IsVisit old new → KeepsNumbers old.widgets.entries new.widgets.entries
-visit-numbers old new visit = numbers-equal old.widgets.entries new.widgets.entries visit.before.forest.own_names visit.entries
-
-pub visit-touched : (old new : DeskView) → IsVisit old new → TellsTouched old new
-visit-touched old new visit = stayed-touched old new visit.entries visit.scene visit.touched
-
-pub visit-still : (old new : DeskView) → IsVisit old new → StaysUnlessMoved old new
-visit-still old new visit = λ none. stays-same old.desk new.desk (ap (λ (s : Scene). s.rows) visit.scene) (ap (λ (s : Scene). s.windows) visit.scene)
+  pub let_in-err : {T E : Type 0} (result : Result T E) → OnErr result HasStayed → OnErr result (joined_now ≡ unjoined)
+  let_in-err (Ok x) stay = tt
+  let_in-err (Err e) stay = ap₂ (λ (v : Widgets) (rs : List Ring). desk_of (stage_of shape roster rs v pointer) v keys) stay.1 stay.0

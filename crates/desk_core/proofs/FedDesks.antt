@@ -41,7 +41,7 @@ use Rattle.desk_core.specs.Kept.{IsKept}
 use Rattle.desk_model.specs.Seen as seen
 use Rattle.desk_model.specs.Scope.{effects_scope}
 use Rattle.desk_model.specs.InPlace.{hung_of, StaysInPlace}
-use Rattle.desk_commands.specs.Stays.{MoveNothing}
+use Rattle.desk_moves.specs.Stays.{MoveNothing}
 use Rattle.touch_rules.specs.Laws.{WatchesScope}
 use Rattle.desk_core.specs.declared.carried.Carried.{Carried}
 use Rattle.desk_core.specs.Watching.{effects_numbers, value_number}
@@ -121,7 +121,7 @@ module _ (shape : Shape) (pointer : Pointer) (rings : List Ring) (w : Widgets) (
     fed-step = fed-desk unfed fed event (effects_seen w.entries effects) asks (is.desk shape roster pointer)
 
     pub fed-numbers : KeepsNumbers w.entries w'.entries
-    fed-numbers = numbers-more w.entries w'.entries is.parts.tree.forest.own_names (λ id live. ap (λ (ns : List (ℕ × Node)). node_at ns id) is.same_nodes)
+    fed-numbers = numbers-more w.entries w'.entries is.parts.tree.rows.names (λ id live. ap (λ (ns : List (ℕ × Node)). node_at ns id) is.same_nodes)
 
     at_x : after.x ≡ effects.pointer.x
     unfolding let_go carried_out

@@ -58,7 +58,7 @@ owner-range w id client valid owner = by (row_at w.entries id) refl owner
     by : (o : Option Row) → row_at w.entries id ≡ o → option_map (λ (row : Row). row.client) o ≡ Some client → (1 ≤ client) × (client ≤ 16)
     by None there h = absurd (cc)
     by (Some row) there h =
-        let own = row-owned w.clients w.entries id row valid.forest there in
+        let own = row-owned w id row valid there in
         let same : row.client ≡ client = cc in
         (subst (λ (n : ℕ). 1 ≤ n) same own.low, subst (λ (n : ℕ). n ≤ 16) same own.high)
 
@@ -79,7 +79,7 @@ due-laid client id old new rest owner low valid is due = record {
     by : (n : ℕ) (row : Row) → row_at old.entries n ≡ Some row → rest row.client ≡ false → (b : Bool) → nat_eq client row.client ≡ b → place_at new n ≡ due_place (rows_of old) row
     by n row there apart true q = (is.laid refl).own n row there (sym (eqb-true client row.client q))
     by n row there apart false q =
-        is.changed.others n (number-client client row.client n low (row-owned old.clients old.entries n row valid.forest there).own ∙ q)
+        is.changed.others n (number-client client row.client n low (row-owned old n row valid there).own ∙ q)
         ∙ due.each n row there
         (ap (λ (b : Bool). b || rest row.client) (ap (nat_eq row.client) (owner-key old id client (owner-live old id.key client owner) owner) ∙ other_way client row.client q) ∙ apart)
 
@@ -136,7 +136,7 @@ due-given w w' effects valid sound due has = record { each = each }
         rows = ap (own_rows row.client) has.rows ∙ own_rows-fed row.client (effects_seen w.entries effects) (rows_of w) (asks-others w.entries effects row.client (sym (asked row.client) ∙ apart))
 
         was : row_named (rows_of w) row.client row.name ≡ Some row
-        was = sym (row_named-agree row.client row.name (rows_of w') (rows_of w) rows) ∙ row_named-row w'.entries id row sound.forest.own_numbers sound.forest.own_names there
+        was = sym (row_named-agree row.client row.name (rows_of w') (rows_of w) rows) ∙ row_named-row w'.entries id row sound.numbered.own_numbers sound.rows.names there
 
         number : (n : ℕ) × (row_at w.entries n ≡ Some row)
         number = number-named w row valid was

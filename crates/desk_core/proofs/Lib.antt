@@ -11,6 +11,7 @@ mod Goings
 mod Beats
 mod Views
 mod TouchedLooks
+pub mod Visits
 mod FedPlaces
 mod CarriedParts
 mod FedDesks

@@ -32,7 +32,7 @@ entry-admitted w entry valid live share = by (row_at w.entries entry.0) refl liv
     by (Some row) p h =
         let node : node_at (nodes w.entries) entry.0 ≡ Some (node_of row) = node_at-nodes w.entries entry.0 ∙ ap (option_map node_of) p in
         let title : title_at (nodes w.entries) entry.0 ≡ (row.client, row.name) = ap (λ (o : Option Node). option_map_or (λ (n : Node). (n.client, n.name)) o (0, [])) node in
-        let own : row_named (rows_of w) row.client row.name ≡ Some row = row_named-row w.entries entry.0 row valid.forest.own_numbers valid.forest.own_names p in
+        let own : row_named (rows_of w) row.client row.name ≡ Some row = row_named-row w.entries entry.0 row valid.numbered.own_numbers valid.rows.names p in
         let film : option_map_or (λ (f : FilmState). nat_lt 0 f.period && nat_eq entry.1 (share_of f.width f.height f.period)) row.film false ≡ true =
         sym (ap (λ (o : Option Row). option_map_or (λ (f : FilmState). nat_lt 0 f.period && nat_eq entry.1 (share_of f.width f.height f.period)) (option_and_then (λ (r : Row). r.film) o) false) own)
         ∙ sym (ap (λ (t : ℕ × List ℕ). let a : Admission = record { client = t.0; name = t.1; share = entry.1 } in has_its_share (rows_of w) a) title)

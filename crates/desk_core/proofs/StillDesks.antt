@@ -19,11 +19,11 @@ use Rattle.desk_model.specs.Commands.{step}
 use Rattle.desk_model.specs.InPlace.{hung_of, due_of, StaysInPlace, HangsAlike, leaves_hung}
 use Rattle.desk_model.proofs.Refused.{refused_commands_change_nothing}
 use Rattle.desk_commands.specs.Effects.{is_poll}
-use Rattle.desk_commands.specs.Stays.{MoveNothing, may_move, moves}
+use Rattle.desk_moves.specs.Stays.{MoveNothing, may_move, moves}
 use Rattle.desk_core.specs.View.{is_refused}
 use Rattle.desk_core.specs.Asking.{only_asks}
 use Rattle.desk_model.proofs.InPlace.{commands_leave_hung}
-use Rattle.desk_commands.proofs.StillCommands.{unmoved-command}
+use Rattle.desk_moves.proofs.StillCommands.{unmoved-command}
 
 -- where the same widgets hang alike, a key that none has here none has there
 hung-none : (a b : List Row) (key : ℕ × List ℕ) → map hung_of a ≡ map hung_of b → row_of a key ≡ None → row_of b key ≡ None
@@ -95,7 +95,7 @@ stepped-still old new client command payload short reply kept sound there steppe
     done none =
         let parts = or_parts (may_move old.rows client command) (not (leaves_hung command)) none in
         let hangs : HangsAlike old new = subst (HangsAlike old) (sym next) (commands_leave_hung old client command payload short (not-false (leaves_hung command) parts.1)) in
-        let hung : AreHung new.rows = record { names = sound.names; planted = sound.planted } in
+        let hung : AreHung new.rows = record { names = sound.rows.names; planted = sound.rows.planted } in
         stays-in-place old new hangs.hung hangs.windows
         (subst (λ (rs : List Row). MoveNothing old.rows rs) (sym rows) (unmoved-command command payload old client short kept (subst AreHung rows hung) parts.0))
 

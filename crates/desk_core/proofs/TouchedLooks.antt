@@ -117,7 +117,7 @@ left-touched client old new call left none =
         by None at = at
         by (Some row) at =
             let other = row_at-left old.widgets.entries client id row (sym (ap (λ (es : List (ℕ × Row)). row_at es id) left) ∙ at) in
-            let number = number-of-row new.widgets.entries id row call.after.forest.numbers at in
+            let number = number-of-row new.widgets.entries id row call.after.numbered.numbers at in
             absurd (true≢false (sym own ∙ number-client client row.client id call.some number ∙ other))
 
 pub stayed-touched : (old new : DeskView) → new.widgets.entries ≡ old.widgets.entries → seen.scene_of new.desk ≡ seen.scene_of old.desk → new.touched ≡ [] → TellsTouched old new

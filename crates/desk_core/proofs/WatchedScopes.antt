@@ -51,7 +51,7 @@ module _ (w : Widgets) (valid : IsWidgets w) where
   asked-covered : (o : Option Id) → IfSome o (λ id. IsLive w id.key) → Cover (keys_in (option_map (key_seen w.entries) o)) (numbers_in (option_map (λ (id : Id). id.key) o))
   asked-covered o live = record {
     each = λ id row at among.
-        number-among w.entries (option_map (λ (one : Id). one.key) o) id row valid.forest.own_names at (ap (λ (keys : Option (ℕ × List ℕ)). is_among (keys_in keys) (key_of row)) (seen o live) ∙ among);
+        number-among w.entries (option_map (λ (one : Id). one.key) o) id row valid.rows.names at (ap (λ (keys : Option (ℕ × List ℕ)). is_among (keys_in keys) (key_of row)) (seen o live) ∙ among);
   }
     where
       some : (r : Option Row) → is_some r ≡ true → option_map key_of r ≡ Some (unwrap_or (option_map key_of r) (0, []))
@@ -82,7 +82,7 @@ module _ (w : Widgets) (valid : IsWidgets w) where
 
   -- what the pointer holds
   held-covered : (pointer : Pointer) → Cover (held_keys (pointer_seen w.entries pointer)) (held_numbers pointer)
-  held-covered pointer = record { each = λ id row at among. held-among w.entries pointer id row valid.forest.own_names at among }
+  held-covered pointer = record { each = λ id row at among. held-among w.entries pointer id row valid.rows.names at among }
 
   one-number : (o : Option ℕ) (id : ℕ) → list_any (nat_eq id) (numbers_in o) ≡ true → o ≡ Some id
   one-number None id among = absurd (true≢false (sym among))

@@ -19,7 +19,7 @@ use Rattle.desk_model.specs.Feeding.{rows_after, carried_out}
 use Rattle.desk_layout.specs.Placed.{HaveDuePlaces}
 use Rattle.desk_commands.specs.Parts.{desk_of, stage_of, windows_at, AreParts}
 use Rattle.desk_commands.specs.Pointer.{HoldsLive}
-use Rattle.desk_commands.specs.Stays.{MoveNothing, effects_move}
+use Rattle.desk_moves.specs.Stays.{MoveNothing, effects_move}
 use Rattle.desk_core.specs.declared.carried.Carried.{Carried}
 
 -- whether the numbered widget, where there is one, is the client's

@@ -1,10 +1,12 @@
-ghost use Rattle.std.specs.Prelude.{◌≡◌, ◌<◌, ◌≤◌, ◌↔◌, ◌&&◌, IsSome, IfSome, Some, true, false, not, [], length, slice_get, All, map};
+ghost use Rattle.std.specs.Prelude.{◌≡◌, ◌<◌, ◌≤◌, ◌↔◌, ◌&&◌, IsSome, IfSome, MatchOption, OnOk, OnErr, Some, true, false, not, [], length, slice_get, All, map};
 ghost use Rattle.std.specs.Bool.{OnTrue};
 ghost use Rattle.std.specs.Option.{option_map};
-ghost use Rattle.desk_model.specs.Desk.{opening_desk};
+ghost use Rattle.bind_core.specs.Polling.{poll_answer, after_poll};
+ghost use Rattle.desk_model.specs.Desk.{opening_desk, is_connected};
 ghost use Rattle.desk_model.specs.DeskFacts.{IsDesk};
 ghost use Rattle.desk_model.specs.Seen.{open_windows};
-ghost use Rattle.desk_model.specs.Clients.{free_client, step_bye, step_connect, step_hello};
+ghost use Rattle.desk_model.specs.Clients.{free_client, step_bye, step_connect, step_hello, with_client};
+ghost use Rattle.desk_model.specs.Polling.{poll_reply, ring_of, with_ring};
 ghost use Rattle.scene_model.specs.Shapes.{IsShape};
 ghost use Rattle.desk_model.specs.Commands.{IsPayload, step};
 ghost use Rattle.desk_model.specs.Feeding.{step_feed};
@@ -16,8 +18,9 @@ ghost use Rattle.desk_model.specs.OwnPart.{LeavesOthers};
 ghost use Rattle.desk_layout.specs.Numbers.{KeepsNumbers};
 ghost use Rattle.desk_layout.specs.Placed.{HaveDuePlaces};
 ghost use Rattle.desk_core.specs.View.{StaysUnlessChanged, StaysUnlessMoved, TellsChange, is_refused};
-ghost use Rattle.desk_commands.specs.Stays.{moves};
-ghost use Rattle.desk_core.specs.Asking.{only_asks, StaysAsItWas};
+ghost use Rattle.desk_moves.specs.Stays.{moves};
+ghost use Rattle.desk_core.specs.Asking.{only_asks, IsAnswer, StaysAsItWas};
+ghost use Rattle.desk_core.specs.Visits.{IsVisit};
 ghost use Rattle.desk_core.specs.Touching.{TellsTouched};
 ghost use Rattle.desk_model.specs.Seen as seen;
 ghost use Rattle.scene_core.specs.View.{scene_of, IsView, KeepsPlaces};
@@ -32,11 +35,11 @@ use crate::touching::{forget, view_of};
 use crate::watching::keep_watched;
 use admit_core::Roster;
 use arrayvec::ArrayVec;
+use bind_core::NoMemory;
 use cmd_words::{Command, Input, Refusal, Reply};
-use desk_commands::{
-    beat, close_windows, dismiss, is_poll, let_go, may_move, moves, obey, place_of,
-};
+use desk_commands::{beat, close_windows, dismiss, is_poll, let_go, obey, place_of};
 use desk_layout::settle;
+use desk_moves::{may_move, moves};
 use scene_core::View;
 use scene_model::Shape;
 use shot_core::Touched;
@@ -136,8 +139,75 @@ impl Desk {
         }
     }
 
+    /// Leaves the desk as it is: the call changes, moves and touches nothing.
+    fn stay(&mut self)
+        ensures put { StaysAsItWas self.old self.new }
+        ensures valid { IsDesk self.new.desk }
+        ensures visit { IsVisit self.old self.new }
+    {
+        self.changed = false;
+        self.moved = false;
+        forget(&mut self.touched);
+    }
+
+    /// Whether the client is connected.
+    fn has(&self, client: u32) -> bool
+        ensures { result ≡ is_connected self.now.desk client }
+    {
+        self.clients.has(client)
+    }
+
+    /// The least number of a client that isn't connected.
+    fn free(&self) -> Option<u32>
+        ensures free { result ≡ free_client self.now.desk.clients }
+        ensures low { IfSome result (λ client. 1 ≤ client) }
+        ensures high { IfSome result (λ client. client ≤ 16) }
+        ensures new_client { IfSome result (λ client. is_connected self.now.desk client ≡ false) }
+    {
+        self.clients.free()
+    }
+
+    /// Lets a client in, 1 to 16, that isn't connected. NoMemory leaves the desk as it was. Either way the widgets and the
+    /// open windows stay.
+    fn let_in(&mut self, client: u32) -> Result<(), NoMemory>
+        requires low { 1 ≤ client }
+        requires high { client ≤ 16 }
+        requires new_client { is_connected self.old.desk client ≡ false }
+        ensures ok { OnOk result (self.new.desk ≡ with_client client self.old.desk) }
+        ensures err { OnErr result (self.new.desk ≡ self.old.desk) }
+        ensures valid { IsDesk self.new.desk }
+        ensures visit { IsVisit self.old self.new }
+    {
+        self.changed = false;
+        self.moved = false;
+        forget(&mut self.touched);
+        join(&mut self.clients, &mut self.tree, self.alloc, client)
+    }
+
+    /// The answer to a command that only asks; None where it isn't one.
+    fn answer(&self, client: u32, command: &Command) -> Option<Reply>
+        ensures { MatchOption result (only_asks command.now ≡ false) (λ reply. IsAnswer self.now.desk.rows client command.now reply) }
+    {
+        answer_to(&self.tree, client, command)
+    }
+
+    /// What a connected client that polls is told. Its kept events change, and nothing else.
+    fn poll(&mut self, client: u32) -> Reply
+        requires { is_connected self.old.desk client ≡ true }
+        ensures reply { result ≡ poll_reply (poll_answer (ring_of self.old.desk.rings client)) }
+        ensures desk { self.new.desk ≡ record self.old.desk { rings = with_ring client after_poll self.old.desk.rings } }
+        ensures valid { IsDesk self.new.desk }
+        ensures visit { IsVisit self.old self.new }
+    {
+        self.changed = false;
+        self.moved = false;
+        forget(&mut self.touched);
+        poll_reply(self.clients.poll(client))
+    }
+
     /// Connects a client, 1 to 16, and answers Done. Refuses Connected where it is connected, and else Memory
     /// where there is none. See docs/GUIDE.md, "Commands".
+    #[tactic(auto, using(crate::proofs::Visits::visit_numbers, crate::proofs::Visits::visit_touched, crate::proofs::Visits::visit_still, crate::proofs::Visits::visit_changed))]
     pub fn connect(&mut self, client: u32) -> Reply
         requires low { 1 ≤ client }
         requires high { client ≤ 16 }
@@ -151,13 +221,11 @@ impl Desk {
         ensures numbered { KeepsNumbers self.old.widgets.entries self.new.widgets.entries }
         ensures touched { TellsTouched self.old self.new }
     {
-        self.changed = false;
-        self.moved = false;
-        forget(&mut self.touched);
-        if self.clients.has(client) {
+        if self.has(client) {
+            self.stay();
             return Reply::Refused(Refusal::Connected);
         }
-        match join(&mut self.clients, &mut self.tree, self.alloc, client) {
+        match self.let_in(client) {
             Ok(()) => {}
             Err(_) => return Reply::Refused(Refusal::Memory),
         }
@@ -166,6 +234,7 @@ impl Desk {
 
     /// Connects the least client, 1 to 16, that isn't connected, and answers its number. Refuses Full with 16
     /// where all are connected, and else Memory where there is none. See docs/GUIDE.md, "Commands".
+    #[tactic(auto, using(crate::proofs::Visits::visit_numbers, crate::proofs::Visits::visit_touched, crate::proofs::Visits::visit_still, crate::proofs::Visits::visit_changed))]
     pub fn hello(&mut self) -> Reply
         ensures step { (result, self.new.desk) ≡ step_hello self.old.desk (is_memory result) }
         ensures others { IfSome (free_client self.old.desk.clients) (λ client. LeavesOthers client self.old.desk self.new.desk) }
@@ -177,14 +246,14 @@ impl Desk {
         ensures numbered { KeepsNumbers self.old.widgets.entries self.new.widgets.entries }
         ensures touched { TellsTouched self.old self.new }
     {
-        self.changed = false;
-        self.moved = false;
-        forget(&mut self.touched);
-        let client = match self.clients.free() {
+        let client = match self.free() {
             Some(client) => client,
-            None => return Reply::Refused(Refusal::Full { limit: 16 }),
+            None => {
+                self.stay();
+                return Reply::Refused(Refusal::Full { limit: 16 });
+            }
         };
-        match join(&mut self.clients, &mut self.tree, self.alloc, client) {
+        match self.let_in(client) {
             Ok(()) => {}
             Err(_) => return Reply::Refused(Refusal::Memory),
         }
@@ -195,6 +264,7 @@ impl Desk {
     /// `get`, a kept event, none, or how many were lost where it is `poll`, else Done. Refuses NotConnected where the
     /// client isn't connected; else each command has its own refusals, and the first that holds is the answer.
     /// `payload` has the bytes that come with the command: those of a frame, else none. See docs/GUIDE.md, "Commands".
+    #[tactic(auto, using(crate::proofs::Visits::visit_numbers, crate::proofs::Visits::visit_touched, crate::proofs::Visits::visit_still, crate::proofs::Visits::visit_changed))]
     pub fn step(&mut self, client: u32, command: &Command, payload: &[u8]) -> Reply
         requires low { 1 ≤ client }
         requires high { client ≤ 16 }
@@ -209,18 +279,19 @@ impl Desk {
         ensures told { self.new.moved ≡ (not (is_refused result) && moves self.old.desk.rows client command.now) }
         ensures asking { OnTrue (only_asks command.now) (StaysAsItWas self.old self.new) }
     {
-        self.changed = false;
-        self.moved = false;
-        forget(&mut self.touched);
-        if !self.clients.has(client) {
+        if !self.has(client) {
+            self.stay();
             return Reply::Refused(Refusal::NotConnected);
         }
-        match answer_to(&self.tree, client, command) {
-            Some(reply) => return reply,
+        match self.answer(client, command) {
+            Some(reply) => {
+                self.stay();
+                return reply;
+            }
             None => {}
         }
         if is_poll(command) {
-            return poll_reply(self.clients.poll(client));
+            return self.poll(client);
         }
         let lays = may_move(&self.tree, client, command);
         let moves = moves(&self.tree, client, command);
@@ -247,6 +318,7 @@ impl Desk {
 
     /// A client, 1 to 16, leaves with its windows, widgets, admissions and events, and is answered Done. Refuses NotConnected where
     /// it isn't connected. See docs/GUIDE.md, "Commands".
+    #[tactic(auto, using(crate::proofs::Visits::visit_numbers, crate::proofs::Visits::visit_touched, crate::proofs::Visits::visit_still, crate::proofs::Visits::visit_changed))]
     pub fn bye(&mut self, client: u32) -> Reply
         requires low { 1 ≤ client }
         requires high { client ≤ 16 }
@@ -258,12 +330,11 @@ impl Desk {
         ensures numbered { KeepsNumbers self.old.widgets.entries self.new.widgets.entries }
         ensures touched { TellsTouched self.old self.new }
     {
-        self.changed = false;
-        self.moved = false;
-        forget(&mut self.touched);
-        if !self.clients.has(client) {
+        if !self.has(client) {
+            self.stay();
             return Reply::Refused(Refusal::NotConnected);
         }
+        forget(&mut self.touched);
         let count = self.tree.count(client);
         close_windows(&self.tree, &mut self.windows, client);
         let pointer = &mut self.pointer;

@@ -21,7 +21,7 @@ use Rattle.tree_core.specs.declared.pointer.Pointer.{Pointer}
 use Rattle.tree_core.specs.declared.pointer.Grab.{Grab}
 use Rattle.tree_core.specs.declared.pointer.Grab.TheVariants.{Nothing, Widget, Drag}
 use Rattle.tree_core.specs.Holds.{grab_seen}
-use Rattle.tree_core.proofs.Listed.{row_named-row, AreNamedApart-rows}
+use Rattle.tree_core.proofs.Listed.{row_named-row}
 use Rattle.scene_model.specs.Scene.{Scene}
 use Rattle.scene_model.specs.Placing.{place_in}
 use Rattle.scene_model.specs.DuePlaces.{due_place}
@@ -82,7 +82,7 @@ window-named w id kept is None there rest all = all
 window-named w id kept is (Some row) there rest all =
     let kind : Some row.kind ≡ Some Window = sym (ap (option_map (λ (r : Row). r.kind)) there) ∙ is in
     let one : row.kind ≡ Window = cc in
-    let named = row_named-row w.entries id row kept.forest.own_numbers kept.forest.own_names there in
+    let named = row_named-row w.entries id row kept.numbered.own_numbers kept.rows.names there in
     and_from (names_window (rows_of w) (key_of row)) (list_all (names_window (rows_of w)) rest) (ap (is_kind_of is_window_kind) named ∙ ap is_window_kind one) all
 
 windows-named : (w : Widgets) (ids : List ℕ) → IsWidgets w → All (λ id. row_kind w.entries id ≡ Some Window) ids → list_all (names_window (rows_of w)) (keys_of w.entries ids) ≡ true
@@ -98,10 +98,10 @@ pub top-under : (w : Widgets) (keys : List ℕ) (pointer : Pointer) (width heigh
 top-under w keys pointer width height x y id kept windows live is =
     let scene = scene_from w keys pointer width height in
     let rows = rows_of w in
-    let on = top_is_on_top scene (key_seen w.entries id) x y kept.planted (AreNamedApart-rows w.entries kept.forest.own_names) (top-seen w id (top_of scene x y) live is) in
+    let on = top_is_on_top scene (key_seen w.entries id) x y kept.rows.planted kept.rows.names (top-seen w id (top_of scene x y) live is) in
     let at = find-element (λ (window : ℕ × List ℕ). shows_at scene window x y) scene.windows on.0 on.1.first in
     let named : names_window rows on.0 ≡ true = all_at (names_window rows) scene.windows at.0 on.0 (windows-named w keys kept windows.each) at.1 in
-    ap (λ (key : ℕ × List ℕ). is_kind_of is_window_kind (row_of rows key)) (on.1.under ∙ window-root rows on.0 kept.planted named) ∙ named
+    ap (λ (key : ℕ × List ℕ). is_kind_of is_window_kind (row_of rows key)) (on.1.under ∙ window-root rows on.0 kept.rows.planted named) ∙ named
 
 pub hit-seen : (w : Widgets) (keys : List ℕ) (pointer : Pointer) (width height : ℕ) (x y : ℤ) (id : Id) (place : Rect) → IsLive w id.key → key_at w.entries id.key ≡ top_of (scene_from w keys pointer width height) x y → x ≡ pos pointer.x → y ≡ pos pointer.y → place_of (scene_from w keys pointer width height) (key_seen w.entries id) ≡ place → option_map (hit_seen w.entries) (Some (record { id = id; place = place })) ≡ hit_in (scene_from w keys pointer width height)
 hit-seen w keys pointer width height x y id place live is x_is y_is placed =

@@ -16,7 +16,7 @@ use Rattle.desk_model.specs.InputEffects.{Hit, Effects, only_pointer, at_widget}
 use Rattle.desk_model.specs.InputValues.{valued}
 use Rattle.desk_model.specs.InputTable.{dragged, drag_on, motion_on, motion_by, pointed_at, on_motion, pressed, grabbed_title, press_on, on_press, release_on, release_by, on_release, key_on_entry, key_on, on_key}
 use Rattle.desk_model.specs.Inputs.{effects_of}
-use Rattle.desk_commands.specs.Stays.{is_entry}
+use Rattle.desk_moves.specs.Stays.{is_entry}
 
 -- what either choice has
 either : (b : Bool) (one two : Effects) (text : Option ((ℕ × List ℕ) × List ℕ)) → one.text ≡ text → two.text ≡ text → (cond b one two).text ≡ text

@@ -42,7 +42,7 @@ parts-kept clients w w' keys left parts tree has =
 -- Numbers stay with their widgets.
 pub numbers-kept : (w w' : Widgets) (left : List Row) → IsWidgets w → HasRows w w' left → KeepsNumbers w.entries w'.entries
 numbers-kept w w' left kept has =
-    let same = numbers-same w.entries kept.forest.own_names in
+    let same = numbers-same w.entries kept.rows.names in
     record {
       keys = λ id before after at_before at_after. same.keys id before after at_before (sym (key_at-kept w.entries w'.entries id has.nodes) ∙ at_after);
       numbers = λ key before after at_before at_after. same.numbers key before after at_before (sym (key_at-kept w.entries w'.entries after has.nodes) ∙ at_after);

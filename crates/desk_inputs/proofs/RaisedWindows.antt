@@ -19,7 +19,8 @@ use Rattle.desk_commands.specs.Effects.{TellsAll}
 use Rattle.desk_commands.specs.Lookup.{IsFound}
 use Rattle.desk_commands.proofs.Effects.{found-live}
 use Rattle.desk_commands.proofs.WindowSteps.{is_open-holds_key, found-title}
-use Rattle.desk_commands.proofs.WindowOrder.{windows_at-without, all-without, raised_tells}
+use Rattle.desk_commands.proofs.WindowOrder.{windows_at-without, raised_tells}
+use Rattle.desk_commands.proofs.OthersLists.{list_all-without}
 use Rattle.desk_inputs.specs.Raised.{is_open_at}
 use Rattle.std.specs.Option.{option_map, option_map_or}
 
@@ -38,13 +39,13 @@ pub record IsRaised (w : Widgets) (keys keys' : List ℕ) (id : ℕ) (key : ℕ 
   pub kind : is_window_kind (numbered w.entries id).kind ≡ true
 
 pub found-numbered : (w : Widgets) (id : ℕ) (keys : List ℕ) → AreParts w.clients w keys → IsLive w id → IsFound w (numbered w.entries id).client (numbered w.entries id).name id (numbered w.entries id).kind
-found-numbered w id keys parts live = found-live w id (numbered w.entries id) parts.tree.forest (numbered_row w.entries id live)
+found-numbered w id keys parts live = found-live w id (numbered w.entries id) parts.tree (numbered_row w.entries id live)
 
 pub open-held : (w : Widgets) (keys : List ℕ) (id : Id) → AreParts w.clients w keys → IsLive w id.key → is_open_at w keys (key_seen w.entries id) ≡ true → holds_key keys id.key ≡ true
 open-held w keys id parts live opened =
     let row = numbered w.entries id.key in
     let found = found-numbered w id.key keys parts live in
-    sym (is_open-holds_key w row.client row.name id.key row.kind keys parts.tree.forest.own_names found parts.windows)
+    sym (is_open-holds_key w row.client row.name id.key row.kind keys parts.tree.rows.names found parts.windows)
     ∙ ap (is_open_at w keys) (sym (key_seen-numbered w.entries id live))
     ∙ opened
 
@@ -52,7 +53,7 @@ pub IsRaised-held : (w : Widgets) (keys keys' : List ℕ) (id : Id) → AreParts
 IsRaised-held w keys keys' id parts live held raised =
     let row = numbered w.entries id.key in
     let found = found-numbered w id.key keys parts live in
-    let own = parts.tree.forest.own_names in
+    let own = parts.tree.rows.names in
     let window : names_window (nodes w.entries) id.key ≡ true = held-passes (names_window (nodes w.entries)) keys id.key parts.windows held in
     let node : node_at (nodes w.entries) id.key ≡ Some (node_of row) = node_at-nodes w.entries id.key ∙ ap (option_map node_of) (numbered_row w.entries id.key live) in
     record {
@@ -60,7 +61,7 @@ IsRaised-held w keys keys' id parts live held raised =
           ap (windows_at (nodes w.entries)) raised
           ∙ ap₂ (λ (t : ℕ × List ℕ) (ws : List (ℕ × List ℕ)). t ∷ ws) (found-title w row.client row.name id.key row.kind found) (windows_at-without w row.client row.name id.key row.kind keys own found parts.windows)
           ∙ ap (λ (key : ℕ × List ℕ). with_top key.0 key.1 (windows_at (nodes w.entries) keys)) (sym (key_seen-numbered w.entries id live));
-      named = ap (list_all (names_window (nodes w.entries))) raised ∙ and_from (names_window (nodes w.entries) id.key) (list_all (names_window (nodes w.entries)) (without keys id.key)) window (all-without (names_window (nodes w.entries)) keys id.key parts.windows);
+      named = ap (list_all (names_window (nodes w.entries))) raised ∙ and_from (names_window (nodes w.entries) id.key) (list_all (names_window (nodes w.entries)) (without keys id.key)) window (list_all-without (names_window (nodes w.entries)) keys id.key parts.windows);
       kind = sym (ap (λ (o : Option Node). option_map_or (λ (n : Node). is_window_kind n.kind) o false) node) ∙ window;
     }
 

@@ -1,7 +1,8 @@
 -- Inputs that move nothing: they give text to an Entry and set its caret, of which layout reads neither, or a value that
 -- needs no other room.
-use Rattle.std.proofs.Common.{◌≡◌, ℕ, zero, suc, ℤ, Bool, true, false, not, ◌&&◌, ◌||◌, List, [], ◌∷◌, map, slice_get, cond, Option, Some, None, is_some, refl, sym, ap, ap₂, ◌∙◌}
-use Rattle.std.proofs.lemmas.Bool.{true≢false, or_parts, and_from}
+use Rattle.std.proofs.Common.{◌≡◌, ℕ, ℤ, Bool, true, false, not, ◌&&◌, ◌||◌, List, [], ◌∷◌, cond, Option, Some, None, is_some, refl, sym, ap, ap₂, ◌∙◌}
+use Rattle.std.proofs.lemmas.Bool.{true≢false, or_parts}
+use Rattle.std.proofs.lemmas.List.Folds.{list_all-map}
 use Rattle.std.specs.Prelude.{IfSome}
 use Rattle.std.specs.List.{list_all, list_any}
 use Rattle.std.specs.Option.{option_map, option_map_or, option_and_then}
@@ -10,11 +11,13 @@ use Rattle.kind_core.specs.declared.kinds.Attr.TheVariants.{Text, Caret, Value}
 use Rattle.kind_core.specs.declared.values.Value as value
 use Rattle.kind_core.specs.declared.values.Value.TheVariants.{Number, Words}
 use Rattle.cmd_words.specs.declared.inputs.Input.{Input}
+use Rattle.widget_model.specs.RowFacts.{links_right}
 use Rattle.widget_model.specs.Rows.{Row, with_attr}
 use Rattle.widget_model.specs.Named.{has_name, row_named, is_kind_of, AreNamedApart}
 use Rattle.widget_model.specs.Keys.{row_of}
 use Rattle.widget_model.specs.Kinds.{is_variable_kind}
-use Rattle.widget_model.proofs.Hanging.{LeavesNames, changed, all_at, row_named-map}
+use Rattle.widget_model.proofs.Hanging.{LeavesNames, changed, all_at, all_from, row_named-map}
+use Rattle.widget_model.proofs.ChangedRows.{AreNamedApart-map, links_right-map, is_kind_of-map}
 use Rattle.widget_model.proofs.Leaves.{LeavesNode, LeavesNode-changed}
 use Rattle.scene_model.specs.DuePlaces.{due_place}
 use Rattle.widget_model.specs.Widgets.{Widgets, IsLive, rows_of, row_at}
@@ -24,16 +27,15 @@ use Rattle.input_core.specs.Numbered.{numbered}
 use Rattle.input_core.specs.Seen.{key_seen}
 use Rattle.input_core.proofs.Numbers.{numbered_row}
 use Rattle.input_core.proofs.Keys.{key_seen-numbered, row_of-numbered}
-use Rattle.desk_commands.proofs.Frames.{read-of}
+use Rattle.desk_moves.proofs.Frames.{read-of}
 use Rattle.desk_model.specs.Desk.{Desk}
-use Rattle.desk_model.specs.DeskFacts.{IsDesk, links_right}
+use Rattle.desk_model.specs.DeskFacts.{IsDesk}
 use Rattle.desk_model.specs.InPlace.{due_of}
 use Rattle.desk_model.specs.InputEffects.{Effects}
 use Rattle.desk_model.specs.Feeding.{hit_of, held_place, with_value_at, with_number, with_text, with_moved, rows_after, effects_on}
-use Rattle.desk_model.proofs.KeptRows.{AreNamedApart-map, links_right-map, is_kind_of-map}
-use Rattle.desk_commands.specs.Stays.{MoveNothing, is_entry, needs_the_same, value_moves, effects_move}
-use Rattle.desk_commands.proofs.SetStays.{set-unmoved}
-use Rattle.desk_commands.proofs.Unmoved.{unmoved-same}
+use Rattle.desk_moves.specs.Stays.{MoveNothing, is_entry, needs_the_same, value_moves, effects_move}
+use Rattle.desk_moves.proofs.SetStays.{set-unmoved}
+use Rattle.desk_moves.proofs.Unmoved.{unmoved-same}
 use Rattle.desk_inputs.proofs.EntryTexts.{text-to-entries}
 
 -- Rows of one name each, whose links lead to Variables.
@@ -83,13 +85,11 @@ module _ (rows : List Row) (key : ℕ × List ℕ) (attr : Attr) (v : value.Valu
   linked-one : AreLinked rows → AreLinked (with_value_at key attr v rows)
   linked-one are = record {
     names = AreNamedApart-map rows one leaves-one are.names;
-    links = all-map (links_right (with_value_at key attr v rows)) rows (λ i row there. right row ∙ all_at (links_right rows) rows i row are.links there);
+    links =
+        list_all-map (links_right (with_value_at key attr v rows)) one rows
+        ∙ all_from (λ (row : Row). links_right (with_value_at key attr v rows) (one row)) rows (λ i row there. right row ∙ all_at (links_right rows) rows i row are.links there);
   }
     where
-      all-map : (p : Row → Bool) (rs : List Row) → ((i : ℕ) (row : Row) → slice_get rs i ≡ Some row → p (one row) ≡ true) → list_all p (map one rs) ≡ true
-      all-map p [] each = refl
-      all-map p (r ∷ rs) each = and_from (p (one r)) (list_all p (map one rs)) (each zero r refl) (all-map p rs (λ i row there. each (suc i) row there))
-
       right : (row : Row) → links_right (with_value_at key attr v rows) (one row) ≡ links_right rows row
       right row =
           ap₂ (λ (client : ℕ) (link : Option (List ℕ)). option_map_or (λ (name : List ℕ). is_kind_of is_variable_kind (row_named (with_value_at key attr v rows) client name)) link true) (leaves-one.client row) (links-one row)
@@ -185,7 +185,7 @@ unmoved-fed effects rows are entries still = moved effects.moved parts.0
 -- So does what an input asks for on a valid desk.
 pub unmoved-input : (desk : Desk) (input : Input) → IsDesk desk → effects_move desk.rows (effects_on desk input) ≡ false → MoveNothing desk.rows (rows_after (effects_on desk input) desk.rows)
 unmoved-input desk input kept still =
-    unmoved-fed (effects_on desk input) desk.rows (record { names = kept.names; links = kept.linked })
+    unmoved-fed (effects_on desk input) desk.rows (record { names = kept.rows.names; links = kept.rows.linked })
     (text-to-entries desk.rows desk.pointer (hit_of desk) (held_place desk) desk.shape.width desk.shape.height input) still
 
 -- what the value that is asked for by number moves

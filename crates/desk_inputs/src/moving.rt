@@ -7,9 +7,9 @@ ghost use Rattle.widget_model.specs.Widgets.{IsLive, rows_of};
 ghost use Rattle.widget_model.specs.Keys.{row_of};
 ghost use Rattle.input_core.specs.Seen.{key_seen, effects_seen};
 ghost use Rattle.input_core.specs.Live.{AreLive};
-ghost use Rattle.desk_commands.specs.Stays.{value_moves, effects_move};
+ghost use Rattle.desk_moves.specs.Stays.{value_moves, effects_move};
 
-use desk_commands::value_moves;
+use desk_moves::value_moves;
 use input_core::Effects;
 use kind_core::{Attr, Value};
 use tree_core::{Id, Tree};

@@ -4,10 +4,10 @@ use Rattle.std.proofs.lemmas.Bool.{eqb-true}
 use Rattle.std.specs.Option.{option_map}
 use Rattle.widget_model.specs.Rows.{Row}
 use Rattle.widget_model.specs.Nodes.{Node, node_of, node_at, id_named}
-use Rattle.widget_model.specs.Named.{has_name, own_rows, rows_of_others, row_named}
+use Rattle.widget_model.specs.Named.{has_name, own_rows, rows_of_others, row_named, AreNamedApart}
 use Rattle.widget_model.specs.Keys.{key_of}
-use Rattle.widget_model.specs.Widgets.{Widgets, nodes, rows_of, row_at, key_at, place_at}
-use Rattle.widget_model.specs.Forest.{HaveOwnNames, IsWidgets}
+use Rattle.widget_model.specs.Widgets.{Widgets, nodes, rows_of, row_at, key_at, place_at, rows_in}
+use Rattle.widget_model.specs.Forest.{IsWidgets}
 use Rattle.widget_model.proofs.Hanging.{find-element}
 use Rattle.widget_model.proofs.Naming.{id_named-row}
 use Rattle.widget_model.proofs.OwnRows.{row_named-agree}
@@ -43,19 +43,19 @@ key-row es id key named = by (row_at es id) refl named
     by None p h = absurd (cc)
     by (Some row) p h = let same : key_of row ≡ key = cc in (row, p, same)
 
-named-key : (es : List (ℕ × Row)) (id : ℕ) (key : ℕ × List ℕ) → HaveOwnNames (nodes es) → key_at es id ≡ Some key → id_named (nodes es) key.0 key.1 ≡ Some id
+named-key : (es : List (ℕ × Row)) (id : ℕ) (key : ℕ × List ℕ) → AreNamedApart (rows_in es) → key_at es id ≡ Some key → id_named (nodes es) key.0 key.1 ≡ Some id
 named-key es id key own named =
     let found = key-row es id key named in
     ap (λ (k : ℕ × List ℕ). id_named (nodes es) k.0 k.1) (sym found.2) ∙ id_named-row es id found.0 own found.1
 
 -- no two numbers have one key
-one-number : (es : List (ℕ × Row)) (i j : ℕ) (key : ℕ × List ℕ) → HaveOwnNames (nodes es) → key_at es i ≡ Some key → key_at es j ≡ Some key → i ≡ j
+one-number : (es : List (ℕ × Row)) (i j : ℕ) (key : ℕ × List ℕ) → AreNamedApart (rows_in es) → key_at es i ≡ Some key → key_at es j ≡ Some key → i ≡ j
 one-number es i j key own first second =
     let both : Some i ≡ Some j = sym (named-key es i key own first) ∙ named-key es j key own second in
     cc
 
 -- each number that is live afterwards names what it named
-pub numbers-fewer : (old new : List (ℕ × Row)) → HaveOwnNames (nodes old) → ((id : ℕ) (row : Row) → row_at new id ≡ Some row → row_at old id ≡ Some row) → KeepsNumbers old new
+pub numbers-fewer : (old new : List (ℕ × Row)) → AreNamedApart (rows_in old) → ((id : ℕ) (row : Row) → row_at new id ≡ Some row → row_at old id ≡ Some row) → KeepsNumbers old new
 numbers-fewer old new own fewer = record {
   keys = λ id before after first second.
       let both : Some before ≡ Some after = sym first ∙ back id after second in
@@ -67,7 +67,7 @@ numbers-fewer old new own fewer = record {
     back id key named = let found = key-row new id key named in ap (option_map key_of) (fewer id found.0 found.1) ∙ ap Some found.2
 
 -- each number that was live names what it named
-pub numbers-more : (old new : List (ℕ × Row)) → HaveOwnNames (nodes new) → ((id : ℕ) → is_some (node_at (nodes old) id) ≡ true → node_at (nodes new) id ≡ node_at (nodes old) id) → KeepsNumbers old new
+pub numbers-more : (old new : List (ℕ × Row)) → AreNamedApart (rows_in new) → ((id : ℕ) → is_some (node_at (nodes old) id) ≡ true → node_at (nodes new) id ≡ node_at (nodes old) id) → KeepsNumbers old new
 numbers-more old new own kept = record {
   keys = λ id before after first second.
       let both : Some before ≡ Some after = sym (key_at-kept old new id before (kept id) first) ∙ second in
@@ -75,10 +75,10 @@ numbers-more old new own kept = record {
   numbers = λ key before after first second. one-number new before after key own (key_at-kept old new before key (kept before) first) second;
 }
 
-pub numbers-same : (es : List (ℕ × Row)) → HaveOwnNames (nodes es) → KeepsNumbers es es
+pub numbers-same : (es : List (ℕ × Row)) → AreNamedApart (rows_in es) → KeepsNumbers es es
 numbers-same es own = numbers-fewer es es own (λ id row there. there)
 
-pub numbers-equal : (es fs : List (ℕ × Row)) → HaveOwnNames (nodes es) → fs ≡ es → KeepsNumbers es fs
+pub numbers-equal : (es fs : List (ℕ × Row)) → AreNamedApart (rows_in es) → fs ≡ es → KeepsNumbers es fs
 numbers-equal es fs own same = subst (λ (gs : List (ℕ × Row)). KeepsNumbers es gs) (sym same) (numbers-same es own)
 
 -- another client's rows are the same where those of all others are
@@ -93,7 +93,7 @@ own_rows-others client other a b differ same =
 pub number-named : (w : Widgets) (row : Row) → IsWidgets w → row_named (rows_of w) row.client row.name ≡ Some row → (id : ℕ) × (row_at w.entries id ≡ Some row)
 number-named w row valid named =
     let place = find-element (has_name row.client row.name) (rows_of w) row named in
-    listed_number w.entries place.0 row valid.forest.own_numbers place.1
+    listed_number w.entries place.0 row valid.numbered.own_numbers place.1
 
 -- Where a client's command leaves the others' rows and the places of what is there, theirs are the places that are due.
 pub others-due : (client : ℕ) (old new : Widgets) → IsWidgets old → IsWidgets new → HaveDuePlaces old → KeepsNumbers old.entries new.entries
@@ -107,7 +107,7 @@ others-due client old new valid sound due numbers places others id row there dif
     rows = own_rows-others client row.client (rows_of new) (rows_of old) differ others
 
     was : row_named (rows_of old) row.client row.name ≡ Some row
-    was = sym (row_named-agree row.client row.name (rows_of new) (rows_of old) rows) ∙ row_named-row new.entries id row sound.forest.own_numbers sound.forest.own_names there
+    was = sym (row_named-agree row.client row.name (rows_of new) (rows_of old) rows) ∙ row_named-row new.entries id row sound.numbered.own_numbers sound.rows.names there
 
     number : (n : ℕ) × (row_at old.entries n ≡ Some row)
     number = number-named old row valid was

@@ -26,7 +26,7 @@ use Rattle.desk_layout.specs.Laid.{is_window_at, AreEmptied, place_below, AreLai
 
 -- a live number is one of its client's
 pub own-number : (w : Widgets) (id : ℕ) (row : Row) → IsWidgets w → row_at w.entries id ≡ Some row → is_number_of row.client id ≡ true
-own-number w id row valid there = nodes-all (λ (e : ℕ × Node). is_number_of e.1.client e.0) w.entries id row valid.forest.numbers there
+own-number w id row valid there = nodes-all (λ (e : ℕ × Node). is_number_of e.1.client e.0) w.entries id row valid.numbered.numbers there
 
 -- the root of a live number
 pub record HasRoot (w : Widgets) (id : ℕ) (row : Row) : Type 0 where
@@ -42,12 +42,12 @@ module _ (w : Widgets) (id : ℕ) (row : Row) (valid : IsWidgets w) (there : row
   top = root_of (rows_of w) row.client row.name
 
   some : is_some (row_named (rows_of w) row.client top) ≡ true
-  some = row_named-root most_levels (rows_of w) row.client row.name valid.planted (ap is_some (row_named-row w.entries id row valid.forest.own_numbers valid.forest.own_names there))
+  some = row_named-root most_levels (rows_of w) row.client row.name valid.rows.planted (ap is_some (row_named-row w.entries id row valid.numbered.own_numbers valid.rows.names there))
 
   found : (root : ℕ) → id_named (nodes w.entries) row.client top ≡ Some root → (o : Option Row) → row_at w.entries root ≡ o → HasRoot w id row
-  found root q None p = absurd (false≢true (ap is_some (sym (row_named-found w.entries row.client top root valid.forest.own_numbers q ∙ p)) ∙ some))
+  found root q None p = absurd (false≢true (ap is_some (sym (row_named-found w.entries row.client top root valid.numbered.own_numbers q ∙ p)) ∙ some))
   found root q (Some upper) p =
-      let named : row_named (rows_of w) row.client top ≡ Some upper = row_named-found w.entries row.client top root valid.forest.own_numbers q ∙ p in
+      let named : row_named (rows_of w) row.client top ≡ Some upper = row_named-found w.entries row.client top root valid.numbered.own_numbers q ∙ p in
       record {
         root = root;
         upper = upper;

@@ -1,6 +1,6 @@
 -- What is left where a widget or a client goes: rows that were there, in the places that they had.
 use Rattle.std.proofs.Common.{◌≡◌, ◌+◌, ◌≤◌, ℕ, Bool, true, false, cond, not, nat_eq, List, Option, Some, None, refl, sym, ap, ◌∙◌}
-use Rattle.std.proofs.lemmas.Bool.{true≢false, false≢true, eqb-false, le-leb, lt-ltb, and_from}
+use Rattle.std.proofs.lemmas.Bool.{false≢true, eqb-false, le-leb, lt-ltb, and_from}
 use Rattle.std.proofs.lemmas.List.{get_or-set_other}
 use Rattle.std.specs.Option.{option_and_then}
 use Rattle.widget_model.specs.Rows.{Row}
@@ -37,7 +37,7 @@ removed-place w key id row there =
 -- the same of a client that goes
 departed-left : (w : Widgets) (client id : ℕ) (row : Row) → IsWidgets w → 1 ≤ client → row_at (departed client w).entries id ≡ Some row → IsLeft (is_number_of client id) (row_at w.entries id) row
 departed-left w client id row valid low there =
-    by (row_at w.entries id) refl (sym (row_at-filter (λ (e : ℕ × Row). not (nat_eq client e.1.client)) w.entries id valid.forest.own_numbers) ∙ there)
+    by (row_at w.entries id) refl (sym (row_at-filter (λ (e : ℕ × Row). not (nat_eq client e.1.client)) w.entries id valid.numbered.own_numbers) ∙ there)
   where
     other : (r : Row) (b : Bool) → nat_eq client r.client ≡ b → cond (not b) (Some r) None ≡ Some row → (nat_eq client r.client ≡ false) × (r ≡ row)
     other r true is h = absurd (cc)
@@ -61,7 +61,7 @@ departed-place w client id row valid low there =
 
 -- numbers stay with those that are left
 pub departed-numbers : (w : Widgets) (client : ℕ) → IsWidgets w → 1 ≤ client → KeepsNumbers w.entries (departed client w).entries
-departed-numbers w client valid low = numbers-fewer w.entries (departed client w).entries valid.forest.own_names (λ other r is. (departed-left w client other r valid low is).was)
+departed-numbers w client valid low = numbers-fewer w.entries (departed client w).entries valid.rows.names (λ other r is. (departed-left w client other r valid low is).was)
 
 -- so the places of those that are left are due
 pub departed-due : (w : Widgets) (client : ℕ) → IsWidgets w → 1 ≤ client → IsWidgets (departed client w) → HaveDuePlaces w → HaveDuePlaces (departed client w)

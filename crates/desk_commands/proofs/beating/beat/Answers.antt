@@ -53,4 +53,4 @@ returns-clause-numbers c = numbers-kept c.args.tree.now.entries c.loop-i.tree.en
 
 pub returns-clause-numbered : goal.returns-clause-numbered
 returns-clause-numbered c =
-    numbers-more c.args.tree.now.entries c.loop-i.tree.entries c.loop-i.invariant.valid.forest.own_names (λ id there. ap (λ (ns : List (ℕ × Node)). node_at ns id) c.loop-i.invariant.same)
+    numbers-more c.args.tree.now.entries c.loop-i.tree.entries c.loop-i.invariant.valid.rows.names (λ id there. ap (λ (ns : List (ℕ × Node)). node_at ns id) c.loop-i.invariant.same)

@@ -7,22 +7,22 @@ use Rattle.input_core.specs.declared.posts.Post.{Post}
 use Rattle.desk_model.specs.Feeding.{with_post, rows_after}
 use Rattle.desk_commands.specs.Pointer.{HoldsLive}
 use Rattle.desk_inputs.proofs.FedParts.{holds-kept}
-use Rattle.desk_inputs.proofs.GivenValues.{number-live, text-live, moved-live}
+use Rattle.desk_inputs.proofs.GivenValues.{asked-live, moved-live}
 use Rattle.desk_core.proofs.FedPlaces.{due-given}
 use Rattle.desk_core.proofs.CarriedParts.{carried-all, given-due}
 use Rattle.desk_core.proofs.feeding.carry_out.Goals as goal
 
 pub lay_moved-requires-clause-value : goal.lay_moved-requires-clause-value
-lay_moved-requires-clause-value c = number-live c.args.tree.now c.set_values.new.tree c.args.effects.now.value c.set_values.ensures.rows.nodes c.requires.live.value
+lay_moved-requires-clause-value c = asked-live c.args.tree.now c.set_values.new.tree c.set_values.ensures.rows.nodes c.args.effects.now.value c.requires.live.value
 
 pub lay_moved-requires-clause-text : goal.lay_moved-requires-clause-text
-lay_moved-requires-clause-text c = text-live c.args.tree.now c.set_values.new.tree c.args.effects.now.text c.set_values.ensures.rows.nodes c.requires.live.text
+lay_moved-requires-clause-text c = asked-live c.args.tree.now c.set_values.new.tree c.set_values.ensures.rows.nodes c.args.effects.now.text c.requires.live.text
 
 pub lay_moved-requires-clause-caret : goal.lay_moved-requires-clause-caret
-lay_moved-requires-clause-caret c = number-live c.args.tree.now c.set_values.new.tree c.args.effects.now.caret c.set_values.ensures.rows.nodes c.requires.live.caret
+lay_moved-requires-clause-caret c = asked-live c.args.tree.now c.set_values.new.tree c.set_values.ensures.rows.nodes c.args.effects.now.caret c.requires.live.caret
 
 pub lay_moved-requires-clause-moved : goal.lay_moved-requires-clause-moved
-lay_moved-requires-clause-moved c = moved-live c.args.tree.now c.set_values.new.tree c.args.effects.now.moved c.set_values.ensures.rows.nodes c.requires.live.moved
+lay_moved-requires-clause-moved c = moved-live c.args.tree.now c.set_values.new.tree c.set_values.ensures.rows.nodes c.args.effects.now.moved c.requires.live.moved
 
 pub let_go-requires-clause-live : goal.let_go-requires-clause-live
 let_go-requires-clause-live c =

@@ -9,7 +9,7 @@ use Rattle.widget_model.specs.Widgets.{IsLive, rows_of, row_at}
 use Rattle.tree_core.specs.declared.id.Id.{Id}
 use Rattle.std.specs.Prelude.{IfSome}
 use Rattle.input_core.specs.Seen.{key_seen}
-use Rattle.desk_commands.specs.Stays.{value_moves}
+use Rattle.desk_moves.specs.Stays.{value_moves}
 use Rattle.desk_inputs.proofs.StillInputs.{given-read}
 use Rattle.desk_inputs.proofs.moving.given_moves.Goals as goal
 

@@ -17,7 +17,7 @@ set_value-requires-2-clause-live c = live-kept c.args.tree.now.entries c.set_val
 pub set_value-requires-2-clause-taken : goal.set_value-requires-2-clause-taken
 set_value-requires-2-clause-taken c =
     let w = c.set_value.new.tree in
-    ap (λ (z : ℤ). takes (rows_of w) (key_seen w.entries c.args.id) Y (Number z)) (to_z-of_z w32 c.args.y c.ranges.y) ∙ taken-kept c.args.tree.now w c.args.id Y (Number c.args.y) c.set_value.ensures.rows.nodes c.requires.y
+    ap (λ (z : ℤ). takes (rows_of w) (key_seen w.entries c.args.id) Y (Number z)) (to_z-of_z w32 c.args.y c.ranges.y) ∙ taken-kept c.args.tree.now w c.args.id Y (Number c.args.y) c.requires.valid c.set_value.ensures.valid c.requires.live c.set_value.ensures.rows.nodes c.requires.y
 
 pub returns-clause-rows : goal.returns-clause-rows
 returns-clause-rows c =

@@ -9,7 +9,7 @@ use Rattle.desk_model.specs.Feeding.{with_value_at, with_number}
 use Rattle.desk_model.specs.InputFacts.{takes}
 use Rattle.input_core.specs.Seen.{key_seen}
 use Rattle.desk_inputs.specs.Carried.{HasRows}
-use Rattle.desk_inputs.proofs.GivenValues.{number_seen}
+use Rattle.desk_inputs.proofs.GivenValues.{asked_seen}
 use Rattle.desk_inputs.proofs.values.set_number.Goals as goal
 
 pub set_value-requires-clause-taken : goal.set_value-requires-clause-taken
@@ -24,6 +24,6 @@ pub returns-in-Some-clause-rows : goal.returns-in-Some-clause-rows
 returns-in-Some-clause-rows c =
     let w = c.args.tree.now in
     let n : SFits w32 c.in-Some.number = search rules in
-    let P : Option (Id × ℤ) → Type 0 = λ o. HasRows w c.set_value.new.tree (with_number c.args.attr (option_map (number_seen w.entries) o) (rows_of w)) in
+    let P : Option (Id × ℤ) → Type 0 = λ o. HasRows w c.set_value.new.tree (with_number c.args.attr (option_map (asked_seen w.entries) o) (rows_of w)) in
     let here : HasRows w c.set_value.new.tree (with_value_at (key_seen w.entries c.in-Some.id) c.args.attr (Number c.in-Some.number) (rows_of w)) = subst (λ (z : ℤ). HasRows w c.set_value.new.tree (with_value_at (key_seen w.entries c.in-Some.id) c.args.attr (Number z) (rows_of w))) (to_z-of_z w32 c.in-Some.number n) c.set_value.ensures.rows in
     subst P (sym c.in-Some.is) here

@@ -1,26 +1,22 @@
 use Rattle.std.proofs.Common.{◌≡◌, ◌↔◌, ◌&&◌, Bool, IsTrue, true, false, ap, sym, ◌∙◌, subst}
 use Rattle.widget_model.specs.Widgets.{Widgets, nodes, rows_of}
-use Rattle.desk_model.specs.Polling.{poll_reply}
 use Rattle.desk_model.specs.Commands.{step}
 use Rattle.desk_model.specs.Desk.{Desk, is_connected}
 use Rattle.desk_model.specs.DeskFacts.{IsDesk}
 use Rattle.desk_model.specs.Refusals.{is_memory}
-use Rattle.desk_model.proofs.OwnPart.{commands_leave_others}
 use Rattle.desk_commands.specs.Parts.{desk_of, stage_of, windows_at}
-use Rattle.cmd_words.specs.declared.replies.Reply.{Reply}
-use Rattle.desk_model.specs.OwnPart.{LeavesOthers}
+use Rattle.cmd_words.specs.declared.replies.Reply.TheVariants.{Refused}
+use Rattle.cmd_words.specs.declared.replies.Refusal.TheVariants.{NotConnected}
 use Rattle.look_data.specs.Watched.{AreWatched}
 use Rattle.tree_core.specs.Holds.{pointer_seen}
 use Rattle.scene_core.specs.declared.view.View.{View}
 use Rattle.scene_core.specs.View.{scene_of}
-use Rattle.desk_commands.specs.Stays.{moves}
+use Rattle.desk_moves.specs.Stays.{moves}
 use Rattle.desk_core.specs.View.{DeskView, is_refused}
-use Rattle.desk_core.proofs.StillDesks.{stays-same, asked-unmoved, polled-unmoved, stepped-still}
-use Rattle.desk_core.specs.ClientList.{clients_of}
-use Rattle.desk_core.proofs.CallSteps.{step-absent, step-obeyed}
-use Rattle.desk_core.proofs.Calls.{connected-joined, obeyed-tree, obeyed-numbers, obeyed-parts, obeyed-held, obeyed-step, obeyed-kept, polled-step, polled-kept}
+use Rattle.desk_core.proofs.StillDesks.{asked-unmoved, polled-unmoved, stepped-still}
+use Rattle.desk_core.proofs.CallSteps.{step-absent, step-obeyed, step-others, polled-step}
+use Rattle.desk_core.proofs.Calls.{obeyed-tree, obeyed-numbers, obeyed-parts, obeyed-held, obeyed-step, obeyed-kept}
 use Rattle.desk_layout.specs.Numbers.{KeepsNumbers}
-use Rattle.desk_layout.proofs.KeyNumbers.{numbers-same}
 use Rattle.std.proofs.Common.{ℕ, Option, not, refl}
 use Rattle.widget_model.specs.Forest.{IsWidgets}
 use Rattle.desk_model.specs.Seen as seen
@@ -29,15 +25,28 @@ use Rattle.scene_model.specs.Scene.{Scene}
 use Rattle.touch_rules.specs.Films.{unless_refused}
 use Rattle.touch_rules.specs.Telling.{is_told, number_anew, number_named, command_numbers, where_shown}
 use Rattle.desk_core.proofs.Views.{view-scene}
-use Rattle.desk_core.proofs.TouchedLooks.{stepped-touched, stayed-touched}
+use Rattle.desk_core.proofs.TouchedLooks.{stepped-touched}
+use Rattle.std.proofs.lemmas.Bool.{and_parts}
+use Rattle.widget_model.specs.Fitting.{fits_table, fits_rules, has_slots, is_fit}
+use Rattle.widget_model.proofs.Hanging.{all_at, all_from}
 use Rattle.desk_core.proofs.desk.Desk.step.Goals as goal
 
 pub returns-then-not-has-clause-step : goal.returns-then-not-has-clause-step
 returns-then-not-has-clause-step c =
-    let i = c.self.inside in
-    step-absent (desk_of (stage_of i.shape i.roster i.clients i.tree i.pointer) i.tree i.windows) c.args.client c.args.command.now c.args.payload.now false c.self.invariant.desk.held
-    (connected-joined (stage_of i.shape i.roster i.clients i.tree i.pointer) (clients_of i.clients) i.tree i.windows c.args.client false c.self.invariant.parts c.if-not-has.ensures)
-    ∙ ap (λ (s : DeskView). step s.desk c.args.client c.args.command.now c.args.payload.now false) c.self.view_is
+    ap (λ (d : Desk). (Refused NotConnected, d)) c.stay.ensures.put.desk
+    ∙ step-absent c.args.self.now.desk c.args.client c.args.command.now c.args.payload.now false c.stay.ensures.visit.desk.held (sym c.if-not-has.ensures)
+
+pub returns-then-not-has-clause-others : goal.returns-then-not-has-clause-others
+returns-then-not-has-clause-others c = step-others _ _ c.args.client c.args.command.now c.args.payload.now _ _ c.stay.ensures.visit.desk (returns-then-not-has-clause-step c)
+
+-- rows that fit have rules that fit
+pub obey-answer-requires-clause-fits : goal.obey-answer-requires-clause-fits
+obey-answer-requires-clause-fits c =
+    let rows = rows_of c.self.inside.tree in
+    all_from fits_rules rows
+    (λ i row there.
+    let rest = (and_parts (fits_table row) (fits_rules row && has_slots row) (all_at is_fit rows i row c.self.invariant.parts.tree.rows.fitting there)).1 in
+    (and_parts (fits_rules row) (has_slots row) rest).0)
 
 pub settle-requires-clause-valid : goal.settle-requires-clause-valid
 settle-requires-clause-valid c =
@@ -56,12 +65,12 @@ let_go-requires-clause-live c =
     obeyed-held i.shape i.pointer i.clients i.tree c.obey-answer.new.tree i.windows c.obey-answer.new.windows i.roster c.obey-answer.new.roster c.args.client c.args.command.now c.args.payload.now c.obey-answer.result.reply c.self.invariant c.obey-answer.ensures.did
     (c.obey-answer.result.changed && c.may_move-lays.result) c.settle.new.tree c.settle.ensures
 
-pub invariant_of-self-2 : goal.invariant_of-self-2
-invariant_of-self-2 c =
+pub invariant_of-self : goal.invariant_of-self
+invariant_of-self c =
     let i = c.self.inside in
     obeyed-kept i.shape i.pointer i.clients i.tree c.obey-answer.new.tree i.windows c.obey-answer.new.windows i.roster c.obey-answer.new.roster c.args.client c.args.command.now c.args.payload.now c.obey-answer.result.reply c.self.invariant c.obey-answer.ensures.did
     (c.obey-answer.result.changed && c.may_move-lays.result) c.settle.new.tree c.settle.ensures
-    (connected-joined (stage_of i.shape i.roster i.clients i.tree i.pointer) (clients_of i.clients) i.tree i.windows c.args.client true c.self.invariant.parts c.if-not-has.ensures)
+    (ap (λ (s : DeskView). is_connected s.desk c.args.client) c.self.view_is ∙ sym c.if-not-has.ensures)
     c.let_go.new.pointer (c.let_go.ensures.left i.shape c.obey-answer.new.roster i.clients) c.obey-answer.result.changed c.obey-answer.ensures.tells (ap (λ (b : Bool). c.obey-answer.result.changed && b) c.may_move-lays.ensures) c.requires.low c.let_go.ensures.live
 
 pub returns-clause-step : goal.returns-clause-step
@@ -69,25 +78,17 @@ returns-clause-step c =
     let i = c.self.inside in
     obeyed-step i.shape i.pointer i.clients i.tree c.obey-answer.new.tree i.windows c.obey-answer.new.windows i.roster c.obey-answer.new.roster c.args.client c.args.command.now c.args.payload.now c.obey-answer.result.reply c.self.invariant c.obey-answer.ensures.did
     (c.obey-answer.result.changed && c.may_move-lays.result) c.settle.new.tree c.settle.ensures
-    (connected-joined (stage_of i.shape i.roster i.clients i.tree i.pointer) (clients_of i.clients) i.tree i.windows c.args.client true c.self.invariant.parts c.if-not-has.ensures)
+    (ap (λ (s : DeskView). is_connected s.desk c.args.client) c.self.view_is ∙ sym c.if-not-has.ensures)
     c.let_go.new.pointer (c.let_go.ensures.left i.shape c.obey-answer.new.roster i.clients)
     ∙ ap (λ (s : DeskView). step s.desk c.args.client c.args.command.now c.args.payload.now (is_memory c.obey-answer.result.reply)) c.self.view_is
 
 pub returns-clause-others : goal.returns-clause-others
 returns-clause-others c =
     let D : DeskView → Type 0 = λ s. IsDesk s.desk in
-    let L : Desk → Type 0 = λ d. LeavesOthers c.args.client c.args.self.now.desk d in
-    subst L (sym (ap (λ (done : Reply × Desk). done.1) (returns-clause-step c)))
-    (commands_leave_others c.args.self.now.desk c.args.client c.args.command.now c.args.payload.now (is_memory c.obey-answer.result.reply) (subst D c.self.view_is c.self.invariant.desk))
+    step-others _ _ c.args.client c.args.command.now c.args.payload.now _ _ (subst D c.self.view_is c.self.invariant.desk) (returns-clause-step c)
 
 pub returns-clause-valid : goal.returns-clause-valid
-returns-clause-valid c = (invariant_of-self-2 c).desk
-
-pub returns-then-not-has-clause-numbered : goal.returns-then-not-has-clause-numbered
-returns-then-not-has-clause-numbered c =
-    let i = c.self.inside in
-    let N : DeskView → Type 0 = λ s. KeepsNumbers s.widgets.entries i.tree.entries in
-    subst N c.self.view_is (numbers-same i.tree.entries c.self.invariant.parts.tree.forest.own_names)
+returns-clause-valid c = (invariant_of-self c).desk
 
 pub returns-clause-numbered : goal.returns-clause-numbered
 returns-clause-numbered c =
@@ -105,12 +106,6 @@ returns-clause-changed c =
     let T : DeskView → Type 0 = λ s. IsTrue changed ↔ ((rows_of c.settle.new.tree ≡ s.desk.rows) × (windows_at (nodes c.settle.new.tree.entries) keys ≡ s.desk.windows) → ⊥) in
     let L : Widgets → Type 0 = λ w. IsTrue changed ↔ ((rows_of w ≡ rows_of i.tree) × (windows_at (nodes w.entries) keys ≡ windows_at (nodes i.tree.entries) i.windows) → ⊥) in
     subst T c.self.view_is (subst L (sym c.settle.ensures.changed.same) c.obey-answer.ensures.tells)
-
-pub returns-then-not-has-clause-touched : goal.returns-then-not-has-clause-touched
-returns-then-not-has-clause-touched c =
-    let i = c.self.inside in
-    let new : DeskView = record { desk = desk_of (stage_of i.shape i.roster i.clients i.tree i.pointer) i.tree i.windows; changed = false; moved = false; widgets = i.tree; windows = i.windows; touched = c.forget.new.touched.looks.items } in
-    stayed-touched c.args.self.now new (ap (λ (s : DeskView). s.widgets.entries) c.self.view_is) (ap (λ (s : DeskView). seen.scene_of s.desk) c.self.view_is) c.forget.ensures
 
 pub keep_before-before-requires : goal.keep_before-before-requires
 keep_before-before-requires c =
@@ -136,7 +131,7 @@ returns-clause-touched c =
     let looks = c.keep_before-before.result in
     let anew : Option ℕ = option_map (λ one. one.key) c.shown_anew-anew.result in
     let new : DeskView = record { desk = desk_of (stage_of i.shape c.obey-answer.new.roster i.clients tree pointer) tree windows; changed = c.obey-answer.result.changed; moved = c.has_moved-self-inside.result; widgets = tree; windows = windows; touched = touched } in
-    let kept = invariant_of-self-2 c in
+    let kept = invariant_of-self c in
     let W : DeskView → Type 0 = λ s. IsWidgets s.widgets in
     let R : DeskView → Type 0 = λ s. s.desk.rows ≡ rows_of s.widgets in
     let P : DeskView → Type 0 = λ s. pointer_seen s.widgets.entries i.pointer ≡ s.desk.pointer in
@@ -174,94 +169,34 @@ pub returns-clause-still : goal.returns-clause-still
 returns-clause-still c = λ none.
     let i = c.self.inside in
     let D : DeskView → Type 0 = λ s. IsDesk s.desk in
-    let there = connected-joined (stage_of i.shape i.roster i.clients i.tree i.pointer) (clients_of i.clients) i.tree i.windows c.args.client true c.self.invariant.parts c.if-not-has.ensures in
     stepped-still c.args.self.now.desk (desk_of (stage_of i.shape c.obey-answer.new.roster i.clients c.settle.new.tree c.let_go.new.pointer) c.settle.new.tree c.obey-answer.new.windows) c.args.client c.args.command.now c.args.payload.now (is_memory c.obey-answer.result.reply) c.obey-answer.result.reply
     (subst D c.self.view_is c.self.invariant.desk)
     (returns-clause-valid c)
-    (ap (λ (s : DeskView). is_connected s.desk c.args.client) (sym c.self.view_is) ∙ there)
+    (sym c.if-not-has.ensures)
     (returns-clause-step c)
     (sym (returns-clause-told c) ∙ none)
 
-pub returns-then-not-has-clause-still : goal.returns-then-not-has-clause-still
-returns-then-not-has-clause-still c = λ none.
-    let i = c.self.inside in
-    stays-same c.args.self.now.desk (desk_of (stage_of i.shape i.roster i.clients i.tree i.pointer) i.tree i.windows) (ap (λ (s : DeskView). s.desk.rows) c.self.view_is) (ap (λ (s : DeskView). s.desk.windows) c.self.view_is)
-
-pub returns-in-Some-clause-still : goal.returns-in-Some-clause-still
-returns-in-Some-clause-still c = λ none.
-    let i = c.self.inside in
-    stays-same c.args.self.now.desk (desk_of (stage_of i.shape i.roster i.clients i.tree i.pointer) i.tree i.windows) (ap (λ (s : DeskView). s.desk.rows) c.self.view_is) (ap (λ (s : DeskView). s.desk.windows) c.self.view_is)
-
 pub returns-in-Some-clause-told : goal.returns-in-Some-clause-told
-returns-in-Some-clause-told c = asked-unmoved c.args.self.now.desk.rows c.args.client c.args.command.now c.in-Some.reply c.in-Some.ensures.asks
-
-pub returns-then-is_poll-clause-still : goal.returns-then-is_poll-clause-still
-returns-then-is_poll-clause-still c = λ none.
-    let i = c.self.inside in
-    stays-same c.args.self.now.desk (desk_of (stage_of i.shape i.roster c.poll.new.self i.tree i.pointer) i.tree i.windows) (ap (λ (s : DeskView). s.desk.rows) c.self.view_is) (ap (λ (s : DeskView). s.desk.windows) c.self.view_is)
+returns-in-Some-clause-told c = c.stay-in-Some.ensures.visit.moved ∙ asked-unmoved c.args.self.now.desk.rows c.args.client c.args.command.now c.in-Some.reply c.in-Some.ensures.asks
 
 pub returns-then-is_poll-clause-told : goal.returns-then-is_poll-clause-told
-returns-then-is_poll-clause-told c = polled-unmoved c.args.self.now.desk.rows c.args.client c.args.command.now c.poll_reply.result (sym c.if-is_poll.ensures)
+returns-then-is_poll-clause-told c = c.poll.ensures.visit.moved ∙ polled-unmoved c.args.self.now.desk.rows c.args.client c.args.command.now c.poll.result (sym c.if-is_poll.ensures)
 
 -- a command that only asks leaves the desk as it was
 pub returns-in-Some-clause-step : goal.returns-in-Some-clause-step
 returns-in-Some-clause-step c =
-    let i = c.self.inside in
-    let desk : Desk = desk_of (stage_of i.shape i.roster i.clients i.tree i.pointer) i.tree i.windows in
-    step-obeyed desk c.args.client c.args.command.now c.args.payload.now (is_memory c.in-Some.reply) c.in-Some.reply desk desk
-    (connected-joined (stage_of i.shape i.roster i.clients i.tree i.pointer) (clients_of i.clients) i.tree i.windows c.args.client true c.self.invariant.parts c.if-not-has.ensures)
-    (c.in-Some.ensures.answers c.args.payload.now (is_memory c.in-Some.reply) desk refl) (sym c.self.invariant.desk.held)
-    ∙ ap (λ (s : DeskView). step s.desk c.args.client c.args.command.now c.args.payload.now (is_memory c.in-Some.reply)) c.self.view_is
+    let desk = c.args.self.now.desk in
+    ap (λ (d : Desk). (c.in-Some.reply, d)) c.stay-in-Some.ensures.put.desk
+    ∙ step-obeyed desk c.args.client c.args.command.now c.args.payload.now (is_memory c.in-Some.reply) c.in-Some.reply desk desk (sym c.if-not-has.ensures)
+    (c.in-Some.ensures.answers c.args.payload.now (is_memory c.in-Some.reply) desk refl) (sym c.stay-in-Some.ensures.visit.desk.held)
 
-pub returns-in-Some-clause-numbered : goal.returns-in-Some-clause-numbered
-returns-in-Some-clause-numbered c =
-    let i = c.self.inside in
-    let N : DeskView → Type 0 = λ s. KeepsNumbers s.widgets.entries i.tree.entries in
-    subst N c.self.view_is (numbers-same i.tree.entries c.self.invariant.parts.tree.forest.own_names)
-
-pub returns-in-Some-clause-touched : goal.returns-in-Some-clause-touched
-returns-in-Some-clause-touched c =
-    let i = c.self.inside in
-    let new : DeskView = record { desk = desk_of (stage_of i.shape i.roster i.clients i.tree i.pointer) i.tree i.windows; changed = false; moved = false; widgets = i.tree; windows = i.windows; touched = c.forget.new.touched.looks.items } in
-    stayed-touched c.args.self.now new (ap (λ (s : DeskView). s.widgets.entries) c.self.view_is) (ap (λ (s : DeskView). seen.scene_of s.desk) c.self.view_is) c.forget.ensures
+pub returns-in-Some-clause-others : goal.returns-in-Some-clause-others
+returns-in-Some-clause-others c = step-others _ _ c.args.client c.args.command.now c.args.payload.now _ _ c.stay-in-Some.ensures.visit.desk (returns-in-Some-clause-step c)
 
 -- `poll` changes the client's ring alone
-pub poll-requires : goal.poll-requires
-poll-requires c = sym c.if-not-has.ensures
-
-pub invariant_of-self-then-is_poll : goal.invariant_of-self-then-is_poll
-invariant_of-self-then-is_poll c =
-    let i = c.self.inside in
-    polled-kept i.shape i.pointer i.clients c.poll.new.self i.tree i.windows i.roster c.args.client c.args.command.now c.args.payload.now c.poll_reply.result c.self.invariant
-    (connected-joined (stage_of i.shape i.roster i.clients i.tree i.pointer) (clients_of i.clients) i.tree i.windows c.args.client true c.self.invariant.parts c.if-not-has.ensures)
-    (sym c.if-is_poll.ensures) (c.poll_reply.ensures ∙ ap poll_reply c.poll.ensures.answer) c.poll.ensures.rings
-
 pub returns-then-is_poll-clause-step : goal.returns-then-is_poll-clause-step
 returns-then-is_poll-clause-step c =
-    let i = c.self.inside in
-    polled-step i.shape i.pointer i.clients c.poll.new.self i.tree i.windows i.roster c.args.client c.args.command.now c.args.payload.now c.poll_reply.result c.self.invariant
-    (connected-joined (stage_of i.shape i.roster i.clients i.tree i.pointer) (clients_of i.clients) i.tree i.windows c.args.client true c.self.invariant.parts c.if-not-has.ensures)
-    (sym c.if-is_poll.ensures) (c.poll_reply.ensures ∙ ap poll_reply c.poll.ensures.answer) c.poll.ensures.rings
-    ∙ ap (λ (s : DeskView). step s.desk c.args.client c.args.command.now c.args.payload.now (is_memory c.poll_reply.result)) c.self.view_is
+    polled-step c.args.self.now.desk c.poll.new.self.desk c.args.client c.args.command.now c.args.payload.now (is_memory c.poll.result) c.poll.result c.poll.ensures.visit.desk.held (sym c.if-not-has.ensures) (sym c.if-is_poll.ensures) c.poll.ensures.reply c.poll.ensures.desk
 
 pub returns-then-is_poll-clause-others : goal.returns-then-is_poll-clause-others
-returns-then-is_poll-clause-others c =
-    let D : DeskView → Type 0 = λ s. IsDesk s.desk in
-    let L : Desk → Type 0 = λ d. LeavesOthers c.args.client c.args.self.now.desk d in
-    subst L (sym (ap (λ (done : Reply × Desk). done.1) (returns-then-is_poll-clause-step c)))
-    (commands_leave_others c.args.self.now.desk c.args.client c.args.command.now c.args.payload.now (is_memory c.poll_reply.result) (subst D c.self.view_is c.self.invariant.desk))
-
-pub returns-then-is_poll-clause-valid : goal.returns-then-is_poll-clause-valid
-returns-then-is_poll-clause-valid c = (invariant_of-self-then-is_poll c).desk
-
-pub returns-then-is_poll-clause-numbered : goal.returns-then-is_poll-clause-numbered
-returns-then-is_poll-clause-numbered c =
-    let i = c.self.inside in
-    let N : DeskView → Type 0 = λ s. KeepsNumbers s.widgets.entries i.tree.entries in
-    subst N c.self.view_is (numbers-same i.tree.entries c.self.invariant.parts.tree.forest.own_names)
-
-pub returns-then-is_poll-clause-touched : goal.returns-then-is_poll-clause-touched
-returns-then-is_poll-clause-touched c =
-    let i = c.self.inside in
-    let new : DeskView = record { desk = desk_of (stage_of i.shape i.roster c.poll.new.self i.tree i.pointer) i.tree i.windows; changed = false; moved = false; widgets = i.tree; windows = i.windows; touched = c.forget.new.touched.looks.items } in
-    stayed-touched c.args.self.now new (ap (λ (s : DeskView). s.widgets.entries) c.self.view_is) (ap (λ (s : DeskView). seen.scene_of s.desk) c.self.view_is) c.forget.ensures
+returns-then-is_poll-clause-others c = step-others _ _ c.args.client c.args.command.now c.args.payload.now _ _ c.poll.ensures.visit.desk (returns-then-is_poll-clause-step c)
