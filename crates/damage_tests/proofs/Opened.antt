@@ -1,5 +1,5 @@
 -- One more window, laid out and put on top.
-use Rattle.std.proofs.Common.{◌≡◌, ◌≢◌, ℕ, zero, suc, ◌+◌, ◌<◌, Bool, true, false, cond, ◌||◌, nat_eq, List, [], ◌∷◌, map, length, get_or, All, Option, Some, inl, inr, ◌⊎◌, refl, sym, ap, ◌∙◌, arith, subst}
+use Rattle.std.proofs.Common.{◌≡◌, ◌≢◌, ℕ, zero, suc, ◌<◌, Bool, true, false, cond, nat_eq, List, [], ◌∷◌, map, length, get_or, All, Some, inl, inr, ◌⊎◌, refl, sym, ap, ◌∙◌, arith, subst}
 use Rattle.std.proofs.lemmas.Bool.{cases_eq, or_from}
 use Rattle.std.proofs.lemmas.List.Elements.{All-nil, All-cons, All-head, All-tail}
 use Rattle.std.specs.List.{Contains}
@@ -11,7 +11,6 @@ use Rattle.widget_model.specs.Widgets.{Widgets, rows_of, row_at, row_kind, place
 use Rattle.widget_model.specs.Relatives.{root_id}
 use Rattle.scene_model.specs.Placing.{place_in}
 use Rattle.scene_core.specs.Places.{HasPlaces}
-use Rattle.scene_core.specs.View.{AreWindows, KeepsPlaces}
 use Rattle.damage_tests.specs.Shown.{IsShown}
 
 pub holds-without : (keys : List ℕ) (key : ℕ) → holds_key (without keys key) key ≡ false

@@ -16,8 +16,8 @@ set q w 20
 set q h 20
 add l Label
 add m Label
-hang p l 1 0
-hang q m 1 0
+hang p l 1 1 0
+hang q m 1 1 0
 add a Variable
 link l a
 link m a
@@ -68,7 +68,7 @@ fn a_widget_that_hangs_elsewhere_reaches_both_windows(rt: HostRuntime) -> Result
         Case {
             widgets: TWO_LABELS,
             before: "p q",
-            change: "lift l\nlift m\nhang q l 1 0",
+            change: "lift l\nlift m\nhang q l 1 1 0",
             after: "p q",
             looks: "",
             count: 252,
@@ -210,16 +210,16 @@ set w y 20
 set w w 120
 set w h 100
 add g Grid
-hang w g 1 0
+hang w g 1 1 0
 add t Variable
 add l Label
 link l t
 add s Scale
 link s t
 add v VScreen
-hang g l 1 1
-hang g s 2 1
-hang g v 3 1
+hang g l 1 1 1
+hang g s 1 2 1
+hang g v 1 3 1
 ";
 
 #[test]

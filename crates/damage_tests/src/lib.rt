@@ -3,12 +3,8 @@
 #![tactic(auto)]
 
 #[cfg(test)]
-mod building;
-#[cfg(test)]
 mod cases;
 #[cfg(test)]
 mod reaching;
 #[cfg(test)]
 mod showing;
-#[cfg(test)]
-mod words;

@@ -3,9 +3,7 @@ ghost use Rattle.std.specs.Prelude.{◌≡◌, true, ◌<◌};
 ghost use Rattle.widget_model.specs.Clients.{is_joined};
 ghost use Rattle.widget_model.specs.Forest.{IsWidgets};
 
-use crate::building::build;
 use crate::showing::show;
-use crate::words::{named, number};
 use arrayvec::ArrayVec;
 use damage_rules::{Raised, reach, reach_with};
 use geom_core::{Rect, holds};
@@ -13,6 +11,7 @@ use shot_core::{Shot, Touched};
 use std::alloc::Global;
 use std::process::Abort;
 use std::test::Fail;
+use test_tables::{integer, make_all, make_rows, named};
 use tree_core::Tree;
 
 /// A change: the widgets as rows, the windows that are open before in the order of opening, the rows of the change, the
@@ -92,8 +91,8 @@ fn count(areas: &[Rect]) -> u32 {
 fn are_reached(rt: &impl Abort, areas: &[Rect], table: &str, wanted: bool) -> Result<(), Fail> {
     for row in table.trim().lines() {
         let mut words = row.split_whitespace();
-        let x = number(&mut words)?;
-        let y = number(&mut words)?;
+        let x = integer(&mut words)?;
+        let y = integer(&mut words)?;
         assert_eq!(rt; is_reached(areas, x, y), wanted, "{row}");
     }
     Ok(())
@@ -102,10 +101,6 @@ fn are_reached(rt: &impl Abort, areas: &[Rect], table: &str, wanted: bool) -> Re
 /// Plays the case on a new tree that client 1 alone joined.
 pub fn reaches(rt: &impl Abort, alloc: Global, case: Case<'_>) -> Result<(), Fail> {
     let mut tree = Tree::new(alloc);
-    match tree.join_client(1) {
-        Ok(()) => {}
-        Err(_) => return Err("there is no memory".into()),
-    }
     let mut before = match Shot::new(alloc) {
         Ok(shot) => shot,
         Err(_) => return Err("there is no memory".into()),
@@ -114,9 +109,9 @@ pub fn reaches(rt: &impl Abort, alloc: Global, case: Case<'_>) -> Result<(), Fai
         Ok(shot) => shot,
         Err(_) => return Err("there is no memory".into()),
     };
-    build(&mut tree, case.widgets)?;
+    make_all(alloc, &mut tree, case.widgets)?;
     show(&mut tree, case.before, &mut before)?;
-    build(&mut tree, case.change)?;
+    make_rows(alloc, &mut tree, case.change)?;
     show(&mut tree, case.after, &mut after)?;
     let touched = touched(&tree, case.looks)?;
     let areas = areas(rt, alloc, &before, &after, &touched);

@@ -6,12 +6,12 @@ ghost use Rattle.widget_model.specs.Forest.{IsWidgets};
 ghost use Rattle.widget_model.specs.Widgets.{row_kind};
 ghost use Rattle.damage_tests.specs.Shown.{IsShown};
 
-use crate::words::named;
 use kind_core::Kind;
 use scene_core::{View, relayout};
 use shot_core::Shot;
 use stack_core::Stack;
 use std::test::Fail;
+use test_tables::named;
 use tree_core::{Grab, Id, Pointer, Tree};
 use view_shots::shot;
 

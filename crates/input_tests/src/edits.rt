@@ -1,7 +1,6 @@
 //! The four edits of an Entry at each end of a text of 0, 1 and 64 bytes.
 use crate::wanted::plays;
 use std::test::Fail;
-use tree_core::Tree;
 
 const ENTRIES: &str = "
 add e Entry
@@ -60,15 +59,15 @@ at 0 0 up free keys g nothing away key 6 => at 0 0 up free keys g ; post g key 6
 
 #[test]
 fn an_empty_text_is_edited(rt: HostRuntime) -> Result<(), Fail> {
-    plays(&rt, &mut Tree::new(rt.alloc()), ENTRIES, EMPTY)
+    plays(&rt, rt.alloc(), ENTRIES, EMPTY)
 }
 
 #[test]
 fn a_text_of_one_byte_is_edited_at_each_end(rt: HostRuntime) -> Result<(), Fail> {
-    plays(&rt, &mut Tree::new(rt.alloc()), ENTRIES, ONE)
+    plays(&rt, rt.alloc(), ENTRIES, ONE)
 }
 
 #[test]
 fn a_full_text_is_edited_at_each_end(rt: HostRuntime) -> Result<(), Fail> {
-    plays(&rt, &mut Tree::new(rt.alloc()), ENTRIES, FULL)
+    plays(&rt, rt.alloc(), ENTRIES, FULL)
 }

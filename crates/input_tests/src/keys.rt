@@ -8,15 +8,15 @@ ghost use Rattle.widget_model.specs.Widgets.{IsLive};
 ghost use Rattle.input_core.specs.Live.{HoldsLive};
 
 use crate::given::{hit, input, pointer};
-use crate::widgets::make_all;
 use bind_core::{Polled, Posted, Ring};
 use cmd_words::Input;
 use geom_core::Rect;
 use input_core::{Hit, Post, route};
 use kind_core::{EventKind, name_from};
+use std::alloc::Global;
 use std::process::Abort;
 use std::test::Fail;
-use test_tables::rows;
+use test_tables::{make_all, rows};
 use tree_core::{Pointer, Tree};
 
 /// Keeps each event under the tag to which its widget bound it.
@@ -146,10 +146,10 @@ hit v 1 12 38 27 release
 ";
 
 /// Makes the screen in a tree that client 1 isn't in, presses it, and types 33 keys.
-fn types(rt: &impl Abort, tree: &mut Tree, ring: &mut Ring) -> Result<(), Fail>
+fn types(rt: &impl Abort, alloc: Global, tree: &mut Tree, ring: &mut Ring) -> Result<(), Fail>
     requires { is_joined tree.old.clients 1 ≡ false }
 {
-    make_all(tree, SCREEN)?;
+    make_all(alloc, tree, SCREEN)?;
     if tree.count(1) == 0 {
         return Err("there are no widgets".into());
     }
@@ -160,5 +160,10 @@ fn types(rt: &impl Abort, tree: &mut Tree, ring: &mut Ring) -> Result<(), Fail>
 
 #[test]
 fn the_latest_32_of_33_keys_are_told(rt: HostRuntime) -> Result<(), Fail> {
-    types(&rt, &mut Tree::new(rt.alloc()), &mut Ring::new(rt.alloc())?)
+    types(
+        &rt,
+        rt.alloc(),
+        &mut Tree::new(rt.alloc()),
+        &mut Ring::new(rt.alloc())?,
+    )
 }

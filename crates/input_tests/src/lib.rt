@@ -14,5 +14,3 @@ mod pointing;
 mod troughs;
 #[cfg(test)]
 mod wanted;
-#[cfg(test)]
-mod widgets;

@@ -1,7 +1,6 @@
 //! What motions, presses and releases do, each row of the table of inputs once.
 use crate::wanted::plays;
 use std::test::Fail;
-use tree_core::Tree;
 
 const TWO_WINDOWS: &str = "
 add p Window
@@ -94,15 +93,15 @@ at 5 5 down free nobody nothing away release => at 5 5 up free nobody ;
 
 #[test]
 fn a_click_is_a_press_and_release_on_one_button(rt: HostRuntime) -> Result<(), Fail> {
-    plays(&rt, &mut Tree::new(rt.alloc()), TWO_WINDOWS, BUTTONS)
+    plays(&rt, rt.alloc(), TWO_WINDOWS, BUTTONS)
 }
 
 #[test]
 fn keys_go_to_the_screen_that_was_pressed(rt: HostRuntime) -> Result<(), Fail> {
-    plays(&rt, &mut Tree::new(rt.alloc()), A_SCREEN, KEYS)
+    plays(&rt, rt.alloc(), A_SCREEN, KEYS)
 }
 
 #[test]
 fn each_row_of_the_table_holds(rt: HostRuntime) -> Result<(), Fail> {
-    plays(&rt, &mut Tree::new(rt.alloc()), ALL, EACH)
+    plays(&rt, rt.alloc(), ALL, EACH)
 }

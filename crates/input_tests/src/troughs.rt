@@ -1,7 +1,6 @@
 //! The values that a Scale and a Scrollbar take from the pointer, worked out by hand.
 use crate::wanted::plays;
 use std::test::Fail;
-use tree_core::Tree;
 
 const BARS: &str = "
 add s Scale
@@ -41,5 +40,5 @@ at 0 0 down on f nobody nothing held 0 0 60 12 motion 30 5 => at 30 5 down on f 
 
 #[test]
 fn a_value_is_taken_from_the_pointer(rt: HostRuntime) -> Result<(), Fail> {
-    plays(&rt, &mut Tree::new(rt.alloc()), BARS, POINTED)
+    plays(&rt, rt.alloc(), BARS, POINTED)
 }

@@ -7,13 +7,13 @@ ghost use Rattle.widget_model.specs.Clients.{is_joined};
 ghost use Rattle.widget_model.specs.Forest.{IsWidgets};
 
 use crate::given::{held, hit, input, pointer};
-use crate::widgets::make_all;
 use input_core::{Effects, Post, route};
 use kind_core::{Text, text_from};
+use std::alloc::Global;
 use std::process::Abort;
 use std::str::SplitWhitespace;
 use std::test::Fail;
-use test_tables::{event, integer, rows, widget, word};
+use test_tables::{event, integer, make_all, rows, widget, word};
 use tree_core::{Grab, Id, Pointer, Tree};
 
 /// The effects of a row's answer.
@@ -153,12 +153,23 @@ fn play(rt: &impl Abort, tree: &Tree, table: &str) -> Result<(), Fail>
 }
 
 /// Makes the widgets in a tree that client 1 isn't in, and plays the table.
-pub fn plays(rt: &impl Abort, tree: &mut Tree, widgets: &str, table: &str) -> Result<(), Fail>
+fn begin(
+    rt: &impl Abort,
+    alloc: Global,
+    tree: &mut Tree,
+    widgets: &str,
+    table: &str,
+) -> Result<(), Fail>
     requires { is_joined tree.old.clients 1 ≡ false }
 {
-    make_all(tree, widgets)?;
+    make_all(alloc, tree, widgets)?;
     if tree.count(1) == 0 {
         return Err("a table has no widgets".into());
     }
     play(rt, tree, table)
+}
+
+/// Makes the widgets in a new tree, and plays the table.
+pub fn plays(rt: &impl Abort, alloc: Global, widgets: &str, table: &str) -> Result<(), Fail> {
+    begin(rt, alloc, &mut Tree::new(alloc), widgets, table)
 }

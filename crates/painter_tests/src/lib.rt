@@ -5,8 +5,6 @@
 #[cfg(test)]
 mod bands;
 #[cfg(test)]
-mod changing;
-#[cfg(test)]
 mod painting;
 #[cfg(test)]
 mod pieces;
@@ -14,5 +12,3 @@ mod pieces;
 mod playing;
 #[cfg(test)]
 mod showing;
-#[cfg(test)]
-mod words;

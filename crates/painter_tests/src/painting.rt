@@ -9,7 +9,6 @@ ghost use Rattle.widget_model.specs.Widgets.{IsLive};
 ghost use Rattle.scene_core.specs.View.{AreWindows, IsView, KeepsPlaces};
 
 use crate::showing::show;
-use crate::words::{number, rect, widget, word};
 use canvas_core::Canvas;
 use geom_core::{Rect, area, meet};
 use kind_core::Name;
@@ -19,6 +18,7 @@ use stack_core::Stack;
 use std::process::Abort;
 use std::str::SplitWhitespace;
 use std::test::Fail;
+use test_tables::{number, rect, widget, word};
 use tree_core::Tree;
 use vscreen_core::Band;
 

@@ -4,18 +4,17 @@
 //!   `paint X Y W H | WRITES` leaves the spans free;
 //! - `band WIDGET FROM TO | COUNT`: so many pixels are drawn of that band of the widget's film, a byte each;
 //! - `pixel X Y | BYTE`, and `line Y X | BYTES`: what the screen has, each byte of a line as a hexadecimal digit.
-ghost use Rattle.std.specs.Prelude.{◌≡◌, true};
+ghost use Rattle.std.specs.Prelude.{◌≡◌, true, false};
 ghost use Rattle.widget_model.specs.Clients.{is_joined};
 
-use crate::changing::change;
 use crate::painting::{band, line, paint, pixel};
-use crate::words::{name, word};
 use canvas_core::Canvas;
 use kind_core::Name;
 use std::alloc::Global;
 use std::process::Abort;
 use std::str::SplitWhitespace;
 use std::test::Fail;
+use test_tables::{join, make, name, rows, word};
 use tree_core::Tree;
 
 /// `open WINDOW`.
@@ -43,12 +42,30 @@ fn play_row(
         "band" => band(rt, tree, windows.as_slice(), canvas, &mut words, row),
         "pixel" => pixel(rt, canvas, &mut words, row),
         "line" => line(rt, canvas, &mut words, row),
-        call => change(alloc, tree, call, &mut words),
+        call => make(alloc, tree, call, &mut words),
     }
 }
 
-/// Plays each row of the table on a new tree that client 1 alone joined, and a screen of that size. The table has a row
-/// at least.
+/// Client 1 joins a tree that it isn't in, and each row of the table is played on the tree and the canvas. The table has
+/// a row at least.
+fn play(
+    rt: &impl Abort,
+    alloc: Global,
+    tree: &mut Tree,
+    canvas: &mut Canvas,
+    table: &str,
+) -> Result<(), Fail>
+    requires { is_joined tree.old.clients 1 ≡ false }
+{
+    join(tree)?;
+    let mut windows = Vec::new(alloc);
+    for row in rows(table)? {
+        play_row(rt, alloc, tree, &mut windows, canvas, row)?;
+    }
+    Ok(())
+}
+
+/// Plays the table on a new tree that client 1 alone joined, and a screen of that size.
 pub fn plays(
     rt: &impl Abort,
     alloc: Global,
@@ -56,25 +73,12 @@ pub fn plays(
     height: u32,
     table: &str,
 ) -> Result<(), Fail> {
-    let table = table.trim();
-    if table.is_empty() {
-        return Err("a table has no rows".into());
-    }
     if width < 16 || width > 1024 || height < 16 || height > 768 {
         return Err("the screen has no such size".into());
-    }
-    let mut tree = Tree::new(alloc);
-    match tree.join_client(1) {
-        Ok(()) => {}
-        Err(_) => return Err("there is no memory".into()),
     }
     let mut canvas = match Canvas::new(alloc, width, height) {
         Ok(canvas) => canvas,
         Err(_) => return Err("there is no memory".into()),
     };
-    let mut windows = Vec::new(alloc);
-    for row in table.lines() {
-        play_row(rt, alloc, &mut tree, &mut windows, &mut canvas, row)?;
-    }
-    Ok(())
+    play(rt, alloc, &mut Tree::new(alloc), &mut canvas, table)
 }

@@ -3,8 +3,6 @@
 #![tactic(auto)]
 
 #[cfg(test)]
-mod changing;
-#[cfg(test)]
 mod edges;
 #[cfg(test)]
 mod nests;
@@ -14,5 +12,3 @@ mod places;
 mod playing;
 #[cfg(test)]
 mod shown;
-#[cfg(test)]
-mod words;

@@ -2,7 +2,7 @@
 ghost use Rattle.std.specs.Prelude.{◌≡◌, true, false};
 ghost use Rattle.widget_model.specs.Clients.{is_joined};
 
-use crate::playing::{play, play_row};
+use crate::playing::{begin, play, play_row};
 use std::alloc::Global;
 use std::process::Abort;
 use std::test::Fail;
@@ -63,11 +63,7 @@ at l110 465 12 558 755
 fn nests(rt: &impl Abort, alloc: Global, tree: &mut Tree) -> Result<(), Fail>
     requires { is_joined tree.old.clients 1 ≡ false }
 {
-    match tree.join_client(1) {
-        Ok(()) => {}
-        Err(_) => return Err("there is no memory".into()),
-    }
-    play(rt, alloc, tree, FIRST)?;
+    begin(rt, alloc, tree, FIRST)?;
     add_grids(rt, alloc, tree)?;
     add_labels(rt, alloc, tree)?;
     play(rt, alloc, tree, LAST)

@@ -104,7 +104,7 @@ link l t
 add s Scale
 link s t
 add v VScreen
-film v 64 40
+film v 64 40 0
 hang g l 1 1 1
 hang g s 1 2 1
 hang g v 1 3 1

@@ -1,19 +1,34 @@
-//! Tables of rows, played on a tree.
+//! Tables of rows, played on a tree. Beside the rows that change the tree there are
+//! - `layout WINDOW`: the Window is laid out;
+//! - `at WIDGET X Y WIDTH HEIGHT` and `none WIDGET`: where the widget is;
+//! - `top WIDGET WINDOW X Y` and `bare WINDOW X Y`: what is on top at a pixel.
 ghost use Rattle.std.specs.Prelude.{◌≡◌, true, false, OnOk};
 ghost use Rattle.widget_model.specs.Widgets.{IsLive};
 ghost use Rattle.widget_model.specs.Clients.{is_joined};
 
-use crate::changing::change;
 use crate::shown::{is_bare, is_top};
-use crate::words::{rect, widget, word};
 use geom_core::Rect;
 use kind_core::Kind;
-use scene_core::place;
+use scene_core::{place, relayout};
 use std::alloc::Global;
 use std::process::Abort;
 use std::str::SplitWhitespace;
 use std::test::Fail;
+use test_tables::{join, make, rect, rows, widget, word};
 use tree_core::{Id, Tree};
+
+/// `layout WINDOW`.
+fn layout(tree: &mut Tree, words: &mut SplitWhitespace<'_>) -> Result<(), Fail>
+    requires { is_joined tree.old.clients 1 ≡ true }
+    ensures { is_joined tree.new.clients 1 ≡ true }
+{
+    let window = widget(tree, words)?;
+    match tree.kind(window) {
+        Kind::Window => relayout(tree, window),
+        _ => return Err("it is no Window".into()),
+    }
+    Ok(())
+}
 
 /// The place of the widget from scratch, where its root is a Window.
 fn place_of(tree: &Tree, id: Id) -> Option<Rect>
@@ -58,11 +73,12 @@ pub fn play_row(rt: &impl Abort, alloc: Global, tree: &mut Tree, row: &str) -> R
 {
     let mut words = row.split_whitespace();
     match word(&mut words)? {
+        "layout" => layout(tree, &mut words),
         "at" => is_at(rt, tree, &mut words, row),
         "none" => is_nowhere(rt, tree, &mut words, row),
         "top" => is_top(rt, tree, &mut words, row),
         "bare" => is_bare(rt, tree, &mut words, row),
-        call => change(alloc, tree, call, &mut words),
+        call => make(alloc, tree, call, &mut words),
     }
 }
 
@@ -71,21 +87,22 @@ pub fn play(rt: &impl Abort, alloc: Global, tree: &mut Tree, table: &str) -> Res
     requires { is_joined tree.old.clients 1 ≡ true }
     ensures { is_joined tree.new.clients 1 ≡ true }
 {
-    let table = table.trim();
-    if table.is_empty() {
-        return Err("a table has no rows".into());
-    }
-    for row in table.lines() {
+    for row in rows(table)? {
         play_row(rt, alloc, tree, row)?;
     }
     Ok(())
 }
 
+/// Client 1 joins a tree that it isn't in, and the table is played.
+pub fn begin(rt: &impl Abort, alloc: Global, tree: &mut Tree, table: &str) -> Result<(), Fail>
+    requires { is_joined tree.old.clients 1 ≡ false }
+    ensures { OnOk result (is_joined tree.new.clients 1 ≡ true) }
+{
+    join(tree)?;
+    play(rt, alloc, tree, table)
+}
+
 /// Plays the table on a new tree that client 1 alone joined.
 pub fn plays(rt: &impl Abort, alloc: Global, table: &str) -> Result<(), Fail> {
-    let mut tree = Tree::new(alloc);
-    match tree.join_client(1) {
-        Ok(()) => play(rt, alloc, &mut tree, table),
-        Err(_) => Err("there is no memory".into()),
-    }
+    begin(rt, alloc, &mut Tree::new(alloc), table)
 }

@@ -6,13 +6,13 @@ ghost use Rattle.widget_model.specs.Forest.{IsWidgets};
 ghost use Rattle.widget_model.specs.Widgets.{row_kind};
 ghost use Rattle.scene_core.specs.Places.{HasPlaces};
 
-use crate::words::{widget, word};
 use kind_core::Kind;
 use scene_core::{Grab, Pointer, View, relayout, top_at};
 use stack_core::Stack;
 use std::process::Abort;
 use std::str::SplitWhitespace;
 use std::test::Fail;
+use test_tables::{integer, widget};
 use tree_core::{Id, Tree};
 
 /// The number of the widget on top at a pixel of a screen of 100 by 80, on which the Window alone is open.
@@ -52,8 +52,8 @@ fn top(tree: &mut Tree, words: &mut SplitWhitespace<'_>) -> Result<Option<u32>, 
     ensures { is_joined tree.new.clients 1 ≡ true }
 {
     let window = widget(tree, words)?;
-    let x: i32 = word(words)?.parse()?;
-    let y: i32 = word(words)?.parse()?;
+    let x = integer(words)?;
+    let y = integer(words)?;
     match tree.kind(window) {
         Kind::Window => {
             relayout(tree, window);

@@ -2,11 +2,14 @@
 //! it is a `Fail`, so a test with a wrong table doesn't pass. No crate of the program stands on this one.
 #![tactic(auto)]
 
+mod building;
+mod films;
 mod making;
 mod tracks;
 mod widgets;
 mod words;
 
+pub use building::{join, make_all, make_rows};
 pub use making::make;
-pub use widgets::{grid, other, widget};
+pub use widgets::{grid, named, other, widget};
 pub use words::{attr, event, index, integer, kind, name, number, rect, rows, word};

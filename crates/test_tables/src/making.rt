@@ -3,10 +3,12 @@ ghost use Rattle.std.specs.Prelude.{◌≡◌, true, IfSome};
 ghost use Rattle.widget_model.specs.Clients.{is_joined};
 ghost use Rattle.widget_model.specs.Planted.{takes_cell};
 
+use crate::films::film;
 use crate::tracks::{column, row};
 use crate::widgets::widget;
 use crate::words::{attr, event, integer, kind, name, number, word};
 use kind_core::{Attr, Cell, Kind, Value, text_from};
+use std::alloc::Global;
 use std::str::SplitWhitespace;
 use std::test::Fail;
 use tree_core::Tree;
@@ -38,17 +40,20 @@ fn set(tree: &mut Tree, words: &mut SplitWhitespace<'_>) -> Result<(), Fail>
     }
 }
 
-/// `text WIDGET WORD`: its text.
-fn text(tree: &mut Tree, words: &mut SplitWhitespace<'_>) -> Result<(), Fail>
+/// `title WIDGET WORD` or `text WIDGET WORD`. Of the word each `_` stands for a space.
+fn set_words(
+    alloc: Global,
+    tree: &mut Tree,
+    attr: Attr,
+    words: &mut SplitWhitespace<'_>,
+) -> Result<(), Fail>
     requires { is_joined tree.old.clients 1 ≡ true }
     ensures { is_joined tree.new.clients 1 ≡ true }
 {
     let id = widget(tree, words)?;
-    let text = match text_from(word(words)?.as_bytes()) {
-        Some(text) => text,
-        None => return Err("a word is no text".into()),
-    };
-    match tree.set_attr(id, Attr::Text, &Value::Words(text)) {
+    let spaced = word(words)?.replace(alloc, "_", " ")?;
+    let text = text_from(spaced.as_bytes()).ok_or("a word is no text")?;
+    match tree.set_attr(id, attr, &Value::Words(text)) {
         Ok(()) => Ok(()),
         Err(_) => Err("the text isn't set".into()),
     }
@@ -95,6 +100,16 @@ fn hang(tree: &mut Tree, words: &mut SplitWhitespace<'_>) -> Result<(), Fail>
     }
 }
 
+/// `lift WIDGET`: out of its parent.
+fn lift(tree: &mut Tree, words: &mut SplitWhitespace<'_>) -> Result<(), Fail>
+    requires { is_joined tree.old.clients 1 ≡ true }
+    ensures { is_joined tree.new.clients 1 ≡ true }
+{
+    let child = widget(tree, words)?;
+    tree.detach(child);
+    Ok(())
+}
+
 /// `link WIDGET VARIABLE`.
 fn link(tree: &mut Tree, words: &mut SplitWhitespace<'_>) -> Result<(), Fail>
     requires { is_joined tree.old.clients 1 ≡ true }
@@ -126,19 +141,27 @@ fn bind(tree: &mut Tree, words: &mut SplitWhitespace<'_>) -> Result<(), Fail>
 }
 
 /// Makes the widget, or the change of one, that the call and the words behind it say.
-pub fn make(tree: &mut Tree, call: &str, words: &mut SplitWhitespace<'_>) -> Result<(), Fail>
+pub fn make(
+    alloc: Global,
+    tree: &mut Tree,
+    call: &str,
+    words: &mut SplitWhitespace<'_>,
+) -> Result<(), Fail>
     requires { is_joined tree.old.clients 1 ≡ true }
     ensures { is_joined tree.new.clients 1 ≡ true }
 {
     match call {
         "add" => add(tree, words),
         "set" => set(tree, words),
-        "text" => text(tree, words),
+        "title" => set_words(alloc, tree, Attr::Title, words),
+        "text" => set_words(alloc, tree, Attr::Text, words),
         "hang" => hang(tree, words),
+        "lift" => lift(tree, words),
         "link" => link(tree, words),
         "bind" => bind(tree, words),
         "column" => column(tree, words),
         "row" => row(tree, words),
+        "film" => film(alloc, tree, words),
         _ => Err("a word is no call".into()),
     }
 }

@@ -55,12 +55,17 @@ pub fn rect(words: &mut SplitWhitespace<'_>) -> Result<Rect, Fail> {
     })
 }
 
-/// The next name of a row.
-pub fn name(words: &mut SplitWhitespace<'_>) -> Result<Name, Fail> {
-    match name_from(word(words)?.as_bytes()) {
+/// The word as a name.
+pub fn name_of(word: &str) -> Result<Name, Fail> {
+    match name_from(word.as_bytes()) {
         Some(name) => Ok(name),
         None => Err("a word is no name".into()),
     }
+}
+
+/// The next name of a row.
+pub fn name(words: &mut SplitWhitespace<'_>) -> Result<Name, Fail> {
+    name_of(word(words)?)
 }
 
 /// The kind that the next word names.

@@ -1,4 +1,4 @@
-use Rattle.std.proofs.Common.{◌≡◌, ◌∙◌, ℕ, List, ◌∷◌, ap}
+use Rattle.std.proofs.Common.{◌∙◌, ℕ, List, ◌∷◌, ap}
 use Rattle.stack_core.specs.Stack.{holds_key}
 use Rattle.damage_tests.proofs.Opened.{holds-without, shown-opened}
 use Rattle.damage_tests.proofs.showing.open_window.Goals as goal

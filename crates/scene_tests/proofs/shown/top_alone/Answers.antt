@@ -1,4 +1,4 @@
-use Rattle.std.proofs.Common.{◌≡◌, ◌∙◌, ◌∷◌, ap, arith}
+use Rattle.std.proofs.Common.{◌∙◌, ◌∷◌, ap, arith}
 use Rattle.scene_tests.proofs.Alone.{windows-alone, kept-alone}
 use Rattle.scene_tests.proofs.shown.top_alone.Goals as goal
 

@@ -1,7 +1,7 @@
 -- the client is joined
 use Rattle.std.proofs.Common.{◌≡◌, true}
 use Rattle.widget_model.specs.Clients.{is_joined}
-use Rattle.input_tests.proofs.widgets.make_rows.Given as goal
+use Rattle.test_tables.proofs.building.make_rows.Given as goal
 
 abbrev pub invariant-loop-row : goal.invariant-loop-row
 invariant-loop-row l = is_joined l.tree.clients 1 ≡ true
