@@ -102,7 +102,8 @@ impl Tree {
 
     // Another tree that equals this one. Each part is copied by what it offers.
     fn copied(&self) -> Result<Tree, AllocError>
-        ensures { IfOk result (λ tree. tree ≡ self.now) }
+        ensures same { IfOk result (λ tree. tree ≡ self.now) }
+        ensures valid { IsWidgets self.now }
     {
         Ok(Tree {
             clients: Vec::from_slice(*self.clients.allocator(), &self.clients)?,
