@@ -1,4 +1,4 @@
-ghost use Rattle.std.specs.Prelude.{◌≡◌, ◌<◌, ◌≤◌, ◌↔◌, ◌&&◌, IsSome, IfSome, MatchOption, OnOk, OnErr, Some, true, false, not, [], length, slice_get, All, map};
+ghost use Rattle.std.specs.Prelude.{◌≡◌, ◌<◌, ◌≤◌, ◌↔◌, ◌&&◌, IsSome, IfOk, IfSome, MatchOption, OnOk, OnErr, Some, true, false, not, [], length, slice_get, All, map};
 ghost use Rattle.std.specs.Bool.{OnTrue};
 ghost use Rattle.std.specs.Option.{option_map};
 ghost use Rattle.bind_core.specs.Polling.{poll_answer, after_poll};
@@ -28,6 +28,7 @@ ghost use Rattle.desk_model.specs.Refusals.{is_memory};
 
 use crate::asking::answer_to;
 use crate::clients::Clients;
+use crate::copying::{copy_touched, copy_tree};
 use crate::feeding::{asked_on, carry_out};
 use crate::joining::join;
 use crate::polling::poll_reply;
@@ -393,6 +394,30 @@ impl Desk {
         self.moved = false;
         forget(&mut self.touched);
         beat(&mut self.tree, &self.roster)
+    }
+
+    /// Another desk that equals this one in all: the same clients with the same kept events, the same widgets under the
+    /// same numbers with their films and places, the same open windows, roster and pointer, and what the last call
+    /// changed. Each later call answers on both alike. `NoMemory` comes only for want of memory, and nothing of the copy
+    /// is left behind then. See docs/MACHINE.md, "Copies".
+    pub fn copy(&self) -> Result<Desk, NoMemory>
+        ensures same { IfOk result (λ desk. desk ≡ self.now) }
+        ensures valid { IsDesk self.now.desk }
+    {
+        let tree = copy_tree(&self.tree)?;
+        let clients = self.clients.copy()?;
+        Ok(Desk {
+            shape: self.shape,
+            pointer: self.pointer,
+            alloc: self.alloc,
+            clients,
+            tree,
+            windows: self.windows.copy(),
+            roster: self.roster.copy(),
+            changed: self.changed,
+            moved: self.moved,
+            touched: copy_touched(&self.touched),
+        })
     }
 
     /// What the desk shows, lent for a look: the widgets by their numbers with the places that are kept of them, the

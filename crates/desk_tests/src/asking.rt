@@ -3,7 +3,8 @@
 //! `input INPUT | BOOL` gives the desk `motion X Y`, `press`, `release` or `key BYTE`, and tells whether it changed. Or a row
 //! tells of the desk: `desk live | NUMBER`, `desk changed | BOOL`,
 //! `desk window PLACE | X Y W H` or `| none`, and the same of the kept place of a client's widget, by
-//! `desk place CLIENT NAME`.
+//! `desk place CLIENT NAME`. Of the VScreens of client 1 a row `beat NAME | FROM TO` tells the band of a beat, which is the
+//! only one, and a row `desk pixel NAME NUMBER | BYTE` a pixel that is shown.
 ghost use Rattle.std.specs.Prelude.{◌≤◌};
 
 use arrayvec::ArrayString;
@@ -102,6 +103,33 @@ fn kept_place(desk: &Desk, said: &str) -> Result<Option<(i32, i32, u32, u32)>, F
     }
 }
 
+/// Whether a beat draws one band, which is the VScreen's and has the pixels `FROM TO`.
+fn beats(desk: &mut Desk, name: &str, wanted: &str) -> Result<bool, Fail> {
+    let name = name_from(name.as_bytes()).ok_or("it is no name")?;
+    let screen = desk.view().tree.find(1, &name);
+    let (from, to) = wanted.split_once(' ').ok_or("a band has two numbers")?;
+    let from: u32 = from.parse()?;
+    let to: u32 = to.parse()?;
+    let bands = desk.beat();
+    match bands.as_slice() {
+        [(beaten, band)] => Ok(Some(*beaten) == screen && band.from == from && band.to == to),
+        _ => Ok(false),
+    }
+}
+
+/// The byte of a VScreen's pixel that is shown, which is written `NAME NUMBER`.
+fn shown_pixel(desk: &Desk, said: &str) -> Result<Option<u8>, Fail> {
+    let (name, number) = said
+        .split_once(' ')
+        .ok_or("a pixel has a name and a number")?;
+    let name = name_from(name.as_bytes()).ok_or("it is no name")?;
+    let number: usize = number.parse()?;
+    let tree = desk.view().tree;
+    let id = tree.find(1, &name).ok_or("no widget has the name")?;
+    let film = tree.film(id).ok_or("there is no film")?;
+    Ok(film.shown().get(number).copied())
+}
+
 /// The input that is written so.
 fn input(said: &str) -> Result<Input, Fail> {
     match said {
@@ -128,6 +156,7 @@ fn input(said: &str) -> Result<Input, Fail> {
 fn is_so(desk: &Desk, said: &str, wanted: &str) -> Result<bool, Fail> {
     match said.split_once(' ') {
         Some(("place", widget)) => return Ok(kept_place(desk, widget)? == place(wanted)?),
+        Some(("pixel", pixel)) => return Ok(shown_pixel(desk, pixel)? == Some(wanted.parse()?)),
         _ => {}
     }
     match said {
@@ -163,6 +192,10 @@ fn holds(rt: &impl Abort, desk: &mut Desk, row: &str) -> Result<(), Fail> {
     if first == "input" {
         desk.feed(input(line)?);
         assert!(rt; desk.changed() == (wanted == "true"), "at {row}");
+        return Ok(());
+    }
+    if first == "beat" {
+        assert!(rt; beats(desk, line, wanted)?, "at {row}");
         return Ok(());
     }
     if first == "desk" {

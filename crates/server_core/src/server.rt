@@ -246,6 +246,14 @@ impl Server {
         self.canvas.spans()
     }
 
+    /// The desk of the server's state, lent. It takes no memory. docs/MACHINE.md, "Copies".
+    pub fn desk(&self) -> &Desk
+        ensures desk { result.now.desk ≡ self.now.state.desk }
+        ensures valid { IsState self.now.state }
+    {
+        &self.desk
+    }
+
     /// The server's fixed numbers.
     pub fn shape(&self) -> Shape
         ensures shape { result ≡ self.now.state.desk.shape }
