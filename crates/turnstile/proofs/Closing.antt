@@ -1,8 +1,9 @@
 -- When all passes are joined into one, the value is at home, and what it keeps is what they know.
 use Rattle.std.proofs.Common.{◌≡◌, ℕ, zero, suc, ◌+◌, ◌<◌, ◌≤◌, List, [], ◌∷◌, length, refl, sym, ap, ◌∙◌, subst, arith}
-use Rattle.std.specs.Prelude.{Option, Some}
+use Rattle.std.specs.Prelude.{Option, Some, None}
 use Rattle.std.specs.List.{All}
-use mathlib.Core.Option.{some}
+use mathlib.Core.Option.{none, some}
+use mathlib.Core.Option as maybe
 use lib.ListN.{get_elem?}
 use Rattle.atomic_table.specs.Table.{State, Final, Seen}
 use Rattle.turnstile.specs.declared.view.Part.{Part}
@@ -40,3 +41,20 @@ module _ {A E : Type 0} (entries : A → List E) (number : E → ℕ) (made open
           (have_all number made opening r.history s.views id (at_stage Out v) at r.numbers whole f.tallies);
     };
   }
+
+  -- the same, where the pass's view goes by two names
+  pub closes_as : (id : ℕ) (v u : View E) (words : List ℕ) (slots : List (Option A)) → v ≡ u → u.stage ≡ Out → made ≤ length (u.own ∷ u.joined)
+      → Final (Seen (Stands entries number made opening) id v) words slots → Closes entries number u slots
+  closes_as id v u words slots same out whole final = closes id u words slots out whole (subst (λ (z : View E). Final (Seen (Stands entries number made opening) id z) words slots) same final)
+
+abbrev value_of : {A : Type 0} → A → maybe.Option (Option A) → A
+value_of d none = d
+value_of d (some None) = d
+value_of d (some (Some x)) = x
+
+module _ {A E : Type 0} (entries : A → List E) (number : E → ℕ) (v : View E) (slots : List (Option A)) (c : Closes entries number v slots) where
+  pub learns_of : (x : A) → get_elem? slots 0 ≡ some (Some x) → Learns number v (entries x)
+  learns_of x at = subst (λ (z : A). Learns number v (entries z)) (ap (value_of x) (sym c.there ∙ at)) c.learns
+
+  pub is_there : get_elem? slots 0 ≡ some None → ⊥
+  is_there at = let e : some (Some c.value) ≡ some None = sym c.there ∙ at in cc

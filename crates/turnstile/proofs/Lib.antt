@@ -11,3 +11,5 @@ pub mod Publishing
 pub mod Joining
 pub mod Opening
 pub mod Closing
+pub mod Making
+pub mod Together

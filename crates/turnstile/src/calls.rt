@@ -244,8 +244,7 @@ impl<V: Kept> Turnstile<V> {
         ensures tallies { All (Tallies V.number (opening all) (V.entries result)) (parts_of all) }
         ensures whole { HaveAll (opening all) (V.entries result) (parts_of all) }
     {
-        let Turnstile { table, made: _ } = self;
-        let mut closed = table.close_with(all.into_seat());
+        let mut closed = self.into_table().close_with(all.into_seat());
         let value = closed.take(0);
         closed.free();
         match value {

@@ -19,3 +19,12 @@ impl<V: Kept> Drop for Turnstile<V> {
         let Turnstile { table: _, made: _ } = self;
     }
 }
+
+impl<V: Kept> Turnstile<V> {
+    pub(crate) fn into_table(self) -> Gate<V>
+        ensures { result ≡ self.table }
+    {
+        let Turnstile { table, made: _ } = self;
+        table
+    }
+}

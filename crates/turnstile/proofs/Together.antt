@@ -1,0 +1,44 @@
+-- The parts of passes that are joined one after another, from the last on.
+use Rattle.std.proofs.Common.{◌≡◌, ℕ, ◌+◌, ◌≤◌, List, [], ◌∷◌, ◌++◌, length, refl, sym, ap, ◌∙◌, subst, arith, append_assoc, length-append}
+use Rattle.std.specs.List.{All}
+use Rattle.std.proofs.lemmas.List.Elements.{All-head, All-tail, All-cons, All-nil}
+use Rattle.turnstile.specs.declared.pass.Pass.{Pass}
+use Rattle.turnstile.specs.declared.view.Part.{Part}
+use Rattle.turnstile.specs.Passes.{parts_of, parts_together}
+use Rattle.turnstile.proofs.Growth.{append_nil}
+
+module _ {X : Type 0} where
+  All-front : (P : X → Type 0) (xs ys : List X) → All P (xs ++ ys) → All P xs
+  All-front P [] ys all = All-nil P
+  All-front P (x ∷ xs) ys all = All-cons P x xs (All-head P x (xs ++ ys) all) (All-front P xs ys (All-tail P x (xs ++ ys) all))
+
+  All-back : (P : X → Type 0) (xs ys : List X) → All P (xs ++ ys) → All P ys
+  All-back P [] ys all = all
+  All-back P (x ∷ xs) ys all = All-back P xs ys (All-tail P x (xs ++ ys) all)
+
+module _ {A E : Type 0} where
+  pub parts_push : (ps : List (Pass A E)) (x : Pass A E) → parts_together (ps ++ x ∷ []) ≡ parts_of x ++ parts_together ps
+  parts_push [] x = sym (append_nil (parts_of x))
+  parts_push (p ∷ ps) x = ap (λ (qs : List (Part E)). qs ++ parts_of p) (parts_push ps x) ∙ append_assoc (parts_of x) (parts_together ps) (parts_of p)
+
+  pub joined_first : (xs ys : List (Pass A E)) (x : Pass A E) → xs ≡ ys ++ x ∷ [] → parts_together xs ≡ parts_of x ++ parts_together ys
+  joined_first xs ys x popped = ap parts_together popped ∙ parts_push ys x
+
+  pub joined_more : (whole : List (Part E)) (all now x : Pass A E) (xs ys : List (Pass A E)) → xs ≡ ys ++ x ∷ [] → parts_of now ≡ parts_of all ++ parts_of x
+      → whole ≡ parts_of all ++ parts_together xs → whole ≡ parts_of now ++ parts_together ys
+  joined_more whole all now x xs ys popped gains had =
+      had ∙ (ap (λ (qs : List (Part E)). parts_of all ++ qs) (joined_first xs ys x popped)
+        ∙ (sym (append_assoc (parts_of all) (parts_of x) (parts_together ys)) ∙ ap (λ (qs : List (Part E)). qs ++ parts_together ys) (sym gains)))
+
+  pub joined_last : (whole : List (Part E)) (all : Pass A E) (xs : List (Pass A E)) → xs ≡ [] → whole ≡ parts_of all ++ parts_together xs → parts_of all ≡ whole
+  joined_last whole all xs none had = sym (had ∙ (ap (λ (ps : List (Pass A E)). parts_of all ++ parts_together ps) none ∙ append_nil (parts_of all)))
+
+  -- each pass has one part at least
+  pub as_many_parts : (ps : List (Pass A E)) → length ps ≤ length (parts_together ps)
+  as_many_parts [] = omega arith
+  as_many_parts (p ∷ ps) = omega (arith, length-append (parts_together ps) (parts_of p), as_many_parts ps)
+
+  -- what holds of all parts together holds of those of each pass
+  pub each_pass : (P : Part E → Type 0) (ps : List (Pass A E)) → All P (parts_together ps) → All (λ p. All P (parts_of p)) ps
+  each_pass P [] all = All-nil (λ (p : Pass A E). All P (parts_of p))
+  each_pass P (p ∷ ps) all = All-cons (λ (q : Pass A E). All P (parts_of q)) p ps (All-back P (parts_together ps) (parts_of p) all) (each_pass P ps (All-front P (parts_together ps) (parts_of p) all))
