@@ -1,7 +1,7 @@
 -- The parts of passes that are joined one after another, from the last on.
 use Rattle.std.proofs.Common.{◌≡◌, ℕ, ◌+◌, ◌≤◌, List, [], ◌∷◌, ◌++◌, length, refl, sym, ap, ◌∙◌, subst, arith, append_assoc, length-append}
 use Rattle.std.specs.List.{All}
-use Rattle.std.proofs.lemmas.List.Elements.{All-head, All-tail, All-cons, All-nil}
+use Rattle.std.proofs.lemmas.List.Elements.{All-head, All-tail, All-cons, All-nil, All-same}
 use Rattle.turnstile.specs.declared.pass.Pass.{Pass}
 use Rattle.turnstile.specs.declared.view.Part.{Part}
 use Rattle.turnstile.specs.Passes.{parts_of, parts_together}
@@ -15,6 +15,11 @@ module _ {X : Type 0} where
   All-back : (P : X → Type 0) (xs ys : List X) → All P (xs ++ ys) → All P ys
   All-back P [] ys all = all
   All-back P (x ∷ xs) ys all = All-back P xs ys (All-tail P x (xs ++ ys) all)
+
+  -- what holds of a list holds of it without the last, and of the last
+  pub popped : (P : X → Type 0) (xs ys : List X) (x : X) → xs ≡ ys ++ x ∷ [] → All P xs → All P ys × P x
+  popped P xs ys x was all = let both = All-same P (ys ++ x ∷ []) xs (sym was) all in
+      (All-front P ys (x ∷ []) both, All-head P x [] (All-back P ys (x ∷ []) both))
 
 module _ {A E : Type 0} where
   pub parts_push : (ps : List (Pass A E)) (x : Pass A E) → parts_together (ps ++ x ∷ []) ≡ parts_of x ++ parts_together ps
