@@ -29,18 +29,18 @@ module _ {A E : Type 0} (entries : A → List E) (number : E → ℕ) (made open
   pub closes : (id : ℕ) (v : View E) (words : List ℕ) (slots : List (Option A)) → v.stage ≡ Out → made ≤ length (v.own ∷ v.joined)
       → Final (Seen (Stands entries number made opening) id v) words slots → Closes entries number v slots
   closes id v words slots out whole final =
-    let s = final.0 in let r = final.1.0 in
-    let at : get_elem? s.views id ≡ some (at_stage Out v) = final.1.1 ∙ ap (λ z. some (at_stage z v)) out in
-    let f = all_at (Fits number made opening r.turn r.history) s.views id (at_stage Out v) r.fits at in
-    let h = at_home entries r.history s.homes s.views (others_out number made opening r.history s.views id (at_stage Out v) at r.numbers whole refl) r.turns in record {
-    value = h.value;
-    there = final.4 0 (Some h.value) (ap (λ hs. get_elem? hs 0) h.home);
-    learns = record {
-      tallies = subst (λ (z : ℕ × List E). All (Tallies number z.0 z.1) (v.own ∷ v.joined)) (λ k. (sym f.knows.1 k, sym h.has k)) f.tallies;
-      whole = λ (le : v.made ≤ length (v.own ∷ v.joined)). subst (λ (z : ℕ × List E). HaveAll z.0 z.1 (v.own ∷ v.joined)) (λ k. (sym f.knows.1 k, sym h.has k))
-          (have_all number made opening r.history s.views id (at_stage Out v) at r.numbers whole f.tallies);
-    };
-  }
+      let s = final.0 in let r = final.1.0 in
+      let at : get_elem? s.views id ≡ some (at_stage Out v) = final.1.1 ∙ ap (λ z. some (at_stage z v)) out in
+      let f = all_at (Fits number made opening r.turn r.history) s.views id (at_stage Out v) r.fits at in
+      let h = at_home entries r.history s.homes s.views (others_out number made opening r.history s.views id (at_stage Out v) at r.numbers whole refl) r.turns in record {
+        value = h.value;
+        there = final.4 0 (Some h.value) (ap (λ hs. get_elem? hs 0) h.home);
+        learns = record {
+          tallies = subst (λ (z : ℕ × List E). All (Tallies number z.0 z.1) (v.own ∷ v.joined)) (λ k. (sym f.knows.1 k, sym h.has k)) f.tallies;
+          whole = λ (le : v.made ≤ length (v.own ∷ v.joined)). subst (λ (z : ℕ × List E). HaveAll z.0 z.1 (v.own ∷ v.joined)) (λ k. (sym f.knows.1 k, sym h.has k))
+              (have_all number made opening r.history s.views id (at_stage Out v) at r.numbers whole f.tallies);
+        };
+      }
 
   -- the same, where the pass's view goes by two names
   pub closes_as : (id : ℕ) (v u : View E) (words : List ℕ) (slots : List (Option A)) → v ≡ u → u.stage ≡ Out → made ≤ length (u.own ∷ u.joined)

@@ -5,7 +5,6 @@ use Rattle.std.proofs.lemmas.Bool.Decides.{nat_tests}
 use Rattle.std.proofs.lemmas.List.{drop-append-le, drop_at}
 use Rattle.std.proofs.lemmas.List.Elements.{filter-append, All-head, All-tail, All-cons, All-nil, All-same}
 use Rattle.std.specs.List.{All}
-
 use Rattle.turnstile.specs.declared.view.Part.{Part}
 use Rattle.turnstile.specs.Entries.{StartsWith, carrying, added, Tallies, AllCarry}
 use Rattle.turnstile.specs.Tickets.{total, once}
@@ -57,13 +56,13 @@ module _ {E : Type 0} (number : E → ℕ) where
     -- the part whose own the new entries are
     pub tallies_own : (p : Part E) → p.number ≡ n → Tallies number opening history p → Tallies number opening history' (record p { seen = history'; mine = p.mine ++ new })
     tallies_own p is t =
-      let now : added number opening p.number history' ≡ p.mine ++ new = ap (added number opening p.number) more ∙ (added_more opening p.number history new (opened_by opening history p t)
-          ∙ (ap (λ (ys : List E). ys ++ carrying number p.number new) t.mine ∙ ap (λ (ys : List E). p.mine ++ ys) (carrying_all p.number new (subst (λ (k : ℕ). AllCarry number k new) (sym is) all)))) in record {
-      begins = ([], sym (append_nil history'));
-      later = (let l : length history' ≡ length history + length new = ap length more ∙ length-append history new in let k = opened_by opening history p t in omega arith);
-      mine = now;
-      mine_seen = now;
-    }
+        let now : added number opening p.number history' ≡ p.mine ++ new = ap (added number opening p.number) more ∙ (added_more opening p.number history new (opened_by opening history p t)
+        ∙ (ap (λ (ys : List E). ys ++ carrying number p.number new) t.mine ∙ ap (λ (ys : List E). p.mine ++ ys) (carrying_all p.number new (subst (λ (k : ℕ). AllCarry number k new) (sym is) all)))) in record {
+          begins = ([], sym (append_nil history'));
+          later = (let l : length history' ≡ length history + length new = ap length more ∙ length-append history new in let k = opened_by opening history p t in omega arith);
+          mine = now;
+          mine_seen = now;
+        }
 
   -- the part of who comes in: it sees the history
   pub tallies_arrived : (opening : ℕ) (history : List E) (p : Part E) → Tallies number opening history p → Tallies number opening history (record p { seen = history })
@@ -73,3 +72,17 @@ module _ {E : Type 0} (number : E → ℕ) where
     mine = t.mine;
     mine_seen = t.mine;
   }
+
+nothing_more : {X : Type 0} (xs ys : List X) → xs ++ ys ≡ xs → ys ≡ []
+nothing_more xs [] e = refl
+nothing_more xs (y ∷ ys) e = let l : length xs + length (y ∷ ys) ≡ length xs = sym (length-append xs (y ∷ ys)) ∙ ap length e in absurd (omega arith)
+
+module _ {E : Type 0} (number : E → ℕ) where
+  -- between what a part saw and the history there is none of its own
+  pub none_between : (opening : ℕ) (history : List E) (p : Part E) → Tallies number opening history p → carrying number p.number (drop (length p.seen) history) ≡ []
+  none_between opening history p t =
+      let new = drop (length p.seen) history in
+      nothing_more p.mine (carrying number p.number (drop (length p.seen) history))
+      (ap (λ (es : List E). es ++ carrying number p.number (drop (length p.seen) history)) (sym t.mine_seen)
+      ∙ (sym (added_more number opening p.number p.seen (drop (length p.seen) history) t.later)
+      ∙ (ap (added number opening p.number) (sym (rest_is number history p.seen t.begins)) ∙ t.mine)))

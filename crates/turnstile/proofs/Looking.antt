@@ -76,22 +76,27 @@ module _ {A E : Type 0} (entries : A → List E) (number : E → ℕ) (made open
   module _ (slots id : ℕ) (st : Step (Option A)) (me : Holder A E) (t : ℕ) (waits : me.0.stage ≡ Waits t) where
     misses : (s : State (Option A) (View E)) → Stands entries number made opening s → get_elem? s.views id ≡ some me.0 → get_or s.words 1 0 ≢ t % 2 ^ 64
         → (w : View E) × (a : Act (Option A)) × Valid s.homes me.1 a × Stands entries number made opening (stepped s 1 (get_or s.words 1 0) id me.1 w a)
-          × looked entries number st me (get_or s.words 1 0) (w, carried_after me.1 a)
+        × looked entries number st me (get_or s.words 1 0) (w, carried_after me.1 a)
     misses s r at other = (me.0, keeps, tt, unmoved s r 1 id me.0 at, λ u is. ((λ e. absurd (other (e ∙ ap (λ (k : ℕ). k % 2 ^ 64) (ap ticket_of (sym is ∙ waits))))), (λ _. refl)))
 
     hits : (s : State (Option A) (View E)) → (r : Stands entries number made opening s) → get_elem? s.views id ≡ some (at_stage (Waits r.turn) me.0) → t ≡ r.turn → get_or s.words 1 0 ≡ t % 2 ^ 64
         → (w : View E) × (a : Act (Option A)) × Valid s.homes me.1 a × Stands entries number made opening (stepped s 1 (get_or s.words 1 0) id me.1 w a)
-          × looked entries number st me (get_or s.words 1 0) (w, carried_after me.1 a)
-    hits s r at same found = let h = home_now s r id me.0 at in
-        (arrived r.turn (entries h.value) me.0, takes 0 (Some h.value), ap (λ hs. get_elem? hs 0) h.home, comes_in s r id me.0 at h,
-          λ u is. let e : r.turn ≡ u = sym same ∙ ap ticket_of (sym waits ∙ is) in
-            ((λ _. record { value = h.value; after = (λ k. (arrived (e k) (entries h.value) me.0, (0, Some h.value) ∷ me.1)); learns = learnt s r id r.turn me.0 at (entries h.value) h.has }),
-             (λ other. absurd (other (found ∙ ap (λ (k : ℕ). k % 2 ^ 64) (same ∙ e))))))
+        × looked entries number st me (get_or s.words 1 0) (w, carried_after me.1 a)
+    hits s r at same found = let h = home_now s r id me.0 at in (
+      arrived r.turn (entries h.value) me.0,
+      takes 0 (Some h.value),
+      ap (λ hs. get_elem? hs 0) h.home,
+      comes_in s r id me.0 at h,
+      λ u is. let e : r.turn ≡ u = sym same ∙ ap ticket_of (sym waits ∙ is) in (
+        (λ _. record { value = h.value; after = (λ k. (arrived (e k) (entries h.value) me.0, (0, Some h.value) ∷ me.1)); learns = learnt s r id r.turn me.0 at (entries h.value) h.has }),
+        (λ other. absurd (other (found ∙ ap (λ (k : ℕ). k % 2 ^ 64) (same ∙ e)))),
+      ),
+    )
 
     pub looks : made < 2 ^ 32 → Allows (Stands entries number made opening) slots id me 1 (λ n. n) (looked entries number st me)
     looks few s r deep at low = dite (ℕ_discrete (get_or s.words 1 0) (t % 2 ^ 64))
         (λ found. let at' : get_elem? s.views id ≡ some (at_stage (Waits t) me.0) = at ∙ ap (λ z. some (at_stage z me.0)) waits in
-            let turn_found : get_or s.words 1 0 ≡ r.turn % 2 ^ 64 = ap (λ (ws : List ℕ). get_or ws 1 0) r.words in
-            let same : t ≡ r.turn = same_ticket r.next r.turn made s.views id t me.0 at' r.tickets r.numbers.all few (sym turn_found ∙ found) in
-            hits s r (at' ∙ ap (λ (k : ℕ). some (at_stage (Waits k) me.0)) same) same found)
+        let turn_found : get_or s.words 1 0 ≡ r.turn % 2 ^ 64 = ap (λ (ws : List ℕ). get_or ws 1 0) r.words in
+        let same : t ≡ r.turn = same_ticket r.next r.turn made s.views id t me.0 at' r.tickets r.numbers.all few (sym turn_found ∙ found) in
+        hits s r (at' ∙ ap (λ (k : ℕ). some (at_stage (Waits k) me.0)) same) same found)
         (λ other. misses s r at other)

@@ -22,7 +22,7 @@ module _ {E : Type 0} (number : E → ℕ) (made opening : ℕ) (history : List 
       → length (parts w) ≡ length (parts v) → Numbers number made opening history views → Numbers number made opening history (set views id w)
   numbers_stay views id v w at same long r = record {
     each = λ n. let s = total-set (λ (u : View E). numbered n (parts u)) views id v w at in let h = same n in
-      (let k : total (λ (u : View E). numbered n (parts u)) (set views id w) ≡ total (λ (u : View E). numbered n (parts u)) views = omega arith in k ∙ r.each n);
+        (let k : total (λ (u : View E). numbered n (parts u)) (set views id w) ≡ total (λ (u : View E). numbered n (parts u)) views = omega arith in k ∙ r.each n);
     all = let s = total-set (λ (u : View E). length (parts u)) views id v w at in let e = r.all in omega arith;
     entries = r.entries;
   }
@@ -34,8 +34,8 @@ module _ {E : Type 0} (number : E → ℕ) (made opening : ℕ) (history : List 
       → Numbers number made opening history views → Numbers number made opening history (set (set views id both) other spent)
   numbers_join views id other v w both spent at there same long r = record {
     each = λ n. let s = total-set (λ (u : View E). numbered n (parts u)) views id v both at in
-      let t = total-set (λ (u : View E). numbered n (parts u)) (set views id both) other w spent there in let h = same n in
-      (let k : total (λ (u : View E). numbered n (parts u)) (set (set views id both) other spent) ≡ total (λ (u : View E). numbered n (parts u)) views = omega arith in k ∙ r.each n);
+        let t = total-set (λ (u : View E). numbered n (parts u)) (set views id both) other w spent there in let h = same n in
+        (let k : total (λ (u : View E). numbered n (parts u)) (set (set views id both) other spent) ≡ total (λ (u : View E). numbered n (parts u)) views = omega arith in k ∙ r.each n);
     all = let s = total-set (λ (u : View E). length (parts u)) views id v both at in let t = total-set (λ (u : View E). length (parts u)) (set views id both) other w spent there in let e = r.all in omega arith;
     entries = r.entries;
   }
@@ -46,8 +46,8 @@ module _ {E : Type 0} (number : E → ℕ) (made opening : ℕ) (history : List 
       → Numbers number made opening history views → Numbers number made opening history (set views id left ++ right ∷ [])
   numbers_split views id v left right at same long r = record {
     each = λ n. let s = total-set (λ (u : View E). numbered n (parts u)) views id v left at in
-      let t = total-append (λ (u : View E). numbered n (parts u)) (set views id left) (right ∷ []) in let h = same n in
-      (let k : total (λ (u : View E). numbered n (parts u)) (set views id left ++ right ∷ []) ≡ total (λ (u : View E). numbered n (parts u)) views = omega arith in k ∙ r.each n);
+        let t = total-append (λ (u : View E). numbered n (parts u)) (set views id left) (right ∷ []) in let h = same n in
+        (let k : total (λ (u : View E). numbered n (parts u)) (set views id left ++ right ∷ []) ≡ total (λ (u : View E). numbered n (parts u)) views = omega arith in k ∙ r.each n);
     all = let s = total-set (λ (u : View E). length (parts u)) views id v left at in let t = total-append (λ (u : View E). length (parts u)) (set views id left) (right ∷ []) in let e = r.all in omega arith;
     entries = r.entries;
   }

@@ -51,23 +51,23 @@ module _ {A E : Type 0} (entries : A → List E) (number : E → ℕ) where
   opened : (value : A) (made len : ℕ) → len ≡ length (entries value) % 2 ^ 64
       → Stands entries number (suc made) (length (entries value)) (table.opening (0 ∷ 0 ∷ len ∷ []) (Some value ∷ []) (beginning (suc made) (entries value) 0 made))
   opened value made len is =
-    let es = entries value in let v = beginning (suc made) (entries value) 0 made in record {
-    next = 0;
-    turn = 0;
-    history = entries value;
-    words = ap (λ (k : ℕ). 0 ∷ 0 ∷ k ∷ []) is;
-    tickets = record { each = λ t. none_between t; out = refl };
-    numbers = record {
-      each = λ n. let h : numbered n (fresh_from (entries value) 0 (suc made)) ≡ once (nat_lt n (suc made)) = numbers_of_fresh (entries value) n 0 (suc made) ∙ from_zero n (suc made) in
-          (let k : numbered n (fresh_from (entries value) 0 (suc made)) + 0 ≡ numbered n (fresh_from (entries value) 0 (suc made)) = omega arith in k ∙ h);
-      all = omega (arith, length_of_fresh (entries value) 1 made);
-      entries = All-same (λ (e : E). number e < suc made) (drop (length (entries value)) (entries value)) [] (drop_all (length (entries value)) (entries value) (omega arith)) (All-nil (λ (e : E). number e < suc made));
-    };
-    turns = inl record { value = value; home = refl; has = refl; empty = refl };
-    fits = All-cons (Fits number (suc made) (length (entries value)) 0 (entries value)) (beginning (suc made) (entries value) 0 made) []
-        record { knows = (refl, refl); turn_is = tt; tallies = all_fresh_tally number (entries value) 0 (suc made) }
-        (All-nil (Fits number (suc made) (length (entries value)) 0 (entries value)));
-  }
+      let es = entries value in let v = beginning (suc made) (entries value) 0 made in record {
+        next = 0;
+        turn = 0;
+        history = entries value;
+        words = ap (λ (k : ℕ). 0 ∷ 0 ∷ k ∷ []) is;
+        tickets = record { each = λ t. none_between t; out = refl };
+        numbers = record {
+          each = λ n. let h : numbered n (fresh_from (entries value) 0 (suc made)) ≡ once (nat_lt n (suc made)) = numbers_of_fresh (entries value) n 0 (suc made) ∙ from_zero n (suc made) in
+              (let k : numbered n (fresh_from (entries value) 0 (suc made)) + 0 ≡ numbered n (fresh_from (entries value) 0 (suc made)) = omega arith in k ∙ h);
+          all = omega (arith, length_of_fresh (entries value) 1 made);
+          entries = All-same (λ (e : E). number e < suc made) (drop (length (entries value)) (entries value)) [] (drop_all (length (entries value)) (entries value) (omega arith)) (All-nil (λ (e : E). number e < suc made));
+        };
+        turns = inl record { value = value; home = refl; has = refl; empty = refl };
+        fits = All-cons (Fits number (suc made) (length (entries value)) 0 (entries value)) (beginning (suc made) (entries value) 0 made) []
+            record { knows = (refl, refl); turn_is = tt; tallies = all_fresh_tally number (entries value) 0 (suc made) }
+            (All-nil (Fits number (suc made) (length (entries value)) 0 (entries value)));
+      }
 
   pub opens : (value : A) (made len : ℕ) → 0 < made → len ≡ length (entries value) % 2 ^ 64
       → Stands entries number made (length (entries value)) (table.opening (0 ∷ 0 ∷ len ∷ []) (Some value ∷ []) (beginning made (entries value) 0 (made - 1)))

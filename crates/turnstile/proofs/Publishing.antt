@@ -25,7 +25,7 @@ use Rattle.turnstile.proofs.NumberSteps.{numbers_stay, number_below}
 use Rattle.turnstile.proofs.TurnSteps.{is_away, turn_free, most_once}
 use Rattle.turnstile.proofs.Growth.{rest_is, tallies_others, tallies_own, opened_by}
 
-abbrev value_in : {A : Type 0} → A → List (ℕ × Option A) → A
+abbrev pub value_in : {A : Type 0} → A → List (ℕ × Option A) → A
 value_in d [] = d
 value_in d ((k, Some x) ∷ xs) = x
 value_in d ((k, o) ∷ xs) = d
@@ -56,7 +56,7 @@ module _ {E : Type 0} (number : E → ℕ) (made opening turn : ℕ) (history ne
       let h = total_has (λ (u : View E). numbered n (parts u)) xs id v at in
       let i = total_has (λ (u : View E). is_inside u.stage) xs id v at in
       All-cons (Fits number made opening turn history') x (set xs id w) (other_fits x (omega arith) (omega arith) (All-head (Fits number made opening turn history) x xs f))
-        (all_fit xs id v w at has within (omega arith) (omega arith) fw (All-tail (Fits number made opening turn history) x xs f))
+      (all_fit xs id v w at has within (omega arith) (omega arith) fw (All-tail (Fits number made opening turn history) x xs f))
 
 module _ {A E : Type 0} (entries : A → List E) (number : E → ℕ) (made opening : ℕ) where
   module _ (s : State (Option A) (View E)) (r : Stands entries number made opening s) (id : ℕ) (v : View E) (at : get_elem? s.views id ≡ some (at_stage (Inside r.turn) v))
@@ -102,9 +102,9 @@ module _ {A E : Type 0} (entries : A → List E) (number : E → ℕ) (made open
     entries_below =
         let b : v.own.number < made = number_below number made opening r.history s.views id v.own.number (at_stage (Inside r.turn) v) at has_number r.numbers in
         All-same (λ (e : E). number e < made) (drop opening now) (drop opening r.history ++ drop (length v.own.seen) now)
-          (ap (drop opening) grown ∙ drop-append-le opening r.history (drop (length v.own.seen) now) (opened_by number opening r.history v.own own_tallies))
-          (All-append (λ (e : E). number e < made) (drop opening r.history) (drop (length v.own.seen) now) r.numbers.entries
-            (All-weaker (λ (e : E). number e ≡ v.own.number) (λ (e : E). number e < made) (λ e is. subst (λ (m : ℕ). m < made) (sym is) b) (drop (length v.own.seen) now) carry))
+        (ap (drop opening) grown ∙ drop-append-le opening r.history (drop (length v.own.seen) now) (opened_by number opening r.history v.own own_tallies))
+        (All-append (λ (e : E). number e < made) (drop opening r.history) (drop (length v.own.seen) now) r.numbers.entries
+        (All-weaker (λ (e : E). number e ≡ v.own.number) (λ (e : E). number e < made) (λ e is. subst (λ (m : ℕ). m < made) (sym is) b) (drop (length v.own.seen) now) carry))
 
     numbers_now : Numbers number made opening now (set s.views id (at_stage (Inside r.turn) (gained now v)))
     numbers_now = let z = numbers_stay number made opening r.history s.views id (at_stage (Inside r.turn) v) (at_stage (Inside r.turn) (gained now v)) at (λ n. refl) refl r.numbers in
@@ -133,8 +133,11 @@ module _ {A E : Type 0} (entries : A → List E) (number : E → ℕ) (made open
   publishes slots id k st me t value inside holds starts carry counts s r deep at low =
       let at' : get_elem? s.views id ≡ some (at_stage (Inside t) me.0) = at ∙ ap (λ z. some (at_stage z me.0)) inside in
       let f = all_at (Fits number made opening r.turn r.history) s.views id (at_stage (Inside t) me.0) r.fits at' in
-      let e : me.0.stage ≡ Inside r.turn = inside ∙ ap Inside f.turn_is.0 in
-      (gained (entries value) me.0, keeps, tt,
+      let e : me.0.stage ≡ Inside r.turn = inside ∙ ap Inside f.turn_is.0 in (
+        gained (entries value) me.0,
+        keeps,
+        tt,
         subst (λ (z : Stage). Stands entries number made opening record { words = set s.words 2 ((get_or s.words 2 0 + k) % 2 ^ 64); homes = s.homes; views = set s.views id (at_stage z (gained (entries value) me.0)) }) (sym e)
-          (publishes_stands s r id me.0 (at ∙ ap (λ z. some (at_stage z me.0)) e) (entries value) k f.turn_is.1 starts carry counts),
-        λ other is. ap (λ (x : A). (gained (entries x) me.0, me.1)) (ap (value_in value) (sym holds ∙ is)))
+            (publishes_stands s r id me.0 (at ∙ ap (λ z. some (at_stage z me.0)) e) (entries value) k f.turn_is.1 starts carry counts),
+        λ other is. ap (λ (x : A). (gained (entries x) me.0, me.1)) (ap (value_in value) (sym holds ∙ is)),
+      )

@@ -38,25 +38,25 @@ module _ {E : Type 0} where
   pub tickets_append : (next turn : ℕ) (views : List (View E)) (w : View E) → w.stage ≡ Out → Tickets next turn views → Tickets next turn (views ++ w ∷ [])
   tickets_append next turn views w out r = record {
     each = λ t. let s = total-append (λ (u : View E). holds_ticket t u.stage) views (w ∷ []) in let h : holds_ticket t w.stage ≡ 0 = ap (holds_ticket t) out in
-      (let k : total (λ (u : View E). holds_ticket t u.stage) (views ++ w ∷ []) ≡ total (λ (u : View E). holds_ticket t u.stage) views = omega arith in k ∙ r.each t);
+        (let k : total (λ (u : View E). holds_ticket t u.stage) (views ++ w ∷ []) ≡ total (λ (u : View E). holds_ticket t u.stage) views = omega arith in k ∙ r.each t);
     out = let s = total-append (λ (u : View E). has_ticket u.stage) views (w ∷ []) in let h : has_ticket w.stage ≡ 0 = ap has_ticket out in let e = r.out in omega arith;
   }
 
   pub tickets_draw : (next turn : ℕ) (views : List (View E)) (id : ℕ) (v : View E) → get_elem? views id ≡ some (at_stage Out v) → Tickets next turn views → Tickets (next + 1) turn (set views id (at_stage (Waits next) v))
   tickets_draw next turn views id v at r = record {
     each = λ t. drawn_count next turn t (total (λ (u : View E). holds_ticket t u.stage) views) (total (λ (u : View E). holds_ticket t u.stage) (set views id (at_stage (Waits next) v)))
-      (let e = r.out in omega arith) (r.each t) (total-set (λ (u : View E). holds_ticket t u.stage) views id (at_stage Out v) (at_stage (Waits next) v) at);
+        (let e = r.out in omega arith) (r.each t) (total-set (λ (u : View E). holds_ticket t u.stage) views id (at_stage Out v) (at_stage (Waits next) v) at);
     out = let s = total-set (λ (u : View E). has_ticket u.stage) views id (at_stage Out v) (at_stage (Waits next) v) at in let e = r.out in omega arith;
   }
 
   pub tickets_pass : (next turn : ℕ) (views : List (View E)) (id : ℕ) (v : View E) → get_elem? views id ≡ some (at_stage (Inside turn) v) → Tickets next turn views → Tickets next (turn + 1) (set views id (at_stage Out v))
   tickets_pass next turn views id v at r =
-    let h : 1 ≤ total (λ (u : View E). has_ticket u.stage) views = total_has (λ (u : View E). has_ticket u.stage) views id (at_stage (Inside turn) v) at in
-    let e = r.out in record {
-    each = λ t. passed_count next turn t (total (λ (u : View E). holds_ticket t u.stage) views) (total (λ (u : View E). holds_ticket t u.stage) (set views id (at_stage Out v)))
-      (omega arith) (r.each t) (total-set (λ (u : View E). holds_ticket t u.stage) views id (at_stage (Inside turn) v) (at_stage Out v) at);
-    out = let s = total-set (λ (u : View E). has_ticket u.stage) views id (at_stage (Inside turn) v) (at_stage Out v) at in omega arith;
-  }
+      let h : 1 ≤ total (λ (u : View E). has_ticket u.stage) views = total_has (λ (u : View E). has_ticket u.stage) views id (at_stage (Inside turn) v) at in
+      let e = r.out in record {
+        each = λ t. passed_count next turn t (total (λ (u : View E). holds_ticket t u.stage) views) (total (λ (u : View E). holds_ticket t u.stage) (set views id (at_stage Out v)))
+            (omega arith) (r.each t) (total-set (λ (u : View E). holds_ticket t u.stage) views id (at_stage (Inside turn) v) (at_stage Out v) at);
+        out = let s = total-set (λ (u : View E). has_ticket u.stage) views id (at_stage (Inside turn) v) (at_stage Out v) at in omega arith;
+      }
 
   has_part : (stage : Stage) (v : View E) → has_ticket stage ≤ length (parts_at stage v.own v.joined)
   has_part Spent v = omega arith

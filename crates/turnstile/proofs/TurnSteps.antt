@@ -49,8 +49,8 @@ module _ {E : Type 0} where
       let s : total (λ (u : View E). is_inside u.stage) views' + 0 ≡ total (λ (u : View E). is_inside u.stage) views + 0 = total-set (λ (u : View E). is_inside u.stage) views id (at_stage (Waits turn) v) (at_stage Out v) at in
       let h : total (λ (u : View E). holds_ticket turn u.stage) views' + once (nat_eq turn turn) ≡ total (λ (u : View E). holds_ticket turn u.stage) views + 0 = total-set (λ (u : View E). holds_ticket turn u.stage) views id (at_stage (Waits turn) v) (at_stage Out v) at in
       let l : total (λ (u : View E). is_inside u.stage) views' ≤ total (λ (u : View E). holds_ticket turn u.stage) views' = total_le_where (λ (u : View E). is_inside u.stage) (λ (u : View E). holds_ticket turn u.stage) views'
-          (All-set (λ (u : View E). is_inside u.stage ≤ holds_ticket turn u.stage) views id (at_stage Out v) (omega arith)
-          (All-weaker (λ (u : View E). HasTurn turn history u.stage u.own) (λ (u : View E). is_inside u.stage ≤ holds_ticket turn u.stage) (λ u had. inside_holds turn history u.stage u.own had) views turns)) in
+      (All-set (λ (u : View E). is_inside u.stage ≤ holds_ticket turn u.stage) views id (at_stage Out v) (omega arith)
+      (All-weaker (λ (u : View E). HasTurn turn history u.stage u.own) (λ (u : View E). is_inside u.stage ≤ holds_ticket turn u.stage) (λ u had. inside_holds turn history u.stage u.own had) views turns)) in
       let o = own_once turn in
       let m : total (λ (u : View E). holds_ticket turn u.stage) views ≤ 1 = subst (λ (k : ℕ). k ≤ 1) (sym (r.each turn)) (most_once _) in
       omega arith

@@ -77,5 +77,5 @@ module _ {E : Type 0} (number : E → ℕ) where
     unfolding added HaveAll
     have_all t = all_counted made (parts v) each_once (drop opening history) r.entries
         ∙ (total-same (λ (p : Part E). length (carrying number p.number (drop opening history))) (λ (p : Part E). length p.mine) (parts v)
-            (All-weaker (Tallies number opening history) (λ (p : Part E). length (carrying number p.number (drop opening history)) ≡ length p.mine) (λ p had. ap (λ (es : List E). length es) had.mine) (parts v) t)
+        (All-weaker (Tallies number opening history) (λ (p : Part E). length (carrying number p.number (drop opening history)) ≡ length p.mine) (λ p had. ap (λ (es : List E). length es) had.mine) (parts v) t)
         ∙ total_as_sum (λ (p : Part E). length p.mine) (parts v))

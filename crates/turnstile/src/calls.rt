@@ -39,11 +39,7 @@ impl<V: Kept> Turnstile<V> {
     }
 
     // The turnstile, and the pass from which all others are split off.
-    fn first_pass(
-        alloc: Global,
-        value: V,
-        passes: u32,
-    ) -> Result<(Turnstile<V>, Pass<V>), NoMemory>
+    fn first_pass(alloc: Global, value: V, passes: u32) -> Result<(Turnstile<V>, Pass<V>), NoMemory>
         requires some { 0 < passes }
         ensures made { IfOk result (λ r. made_of r.0 ≡ passes) }
         ensures maker { IfOk result (λ r. IsMaker V.entries r.0 (V.entries value) r.1) }
@@ -217,6 +213,7 @@ impl<V: Kept> Turnstile<V> {
         requires own { All (IsPassOf V.entries self) passes.items }
         requires outside { All IsOut passes.items }
         ensures tallies { IfOk result (λ v. All (λ p. All (Tallies V.number (opening p) (V.entries v)) (parts_of p)) passes.items) }
+        ensures whole { IfOk result (λ v. All (λ p. HaveAll (opening p) (V.entries v) (parts_together passes.items)) passes.items) }
         ensures enough { OnOk result (made_of self ≤ vec_len passes) }
         ensures missing { IfErr result (λ m. vec_len passes < made_of self) }
         ensures told { IfErr result (λ m. (m.given ≡ vec_len passes) × (m.made ≡ made_of self)) }

@@ -13,17 +13,15 @@ use crossbeam_utils::Backoff;
 use std::sync::Wait;
 
 const NEXT: usize = 0;
+
 const TURN: usize = 1;
+
 const LENGTH: usize = 2;
+
 const VALUE: usize = 0;
 
 // Waits until it is this ticket's turn. Who doesn't come to it soon gives its processor away.
-fn wait_for_turn<V: Kept, R: Wait>(
-    rt: &R,
-    words: &Words<V>,
-    seat: &mut Place<V>,
-    ticket: u64,
-)
+fn wait_for_turn<V: Kept, R: Wait>(rt: &R, words: &Words<V>, seat: &mut Place<V>, ticket: u64)
     requires table { (seat.old.table_id ≡ words.now.table_id) × (words.now.table_id.words ≡ 3) × (words.now.key.made < 2 ^ 32) }
     requires waits { (t : ℕ) × (seat.old.me.0.stage ≡ Waits t) × (ticket ≡ t % 2 ^ 64) }
     ensures table { seat.new.table_id ≡ seat.old.table_id }

@@ -1,4 +1,4 @@
-ghost use Rattle.std.specs.Prelude.{◌≡◌, ◌<◌};
+ghost use Rattle.std.specs.Prelude.{◌≡◌, ◌^◌, ◌<◌};
 
 use crate::kept::Kept;
 use crate::rule::Gate;
@@ -12,6 +12,7 @@ pub struct Turnstile<V: Kept> {
     ghost sized: { (table.shared.table_id.words ≡ 3) × (table.shared.table_id.slots ≡ 1) },
     ghost told: { table.shared.key.made ≡ made },
     ghost some: { 0 < made },
+    ghost few: { made < 2 ^ 32 },
 }
 
 impl<V: Kept> Drop for Turnstile<V> {

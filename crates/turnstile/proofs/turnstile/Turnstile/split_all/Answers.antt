@@ -36,7 +36,7 @@ returns-in-Ok-clause-new g c =
     let items : c.push-2.new.self.items ≡ c.loop-next.passes.items ++ c.loop-next.maker ∷ [] = first_of (search rules, grind (arith, common_steps)) in
     let n = c.loop-next.invariant.next in let t = c.loop-next-test.false in let s = c.args.self.now.some in
     all_pushed (IsNew g.V.Kept.entries c.args.self.now (seen c.args.maker)) c.loop-next.passes.items c.push-2.new.self.items c.loop-next.maker items c.loop-next.invariant.new
-      (maker_is_new g.V.Kept.entries c.args.self.now (seen c.args.maker) c.loop-next.maker c.loop-next.invariant.maker (omega arith))
+    (maker_is_new g.V.Kept.entries c.args.self.now (seen c.args.maker) c.loop-next.maker c.loop-next.invariant.maker (omega arith))
 
 pub returns-in-Ok-clause-numbers : goal.returns-in-Ok-clause-numbers
 returns-in-Ok-clause-numbers g c =
