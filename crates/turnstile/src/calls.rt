@@ -191,6 +191,7 @@ impl<V: Kept> Turnstile<V> {
         requires outside { All IsOut passes.items }
         ensures own { IfOk result (λ p. IsPassOf V.entries self.now p × IsOut p) }
         ensures parts { IfOk result (λ p. parts_of p ≡ parts_together passes.items) }
+        ensures whole { IfOk result (λ p. made_of self.now ≤ length (parts_of p)) }
         ensures enough { OnOk result (made_of self.now ≤ vec_len passes) }
         ensures short { IfErr result (λ s. vec_len passes < made_of self.now) }
         ensures told { IfErr result (λ s. (s.given ≡ vec_len passes) × (s.made ≡ made_of self.now)) }

@@ -1,10 +1,13 @@
-//! Tests of the turnstile: rows of counts, and threads that take turns.
+//! Tests of the turnstile. A ledger stands for a value that keeps a journal: its calls show that a
+//! client can meet what the turnstile asks, and what it may promise of each call.
 #![tactic(auto)]
 
-mod counter;
-#[cfg(test)]
-mod threads;
-#[cfg(test)]
-mod whole;
+mod calls;
+mod ledger;
+mod line;
+mod turns;
 
-pub use counter::Counter;
+pub use calls::{call, settle};
+pub use ledger::Ledger;
+pub use line::Line;
+pub use turns::{take_turns, turns_of_all};
