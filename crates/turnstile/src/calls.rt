@@ -1,5 +1,5 @@
 //! The calls of a turnstile.
-ghost use Rattle.std.specs.Prelude.{◌≡◌, ◌+◌, ◌<◌, ◌≤◌, [], ◌∷◌, ◌++◌, map, length, drop, vec_len, IfOk, IfErr, OnOk};
+ghost use Rattle.std.specs.Prelude.{◌≡◌, ◌+◌, ◌<◌, ◌≤◌, [], ◌∷◌, ◌++◌, map, length, drop, nat_lt, vec_len, IfOk, IfErr, OnOk};
 ghost use Rattle.std.specs.List.{All, range_with_len};
 ghost use Rattle.turnstile.specs.Entries.{StartsWith, AllCarry, Tallies, HaveAll, added, carrying};
 ghost use Rattle.turnstile.specs.Passes.{IsPassOf, IsSamePass, IsOut, IsInside, IsNew, IsMaker, number_of, seen, mine, opening, parts_of, parts_together, made_of};
@@ -153,6 +153,13 @@ impl<V: Kept> Turnstile<V> {
         go_out(&self.table.shared, &mut pass.seat, value, new);
     }
 
+    // Whether fewer passes are given than were made.
+    fn lacks(&self, given: usize) -> bool
+        ensures { result ≡ nat_lt given (made_of self.now) }
+    {
+        given < self.made as usize
+    }
+
     // Joins these passes, at least one, into the last of them.
     fn join_all(&self, passes: Vec<Pass<V>>) -> Pass<V>
         requires some { 0 < vec_len passes }
@@ -197,11 +204,11 @@ impl<V: Kept> Turnstile<V> {
         ensures told { IfErr result (λ s. (s.given ≡ vec_len passes) × (s.made ≡ made_of self.now)) }
         ensures back { IfErr result (λ s. s.passes ≡ passes) }
     {
-        if passes.len() < self.made as usize {
-            let given = passes.len() as u32;
+        let given = passes.len();
+        if self.lacks(given) {
             return Err(Short {
                 passes,
-                given,
+                given: given as u32,
                 made: self.made,
             });
         }
@@ -220,9 +227,9 @@ impl<V: Kept> Turnstile<V> {
         ensures told { IfErr result (λ m. (m.given ≡ vec_len passes) × (m.made ≡ made_of self)) }
         ensures back { IfErr result (λ m. (m.gate ≡ self) × (m.passes ≡ passes)) }
     {
-        if passes.len() < self.made as usize {
-            let given = passes.len() as u32;
-            let made = self.made;
+        let given = passes.len();
+        if self.lacks(given) {
+            let (given, made) = (given as u32, self.made);
             return Err(Missing {
                 gate: self,
                 passes,

@@ -20,6 +20,16 @@ const LENGTH: usize = 2;
 
 const VALUE: usize = 0;
 
+// Draws the next ticket.
+fn draw<V: Kept>(words: &Words<V>, seat: &mut Place<V>) -> u64
+    requires table { (seat.old.table_id ≡ words.now.table_id) × (words.now.table_id.words ≡ 3) }
+    requires outside { seat.old.me.0.stage ≡ Out }
+    ensures table { seat.new.table_id ≡ seat.old.table_id }
+    ensures waits { (t : ℕ) × (result ≡ t % 2 ^ 64) × (seat.new.me ≡ (at_stage (Waits t) seat.old.me.0, seat.old.me.1)) }
+{
+    words.fetch_add::<Draws>(seat, NEXT, 1)
+}
+
 // Waits until it is this ticket's turn. Who doesn't come to it soon gives its processor away.
 fn wait_for_turn<V: Kept, R: Wait>(rt: &R, words: &Words<V>, seat: &mut Place<V>, ticket: u64)
     requires table { (seat.old.table_id ≡ words.now.table_id) × (words.now.table_id.words ≡ 3) × (words.now.key.made < 2 ^ 32) }
@@ -50,7 +60,7 @@ pub(crate) fn come_in<V: Kept, R: Wait>(rt: &R, words: &Words<V>, seat: &mut Pla
     ensures inside { (t : ℕ) × (seat.new.me ≡ (arrived t (V.entries result) seat.old.me.0, (0, None) ∷ [])) }
     ensures learns { Learns V.number seat.old.me.0 (V.entries result) }
 {
-    let ticket = words.fetch_add::<Draws>(seat, NEXT, 1);
+    let ticket = draw(words, seat);
     wait_for_turn(rt, words, seat, ticket);
     match words.exchange(seat, VALUE, None) {
         Some(value) => value,

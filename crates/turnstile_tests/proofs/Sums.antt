@@ -20,7 +20,7 @@ pub legal_push : (s : ℕ) (ls : List Line) (l : Line) → is_legal s ls ≡ tru
 legal_push s [] l e h = let t : nat_eq l.sum (s + l.amount) ≡ true = grind (arith, nat_tests) in both (nat_eq l.sum (s + l.amount)) true t refl
 legal_push s (k ∷ ks) l e h =
     both (nat_eq k.sum (s + k.amount)) (is_legal k.sum (ks ++ l ∷ [])) (both_first (nat_eq k.sum (s + k.amount)) (is_legal k.sum ks) e)
-      (legal_push k.sum ks l (both_second (nat_eq k.sum (s + k.amount)) (is_legal k.sum ks) e) h)
+    (legal_push k.sum ks l (both_second (nat_eq k.sum (s + k.amount)) (is_legal k.sum ks) e) h)
 
 pub sum_push : (s : ℕ) (ls : List Line) (l : Line) → sum_after s (ls ++ l ∷ []) ≡ l.sum
 sum_push s [] l = refl

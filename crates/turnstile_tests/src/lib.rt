@@ -5,7 +5,13 @@
 mod calls;
 mod ledger;
 mod line;
+#[cfg(test)]
+mod missing;
+#[cfg(test)]
+mod threads;
 mod turns;
+#[cfg(test)]
+mod waiting;
 
 pub use calls::{call, settle};
 pub use ledger::Ledger;

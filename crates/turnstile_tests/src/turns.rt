@@ -12,12 +12,7 @@ use std::thread::Threads;
 use turnstile::{Pass, Turnstile};
 
 /// Adds 1 as often as `rounds` says, a turn each.
-pub fn take_turns<R: Wait>(
-    rt: &R,
-    gate: &Turnstile<Ledger>,
-    pass: &mut Pass<Ledger>,
-    rounds: u32,
-)
+pub fn take_turns<R: Wait>(rt: &R, gate: &Turnstile<Ledger>, pass: &mut Pass<Ledger>, rounds: u32)
     requires own { IsPassOf lines_of gate.now pass.old }
     requires outside { IsOut pass.old }
     ensures own { IsPassOf lines_of gate.now pass.new }
