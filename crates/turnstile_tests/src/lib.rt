@@ -3,6 +3,7 @@
 #![tactic(auto)]
 
 mod calls;
+mod hands;
 mod ledger;
 mod line;
 #[cfg(test)]
@@ -14,6 +15,7 @@ mod turns;
 mod waiting;
 
 pub use calls::{call, settle};
+pub use hands::{put_last, take_last};
 pub use ledger::Ledger;
 pub use line::Line;
 pub use turns::{take_turns, turns_of_all};
