@@ -1,18 +1,15 @@
 -- When all passes are joined into one, the value is at home, and what it keeps is what they know.
-use Rattle.std.proofs.Common.{◌≡◌, ℕ, zero, suc, ◌+◌, ◌<◌, ◌≤◌, List, [], ◌∷◌, length, refl, sym, ap, ◌∙◌, subst, arith}
+use Rattle.std.proofs.Common.{◌≡◌, ℕ, ◌≤◌, List, ◌∷◌, length, refl, sym, ap, ◌∙◌, subst}
 use Rattle.std.specs.Prelude.{Option, Some, None}
 use Rattle.std.specs.List.{All}
 use mathlib.Core.Option.{none, some}
 use mathlib.Core.Option as maybe
 use lib.ListN.{get_elem?}
-use Rattle.atomic_table.specs.Table.{State, Final, Seen}
-use Rattle.turnstile.specs.declared.view.Part.{Part}
+use Rattle.atomic_table.specs.Table.{Final, Seen}
 use Rattle.turnstile.specs.declared.view.View.{View}
-use Rattle.turnstile.specs.declared.view.Stage.{Stage}
-use Rattle.turnstile.specs.declared.view.Stage.TheVariants.{Spent, Out, Waits, Inside}
+use Rattle.turnstile.specs.declared.view.Stage.TheVariants.{Out}
 use Rattle.turnstile.specs.Entries.{Tallies, HaveAll}
 use Rattle.turnstile.specs.Views.{at_stage}
-use Rattle.turnstile.specs.Turns.{AtHome}
 use Rattle.turnstile.specs.Rule.{Fits, Stands}
 use Rattle.turnstile.specs.Steps.{Learns}
 use Rattle.turnstile.proofs.Totals.{all_at}

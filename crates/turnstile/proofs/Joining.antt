@@ -1,7 +1,6 @@
 -- Splitting a pass off and joining one to another keep the rule.
-use Rattle.std.proofs.Common.{◌≡◌, ℕ, zero, suc, ◌+◌, ◌%◌, ◌^◌, ◌<◌, ◌≤◌, List, [], ◌∷◌, ◌++◌, length, drop, set, get_or, refl, sym, ap, ◌∙◌, subst, arith, length-append}
-use Rattle.std.specs.Prelude.{Option, Some, nat_eq}
-use Rattle.std.specs.List.{All}
+use Rattle.std.proofs.Common.{◌≡◌, ℕ, List, [], ◌∷◌, ◌++◌, set, refl, sym, ap, ◌∙◌, subst, arith, length-append}
+use Rattle.std.specs.Prelude.{Option, nat_eq}
 use Rattle.std.proofs.lemmas.List.Elements.{All-set, All-cons, All-head, All-tail, All-nil, All-append, All-push}
 use mathlib.Core.Option.{some}
 use lib.ListN.{get_elem?}
@@ -10,11 +9,10 @@ use Rattle.atomic_table.specs.Table.{State, Splits, Joins}
 use Rattle.turnstile.specs.declared.view.Part.{Part}
 use Rattle.turnstile.specs.declared.view.View.{View}
 use Rattle.turnstile.specs.declared.view.Stage.{Stage}
-use Rattle.turnstile.specs.declared.view.Stage.TheVariants.{Spent, Out, Waits, Inside}
+use Rattle.turnstile.specs.declared.view.Stage.TheVariants.{Out}
 use Rattle.turnstile.specs.Entries.{Tallies}
-use Rattle.turnstile.specs.Views.{at_stage, joint, handed, kept_back, spent, parts}
-use Rattle.turnstile.specs.Tickets.{total, once}
-use Rattle.turnstile.specs.Numbers.{numbered}
+use Rattle.turnstile.specs.Views.{at_stage, joint, handed, kept_back, spent}
+use Rattle.turnstile.specs.Tickets.{once}
 use Rattle.turnstile.specs.Turns.{is_inside}
 use Rattle.turnstile.specs.Rule.{Fits, Stands}
 use Rattle.turnstile.proofs.Totals.{all_at, total-set, total-append}

@@ -1,5 +1,5 @@
 -- Looking whose turn it is keeps the rule.
-use Rattle.std.proofs.Common.{◌≡◌, ◌≢◌, ℕ, zero, suc, ◌+◌, ◌%◌, ◌^◌, ◌<◌, ◌≤◌, List, [], ◌∷◌, ◌++◌, length, set, get_or, refl, sym, ap, ◌∙◌, subst, arith, inr}
+use Rattle.std.proofs.Common.{◌≡◌, ◌≢◌, ℕ, ◌%◌, ◌^◌, ◌<◌, ◌≤◌, List, ◌∷◌, length, set, get_or, refl, sym, ap, ◌∙◌, subst, arith, inr}
 use Rattle.std.specs.Prelude.{Option, Some}
 use Rattle.std.specs.List.{All}
 use Rattle.std.proofs.lemmas.List.Elements.{All-set, All-cons, All-head, All-tail, All-weaker}
@@ -10,15 +10,14 @@ use lib.ListN.{get_elem?}
 use lib.Seq.{set-get_or}
 use Rattle.atomic_table.proofs.Lists.{set_again}
 use Rattle.atomic_table.specs.Table.{State, Step, Act, Valid, stepped, carried_after, keeps, takes, Allows}
-use Rattle.turnstile.specs.declared.view.Part.{Part}
 use Rattle.turnstile.specs.declared.view.View.{View}
 use Rattle.turnstile.specs.declared.view.Stage.{Stage}
 use Rattle.turnstile.specs.declared.view.Stage.TheVariants.{Spent, Out, Waits, Inside}
 use Rattle.turnstile.specs.Entries.{Tallies, HaveAll}
 use Rattle.turnstile.specs.Views.{at_stage, arrived}
 use Rattle.turnstile.specs.Turns.{is_inside, HasTurn, AtHome}
-use Rattle.turnstile.specs.Rule.{Fits, Stands, words_of}
-use Rattle.turnstile.specs.Steps.{Holder, Enters, Learns, looked}
+use Rattle.turnstile.specs.Rule.{Fits, Stands}
+use Rattle.turnstile.specs.Steps.{Holder, Learns, looked}
 use Rattle.turnstile.proofs.Totals.{all_at, total-set}
 use Rattle.turnstile.proofs.TicketSteps.{tickets_stay, same_ticket}
 use Rattle.turnstile.proofs.NumberSteps.{numbers_stay}

@@ -1,14 +1,13 @@
 -- The pass from which the others are split off, from number to number.
-use Rattle.std.proofs.Common.{◌≡◌, ℕ, zero, suc, ◌+◌, ◌-◌, ◌<◌, ◌≤◌, List, [], ◌∷◌, ◌++◌, map, length, refl, sym, ap, ◌∙◌, subst, arith}
+use Rattle.std.proofs.Common.{◌≡◌, ℕ, zero, suc, ◌+◌, ◌-◌, ◌<◌, List, [], ◌∷◌, ◌++◌, map, refl, sym, ap, ◌∙◌, subst, arith}
 use Rattle.std.specs.List.{All, range_with_len}
 use Rattle.std.proofs.lemmas.List.Elements.{All-push, All-same}
 use mathlib.Core.List.{map-append}
 use Rattle.turnstile.specs.declared.pass.Pass.{Pass}
 use Rattle.turnstile.specs.declared.turnstile.Turnstile.{Turnstile}
-use Rattle.turnstile.specs.declared.view.Part.{Part}
-use Rattle.turnstile.specs.declared.view.View.{View}
 use Rattle.turnstile.specs.Views.{fresh, fresh_from, beginning, kept_back}
-use Rattle.turnstile.specs.Passes.{IsMaker, IsNew}
+use Rattle.turnstile.specs.Making.{IsMaker}
+use Rattle.turnstile.specs.Passes.{IsNew}
 
 module _ {E : Type 0} where
   pub more_fresh : (es : List E) (k c : ℕ) → 0 < c → fresh_from es k c ≡ fresh es k ∷ fresh_from es (suc k) (c - 1)

@@ -1,18 +1,16 @@
 -- The table as it is made meets the rule.
-use Rattle.std.proofs.Common.{◌≡◌, ℕ, zero, suc, ◌+◌, ◌-◌, ◌%◌, ◌^◌, ◌<◌, ◌≤◌, List, [], ◌∷◌, ◌++◌, length, drop, refl, sym, ap, ◌∙◌, subst, arith, inl}
-use Rattle.std.specs.Prelude.{Option, Some, nat_eq, nat_lt, nat_le, ◌&&◌}
+use Rattle.std.proofs.Common.{◌≡◌, ℕ, zero, suc, ◌+◌, ◌-◌, ◌%◌, ◌^◌, ◌<◌, List, [], ◌∷◌, length, drop, refl, sym, ap, ◌∙◌, subst, arith, inl}
+use Rattle.std.specs.Prelude.{Some, nat_eq, nat_lt, nat_le, ◌&&◌}
 use Rattle.std.specs.List.{All}
 use Rattle.std.proofs.lemmas.Bool.Decides.{nat_tests}
 use Rattle.std.proofs.lemmas.List.{drop_all}
 use Rattle.std.proofs.lemmas.List.Elements.{All-cons, All-nil, All-same}
 use Rattle.atomic_table.specs.Table.{State}
 use Rattle.atomic_table.specs.Table as table
-use Rattle.turnstile.specs.declared.view.Part.{Part}
-use Rattle.turnstile.specs.declared.view.View.{View}
 use Rattle.turnstile.specs.Entries.{carrying, added, Tallies}
-use Rattle.turnstile.specs.Views.{fresh, fresh_from, beginning, parts}
-use Rattle.turnstile.specs.Tickets.{total, once, Tickets}
-use Rattle.turnstile.specs.Numbers.{numbered, Numbers}
+use Rattle.turnstile.specs.Views.{fresh, fresh_from, beginning}
+use Rattle.turnstile.specs.Tickets.{once}
+use Rattle.turnstile.specs.Numbers.{numbered}
 use Rattle.turnstile.specs.Rule.{Fits, Stands}
 use Rattle.turnstile.proofs.Growth.{append_nil}
 

@@ -1,7 +1,6 @@
 -- Passing the turn on keeps the rule.
-use Rattle.std.proofs.Common.{◌≡◌, ℕ, zero, suc, ◌+◌, ◌%◌, ◌^◌, ◌<◌, ◌≤◌, List, [], ◌∷◌, ◌++◌, length, set, get_or, refl, sym, ap, ◌∙◌, subst, arith, inl}
+use Rattle.std.proofs.Common.{◌≡◌, ℕ, ◌+◌, ◌%◌, ◌^◌, List, [], ◌∷◌, length, set, get_or, refl, sym, ap, ◌∙◌, arith, inl}
 use Rattle.std.specs.Prelude.{Option, Some}
-use Rattle.std.specs.List.{All}
 use Rattle.std.proofs.lemmas.List.Elements.{All-set}
 use Rattle.std.proofs.Math.Nat.{mod-add-mod}
 use mathlib.Core.Option.{none, some}
@@ -9,11 +8,11 @@ use mathlib.Core.Option as maybe
 use lib.ListN.{get_elem?}
 use Rattle.atomic_table.specs.Table.{State, Step, gives, Allows, put_back, rest}
 use Rattle.turnstile.specs.declared.view.View.{View}
-use Rattle.turnstile.specs.declared.view.Stage.TheVariants.{Spent, Out, Waits, Inside}
+use Rattle.turnstile.specs.declared.view.Stage.TheVariants.{Out, Inside}
 use Rattle.turnstile.specs.Views.{at_stage}
 use Rattle.turnstile.specs.Tickets.{total}
-use Rattle.turnstile.specs.Turns.{is_inside, Away}
-use Rattle.turnstile.specs.Rule.{Fits, Stands, words_of}
+use Rattle.turnstile.specs.Turns.{is_inside}
+use Rattle.turnstile.specs.Rule.{Fits, Stands}
 use Rattle.turnstile.specs.Steps.{Holder, passed}
 use Rattle.turnstile.proofs.Totals.{all_at, total-set, total_has, total_none, all_both}
 use Rattle.turnstile.proofs.TicketSteps.{tickets_pass}

@@ -1,23 +1,21 @@
 -- Publishing the new entries keeps the rule: they are the pass's own, and no other pass has its number.
-use Rattle.std.proofs.Common.{◌≡◌, ℕ, zero, suc, ◌+◌, ◌%◌, ◌^◌, ◌<◌, ◌≤◌, List, [], ◌∷◌, ◌++◌, length, drop, set, get_or, refl, sym, ap, ◌∙◌, subst, arith, inr, length-append}
-use Rattle.std.specs.Prelude.{Option, Some, nat_eq}
+use Rattle.std.proofs.Common.{◌≡◌, ℕ, zero, suc, ◌+◌, ◌%◌, ◌^◌, ◌<◌, ◌≤◌, List, [], ◌∷◌, ◌++◌, length, drop, set, get_or, refl, sym, ap, ◌∙◌, subst, arith, inr}
+use Rattle.std.specs.Prelude.{Option, Some}
 use Rattle.std.specs.List.{All}
 use Rattle.std.proofs.lemmas.List.{drop-append-le}
 use Rattle.std.proofs.lemmas.List.Elements.{All-cons, All-head, All-tail, All-append, All-weaker, All-same}
-use Rattle.std.proofs.Math.Nat.{mod-add-mod}
 use mathlib.Core.Option.{some, some-injective, some-ne-none}
 use lib.ListN.{get_elem?}
 use Rattle.atomic_table.specs.Table.{State, Step, keeps, Allows}
-use Rattle.turnstile.specs.declared.view.Part.{Part}
 use Rattle.turnstile.specs.declared.view.View.{View}
 use Rattle.turnstile.specs.declared.view.Stage.{Stage}
-use Rattle.turnstile.specs.declared.view.Stage.TheVariants.{Spent, Out, Waits, Inside}
+use Rattle.turnstile.specs.declared.view.Stage.TheVariants.{Inside}
 use Rattle.turnstile.specs.Entries.{StartsWith, AllCarry, Tallies}
 use Rattle.turnstile.specs.Views.{at_stage, gained, parts}
-use Rattle.turnstile.specs.Tickets.{total, once}
+use Rattle.turnstile.specs.Tickets.{total}
 use Rattle.turnstile.specs.Numbers.{numbered, Numbers}
 use Rattle.turnstile.specs.Turns.{is_inside}
-use Rattle.turnstile.specs.Rule.{Fits, Stands, words_of}
+use Rattle.turnstile.specs.Rule.{Fits, Stands}
 use Rattle.turnstile.specs.Steps.{Holder, published}
 use Rattle.turnstile.proofs.Totals.{all_at, total-set, total_has, total_none}
 use Rattle.turnstile.proofs.TicketSteps.{tickets_stay, own_once}

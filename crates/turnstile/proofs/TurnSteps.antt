@@ -1,12 +1,11 @@
 -- Who is inside, before and after a step.
-use Rattle.std.proofs.Common.{◌≡◌, ◌⊎◌, ℕ, zero, suc, ◌+◌, ◌<◌, ◌≤◌, List, [], ◌∷◌, ◌++◌, length, set, get_or, refl, sym, ap, ◌∙◌, subst, arith, inl, inr, ⊎_elim}
+use Rattle.std.proofs.Common.{◌≡◌, ℕ, ◌+◌, ◌≤◌, List, [], ◌∷◌, set, sym, ap, ◌∙◌, subst, arith, inl, inr, ⊎_elim}
 use Rattle.std.specs.Prelude.{true, false, Bool, nat_eq}
 use Rattle.std.specs.List.{All}
-use Rattle.std.proofs.lemmas.Bool.Decides.{nat_tests}
-use Rattle.std.proofs.lemmas.List.Elements.{All-set, All-weaker, All-head, All-tail, All-nil}
+use Rattle.std.proofs.lemmas.List.Elements.{All-set, All-weaker, All-head, All-tail}
 use mathlib.Core.Option.{none, some}
 use mathlib.Core.Option as maybe
-use Rattle.std.specs.Prelude.{Option, Some}
+use Rattle.std.specs.Prelude.{Option}
 use lib.ListN.{get_elem?}
 use Rattle.turnstile.specs.declared.view.Part.{Part}
 use Rattle.turnstile.specs.declared.view.View.{View}
@@ -15,7 +14,7 @@ use Rattle.turnstile.specs.declared.view.Stage.TheVariants.{Spent, Out, Waits, I
 use Rattle.turnstile.specs.Views.{at_stage}
 use Rattle.turnstile.specs.Tickets.{total, once, holds_ticket, Tickets}
 use Rattle.turnstile.specs.Turns.{is_inside, AtHome, Away, Turns, HasTurn}
-use Rattle.turnstile.proofs.Totals.{total-set, total-append, total_has}
+use Rattle.turnstile.proofs.Totals.{total-set}
 use Rattle.turnstile.proofs.TicketSteps.{own_once}
 
 pub most_once : (b : Bool) → once b ≤ 1

@@ -1,6 +1,6 @@
 -- Entries and their numbers. A part tallies with a list of entries where the list begins with what the part saw last,
 -- and the entries behind the opening ones that carry the part's number are its own, in this list as in what it saw.
-use Rattle.std.specs.Prelude.{◌≡◌, ℕ, ◌≤◌, ◌<◌, List, [], ◌∷◌, ◌++◌, length, drop, filter, nat_eq}
+use Rattle.std.specs.Prelude.{◌≡◌, ℕ, ◌≤◌, List, ◌++◌, length, drop, filter, nat_eq}
 use Rattle.std.specs.List.{All, sum_by}
 use Rattle.turnstile.specs.declared.view.Part.{Part}
 

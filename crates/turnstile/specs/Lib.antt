@@ -6,3 +6,4 @@ pub mod Turns
 pub mod Rule
 pub mod Steps
 pub mod Passes
+pub mod Making

@@ -1,13 +1,11 @@
 -- What a clause reads of a pass and of its turnstile.
-use Rattle.std.specs.Prelude.{◌≡◌, ℕ, ◌-◌, ◌%◌, ◌^◌, List, [], ◌∷◌, ◌++◌, length, Option, None}
-use Rattle.std.specs.List.{All}
+use Rattle.std.specs.Prelude.{◌≡◌, ℕ, ◌%◌, ◌^◌, List, [], ◌∷◌, ◌++◌, length, None}
 use Rattle.turnstile.specs.declared.pass.Pass.{Pass}
 use Rattle.turnstile.specs.declared.turnstile.Turnstile.{Turnstile}
 use Rattle.turnstile.specs.declared.view.Part.{Part}
 use Rattle.turnstile.specs.declared.view.View.{View}
-use Rattle.turnstile.specs.declared.view.Stage.TheVariants.{Spent, Out, Waits, Inside}
-use Rattle.turnstile.specs.Views.{fresh, beginning}
-use Rattle.turnstile.specs.Entries.{Tallies}
+use Rattle.turnstile.specs.declared.view.Stage.TheVariants.{Out, Inside}
+use Rattle.turnstile.specs.Views.{fresh}
 
 module _ {A E : Type 0} where
   -- what the pass knows
@@ -74,8 +72,3 @@ module _ {A E : Type 0} where
     pub out : IsOut pass
     pub alone : pass.seat.me.0.own ∷ pass.seat.me.0.joined ≡ fresh first pass.number ∷ []
     pub opening : pass.seat.me.0.opening ≡ length first
-
-  -- the pass from which those with its number and the numbers behind it are still to be split off
-  pub record IsMaker (entries : A → List E) (gate : Turnstile A E) (first : List E) (pass : Pass A E) : Type 0 where
-    pub own : IsPassOf entries gate pass
-    pub holds : pass.seat.me ≡ (beginning gate.made first pass.number (gate.made - 1 - pass.number), [])

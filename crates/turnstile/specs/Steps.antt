@@ -1,10 +1,9 @@
 -- What each kind of step tells the pass that makes it: its view and what it holds, before and after, and the number that it found.
-use Rattle.std.specs.Prelude.{◌≡◌, ◌≢◌, ℕ, ◌≤◌, ◌%◌, ◌^◌, List, [], ◌∷◌, ◌++◌, length, drop, Option, Some}
+use Rattle.std.specs.Prelude.{◌≡◌, ◌≢◌, ℕ, ◌≤◌, ◌%◌, ◌^◌, List, [], ◌∷◌, length, Option, Some}
 use Rattle.std.specs.List.{All}
 use Rattle.atomic_table.specs.Table.{Me, Step}
-use Rattle.turnstile.specs.declared.view.Part.{Part}
 use Rattle.turnstile.specs.declared.view.View.{View}
-use Rattle.turnstile.specs.declared.view.Stage.TheVariants.{Spent, Out, Waits, Inside}
+use Rattle.turnstile.specs.declared.view.Stage.TheVariants.{Out, Waits}
 use Rattle.turnstile.specs.Entries.{Tallies, HaveAll}
 use Rattle.turnstile.specs.Views.{at_stage, arrived, gained}
 

@@ -1,6 +1,6 @@
 -- What a pass knows. A pass that was joined into another is spent and has no part; every other has its own part
 -- and those that were joined into it.
-use Rattle.std.specs.Prelude.{◌≡◌, ℕ, zero, suc, ◌+◌, List, [], ◌∷◌, ◌++◌, length, drop}
+use Rattle.std.specs.Prelude.{ℕ, zero, suc, List, [], ◌∷◌, ◌++◌, length, drop}
 use Rattle.turnstile.specs.declared.view.Part.{Part}
 use Rattle.turnstile.specs.declared.view.View.{View}
 use Rattle.turnstile.specs.declared.view.Stage.{Stage}

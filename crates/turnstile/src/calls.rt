@@ -2,7 +2,8 @@
 ghost use Rattle.std.specs.Prelude.{◌≡◌, ◌+◌, ◌<◌, ◌≤◌, [], ◌∷◌, ◌++◌, map, length, drop, nat_lt, vec_len, IfOk, IfErr, OnOk};
 ghost use Rattle.std.specs.List.{All, range_with_len};
 ghost use Rattle.turnstile.specs.Entries.{StartsWith, AllCarry, Tallies, HaveAll, added, carrying};
-ghost use Rattle.turnstile.specs.Passes.{IsPassOf, IsSamePass, IsOut, IsInside, IsNew, IsMaker, number_of, seen, mine, opening, parts_of, parts_together, made_of};
+ghost use Rattle.turnstile.specs.Making.{IsMaker};
+ghost use Rattle.turnstile.specs.Passes.{IsPassOf, IsSamePass, IsOut, IsInside, IsNew, number_of, seen, mine, opening, parts_of, parts_together, made_of};
 
 use crate::kept::Kept;
 use crate::missing::Missing;

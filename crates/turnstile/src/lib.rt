@@ -18,7 +18,6 @@ pub use kept::Kept;
 pub use missing::Missing;
 pub use no_memory::NoMemory;
 pub use pass::Pass;
-pub use rule::Start;
 pub use short::Short;
 pub use turnstile::Turnstile;
 pub use view::{Part, Stage, View};

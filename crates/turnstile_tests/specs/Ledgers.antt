@@ -1,11 +1,11 @@
 -- What a call leaves: the ledger begins with what the pass saw before, and the call's line is last and its only new one.
-use Rattle.std.specs.Prelude.{◌≡◌, ℕ, true, List, [], ◌∷◌, ◌++◌, length, drop}
-use Rattle.turnstile.specs.Entries.{StartsWith, carrying}
+use Rattle.std.specs.Prelude.{◌≡◌, ℕ, List, [], ◌∷◌, ◌++◌}
+use Rattle.turnstile.specs.Entries.{carrying}
 use Rattle.turnstile.specs.declared.pass.Pass.{Pass}
 use Rattle.turnstile.specs.Passes.{seen, mine, number_of}
 use Rattle.turnstile_tests.specs.declared.line.Line.{Line}
 use Rattle.turnstile_tests.specs.declared.ledger.Ledger.{Ledger}
-use Rattle.turnstile_tests.specs.Lines.{is_legal, number_on, line}
+use Rattle.turnstile_tests.specs.Lines.{number_on, line}
 
 abbrev pub lines_of : Ledger → List Line
 lines_of l = l.lines.items

@@ -1,5 +1,5 @@
 -- A ledger's lines: each answer is the sum so far with its amount, as one caller alone would get it.
-use Rattle.std.specs.Prelude.{◌≡◌, ℕ, ◌+◌, Bool, true, ◌&&◌, ◌==◌, List, [], ◌∷◌, ◌++◌}
+use Rattle.std.specs.Prelude.{ℕ, ◌+◌, Bool, true, ◌&&◌, ◌==◌, List, [], ◌∷◌}
 use Rattle.turnstile_tests.specs.declared.line.Line.{Line}
 
 abbrev pub is_legal : ℕ → List Line → Bool

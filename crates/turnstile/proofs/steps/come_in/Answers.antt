@@ -1,11 +1,9 @@
-use Rattle.std.proofs.Common.{rules, ◌≡◌, ℕ, List, [], ◌∷◌, sym, ap, ◌∙◌, subst, Option, Some}
-use mathlib.Core.Option.{none}
-use Rattle.atomic_table.specs.Table.{step, rest}
+use Rattle.std.proofs.Common.{rules, ◌≡◌, ◌∷◌, sym, ap, ◌∙◌, subst, Option, Some}
+use Rattle.atomic_table.specs.Table.{rest}
 use Rattle.turnstile.specs.declared.view.View.{View}
 use Rattle.turnstile.specs.declared.view.Stage.TheVariants.{Waits}
 use Rattle.turnstile.specs.Views.{at_stage}
 use Rattle.turnstile.specs.Steps.{Holder, Learns}
-use Rattle.turnstile.proofs.Draws.{draws}
 use Rattle.turnstile.proofs.Publishing.{value_in}
 use Rattle.turnstile.proofs.steps.come_in.Goals as goal
 

@@ -1,11 +1,10 @@
-use Rattle.std.proofs.Common.{rules, ◌≡◌, ℕ, ◌+◌, ◌%◌, ◌^◌, List, [], ◌∷◌, drop, length, sym, ap, ◌∙◌, subst, Option, Some, None}
-use Rattle.atomic_table.specs.Table.{rest, Allows, step}
+use Rattle.std.proofs.Common.{rules, ◌≡◌, ℕ, ◌+◌, ◌%◌, ◌^◌, List, [], ◌∷◌, drop, length, sym, ap, ◌∙◌, subst, Option, Some}
+use Rattle.atomic_table.specs.Table.{rest, step}
 use mathlib.Core.Option.{none}
 use Rattle.turnstile.specs.declared.view.View.{View}
 use Rattle.turnstile.specs.Entries.{StartsWith, AllCarry}
 use Rattle.turnstile.specs.Views.{gained}
-use Rattle.turnstile.specs.Rule.{Stands}
-use Rattle.turnstile.specs.Steps.{Holder, published, passed}
+use Rattle.turnstile.specs.Steps.{Holder}
 use Rattle.turnstile.proofs.Publishing.{publishes}
 use Rattle.turnstile.proofs.Passing.{passes_on}
 use Rattle.turnstile.proofs.steps.go_out.Goals as goal

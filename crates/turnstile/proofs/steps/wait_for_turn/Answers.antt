@@ -1,7 +1,7 @@
-use Rattle.std.proofs.Common.{rules, ◌≡◌, sym, ap, ◌∙◌, subst}
+use Rattle.std.proofs.Common.{rules, ap, ◌∙◌}
 use mathlib.Core.Option.{none}
 use Rattle.atomic_table.specs.Table.{step}
-use Rattle.turnstile.specs.Steps.{Holder, Enters}
+use Rattle.turnstile.specs.Steps.{Holder}
 use Rattle.turnstile.proofs.Looking.{looks}
 use Rattle.turnstile.proofs.steps.wait_for_turn.Goals as goal
 

@@ -1,4 +1,4 @@
-use Rattle.std.proofs.Common.{rules, ◌≡◌, ℕ, [], length, drop, subst}
+use Rattle.std.proofs.Common.{◌≡◌, ℕ, [], length, drop, subst}
 use Rattle.std.proofs.lemmas.List.Elements.{All-head}
 use Rattle.turnstile.specs.Entries.{carrying, Tallies}
 use Rattle.turnstile.proofs.Growth.{none_between}

@@ -1,4 +1,4 @@
-use Rattle.std.proofs.Common.{rules, arith, ◌≡◌, ℕ, ◌-◌, List, [], ◌∷◌, length, sym, subst, Option, Some}
+use Rattle.std.proofs.Common.{rules, arith, ◌≡◌, ◌-◌, List, [], ◌∷◌, length, sym, subst, Option, Some}
 use Rattle.std.proofs.lemmas.Grind.{common_steps}
 use Rattle.atomic_table.specs.Table.{opening}
 use Rattle.turnstile.specs.Rule.{Stands}

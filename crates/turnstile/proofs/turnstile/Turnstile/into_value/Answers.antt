@@ -1,8 +1,8 @@
-use Rattle.std.proofs.Common.{rules, arith, ◌≡◌, ◌≤◌, ◌∷◌, List, length, ap, ◌∙◌, Some, None}
+use Rattle.std.proofs.Common.{arith, ◌≤◌, ◌∷◌, length, ap, ◌∙◌}
 use mathlib.Core.Option.{some}
 use Rattle.std.specs.Slots.{slots_items}
 use Rattle.turnstile.specs.Steps.{Learns}
-use Rattle.turnstile.proofs.Closing.{Closes, closes_as, learns_of, is_there}
+use Rattle.turnstile.proofs.Closing.{closes_as, learns_of, is_there}
 use Rattle.turnstile.proofs.turnstile.Turnstile.into_value.Goals as goal
 
 pub unreachable-requires : goal.unreachable-requires

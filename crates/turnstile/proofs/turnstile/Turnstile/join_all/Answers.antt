@@ -1,10 +1,7 @@
-use Rattle.std.proofs.Common.{rules, arith, ◌≡◌, ◌≤◌, List, [], ◌∷◌, ◌++◌, length, Some, ap, sym, ◌∙◌}
-use Rattle.std.specs.List.{All}
-use Rattle.std.proofs.lemmas.List.Elements.{All-pop}
+use Rattle.std.proofs.Common.{◌≡◌, [], ◌∷◌, ◌++◌, ap, ◌∙◌}
 use Rattle.std.specs.Option.{option_to_list}
-use Rattle.turnstile.specs.declared.pass.Pass.{Pass}
-use Rattle.turnstile.specs.Passes.{IsPassOf, IsOut, parts_of, parts_together}
-use Rattle.turnstile.proofs.Together.{popped, joined_first, joined_more, joined_last}
+use Rattle.turnstile.specs.Passes.{IsPassOf, IsOut, parts_together}
+use Rattle.turnstile.proofs.Together.{popped, joined_first, joined_more}
 use Rattle.turnstile.proofs.turnstile.Turnstile.join_all.Goals as goal
 
 pub loop-other-init : goal.loop-other-init

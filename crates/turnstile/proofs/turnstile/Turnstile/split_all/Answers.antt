@@ -1,7 +1,8 @@
-use Rattle.std.proofs.Common.{rules, arith, ◌≡◌, ◌+◌, List, [], ◌∷◌, ◌++◌, ap, sym, ◌∙◌, refl, subst}
+use Rattle.std.proofs.Common.{rules, arith, ◌≡◌, List, [], ◌∷◌, ◌++◌, sym, ◌∙◌, refl, subst}
 use Rattle.std.proofs.lemmas.Grind.{common_steps}
 use Rattle.std.proofs.lemmas.List.Elements.{All-nil, All-same}
-use Rattle.turnstile.specs.Passes.{IsNew, IsMaker, number_of, seen}
+use Rattle.turnstile.specs.Making.{IsMaker}
+use Rattle.turnstile.specs.Passes.{IsNew, number_of, seen}
 use Rattle.turnstile.proofs.Making.{all_pushed, numbers_pushed, numbers_none, maker_is_new}
 use Rattle.turnstile.proofs.turnstile.Turnstile.split_all.Goals as goal
 

@@ -1,6 +1,7 @@
 use Rattle.std.proofs.Common.{◌≡◌, ◌+◌, map}
 use Rattle.std.specs.List.{All, range_with_len}
-use Rattle.turnstile.specs.Passes.{IsNew, IsMaker, number_of, seen}
+use Rattle.turnstile.specs.Making.{IsMaker}
+use Rattle.turnstile.specs.Passes.{IsNew, number_of, seen}
 use Rattle.turnstile.proofs.turnstile.Turnstile.split_all.Given as goal
 
 abbrev pub invariant-loop-next : goal.invariant-loop-next

@@ -1,4 +1,4 @@
-use Rattle.std.proofs.Common.{rules, arith, ◌≡◌, ℕ, suc, ◌+◌, ◌-◌, List, [], ◌∷◌, ap, ◌∙◌}
+use Rattle.std.proofs.Common.{rules, arith, ◌≡◌, suc, ◌+◌, ◌-◌, [], ap, ◌∙◌}
 use Rattle.turnstile.specs.declared.view.View.{View}
 use Rattle.turnstile.specs.Views.{kept_back, beginning}
 use Rattle.turnstile.specs.Steps.{Holder}
