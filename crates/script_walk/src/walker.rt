@@ -176,11 +176,11 @@ impl Reader {
         requires room { self.old.lines + 1 < 2 ^ 64 }
         ensures { MatchResult result
             (λ _. ItemDone P.rules Done (item_of self.old)
-                (point P.rules self.old (P.state performer.old) (K.held sink.old) out.old (K.faults sink.old))
-                (point P.rules self.new (P.state performer.new) (K.held sink.new) out.new (K.faults sink.new)))
+            (point P.rules self.old (P.state performer.old) (K.held sink.old) out.old (K.faults sink.old))
+            (point P.rules self.new (P.state performer.new) (K.held sink.new) out.new (K.faults sink.new)))
             (λ cut. (cut ≡ Cut.Unwritten) × ItemDone P.rules WriteFault (item_of self.old)
-                (point P.rules self.old (P.state performer.old) (K.held sink.old) out.old (K.faults sink.old))
-                (point P.rules self.new (P.state performer.new) (K.held sink.new) out.new (K.faults sink.new))) }
+            (point P.rules self.old (P.state performer.old) (K.held sink.old) out.old (K.faults sink.old))
+            (point P.rules self.new (P.state performer.new) (K.held sink.new) out.new (K.faults sink.new))) }
     {
         let line = mem::replace(&mut self.line, ArrayVec::new());
         self.wants = 0;
@@ -190,8 +190,13 @@ impl Reader {
             }),
             Some(order) => {
                 self.lines += 1;
-                match performer.perform(&order, line.as_slice(), self.payload.as_slice(), out, sink)
-                {
+                match performer.perform(
+                    &order,
+                    line.as_slice(),
+                    self.payload.as_slice(),
+                    out,
+                    sink,
+                ) {
                     Ok(()) => {
                         self.payload.clear();
                         Ok(())
