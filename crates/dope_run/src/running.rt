@@ -6,11 +6,10 @@ ghost use Rattle.dope_run.specs.Words.{AsksToPlay};
 ghost use Rattle.dope_run.specs.Transcript.{Ended, IsRefused, IsPlayed};
 
 use crate::playing::play;
-use crate::stage::Stage;
 use crate::status::Status;
 use crate::words::play_shape;
 use outside_io::{Sink, Source};
-use server_core::{NoMemory, Server};
+use server_core::Server;
 use std::alloc::Global;
 
 /// Runs the command that the words, without the program's name, stand for: plays the script of the source from
@@ -43,21 +42,8 @@ pub fn run<S: Source, K: Sink>(
     ensures write_cause { result ≡ Status.WriteFault → Rose (K.faults sink.old) (K.faults sink.new) }
     ensures write_steady { result ≢ Status.WriteFault → K.faults sink.new ≡ K.faults sink.old }
 {
-    let shape = match play_shape(words) {
-        Some(shape) => shape,
-        None => return Status::Usage,
-    };
-    let mut stage = match Stage::open(alloc, shape) {
-        Ok(stage) => stage,
-        Err(NoMemory) => return Status::NoMemory,
-    };
-    let status = play(
-        &mut stage.player,
-        stage.buffer.as_mut_slice(),
-        source,
-        &mut stage.out,
-        sink,
-    );
-    *kept = Some(stage.into_server());
-    status
+    match play_shape(words) {
+        Some(shape) => play(alloc, shape, source, sink, kept),
+        None => Status::Usage,
+    }
 }

@@ -1,5 +1,5 @@
 //! What is kept of a script's line while it isn't whole.
-ghost use Rattle.std.specs.Prelude.{◌≡◌, ◌≢◌, ◌<◌, ◌≤◌, ◌+◌, ◌∷◌, ◌++◌, [], true, false, length, take, MatchOption, MatchResult, IfOk, IsTrue, IsFalse};
+ghost use Rattle.std.specs.Prelude.{◌≡◌, ◌≢◌, ◌<◌, ◌≤◌, ◌+◌, ◌∷◌, ◌++◌, [], true, false, length, take, MatchOption, MatchResult, IsTrue, IsFalse};
 ghost use Rattle.script_lines.specs.declared.order.Order.TheVariants.{Nothing};
 ghost use Rattle.script_lines.specs.Lines.{asks};
 ghost use Rattle.script_walk.specs.Framing.{Wants, IsLine, BeginsOff, has_feed};
@@ -55,10 +55,7 @@ pub fn is_silent(line: &[u8]) -> bool
 
 impl Reader {
     /// A reader at the beginning of a script. `NoMemory` comes only for want of memory.
-    pub fn new(alloc: Global) -> Result<Reader, NoMemory>
-        ensures fresh { IfOk result IsFresh }
-        ensures reader { IfOk result IsReader }
-    {
+    pub fn new(alloc: Global) -> Result<Reader, NoMemory> {
         match RawBytes::new(alloc) {
             Ok(payload) => Ok(Reader {
                 line: ArrayVec::new(),
@@ -68,6 +65,17 @@ impl Reader {
             }),
             Err(NoMemory) => Err(NoMemory),
         }
+    }
+
+    /// Begins a script anew: nothing is kept, and no line was read.
+    pub fn restart(&mut self)
+        ensures fresh { IsFresh self.new }
+        ensures reader { IsReader self.new }
+    {
+        self.line.clear();
+        self.wants = 0;
+        self.payload.clear();
+        self.lines = 0;
     }
 
     /// Whether nothing is kept of an item that is not yet whole.

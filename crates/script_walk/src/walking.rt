@@ -98,17 +98,16 @@ impl Drop for Walker {
 impl Model for Walker {
     ghost use Rattle.std.specs.Prelude.{◌≡◌, length};
     ghost use Rattle.script_walk.specs.declared.walking.TheConstants.{PIECE};
-    ghost use Rattle.script_walk.specs.Reading.{IsReader, IsFresh};
 
     ghost Value = { Unit {0} };
 
     ghost view = { λ w. tt };
 
-    ghost invariant = { λ w. record { piece : length w.buffer.items ≡ PIECE; fresh : IsFresh w.reader; reader : IsReader w.reader } };
+    ghost invariant = { λ w. length w.buffer.items ≡ PIECE };
 }
 
 impl Walker {
-    /// A walker for one script. `NoMemory` comes only for want of memory.
+    /// A walker, for one script after another. `NoMemory` comes only for want of memory.
     pub fn new(alloc: Global) -> Result<Walker, NoMemory> {
         let reader = match Reader::new(alloc) {
             Ok(reader) => reader,
@@ -129,7 +128,7 @@ impl Walker {
     /// - `ReadFault` and `WriteFault` come only where that object's count of faults rose in this call, and every other
     ///   end leaves the count as it was: what failed is not tried again.
     pub fn walk<P: Performer, S: Source, K: Sink>(
-        self,
+        &mut self,
         performer: &mut P,
         source: &mut S,
         out: &mut Outbox,
@@ -146,13 +145,10 @@ impl Walker {
         ensures write_cause { result ≡ End.WriteFault → Rose (K.faults sink.old) (K.faults sink.new) }
         ensures write_steady { result ≢ End.WriteFault → K.faults sink.new ≡ K.faults sink.old }
     {
-        let Walker {
-            mut reader,
-            mut buffer,
-        } = self;
+        self.reader.restart();
         work(
-            &mut reader,
-            buffer.as_mut_slice(),
+            &mut self.reader,
+            self.buffer.as_mut_slice(),
             performer,
             source,
             out,
