@@ -1,4 +1,3 @@
 pub mod Obeyings
 pub mod Dumps
 pub mod Performings
-pub mod PlayWords

@@ -1,5 +1,3 @@
-pub mod Words
-pub mod WordLaws
 pub mod Text
 pub mod Report
 pub mod Script

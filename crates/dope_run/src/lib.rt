@@ -3,7 +3,6 @@
 #![tactic(auto)]
 
 mod ending;
-pub mod laws;
 mod obeying;
 mod outcome;
 mod player;
