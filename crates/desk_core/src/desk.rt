@@ -4,7 +4,6 @@ ghost use Rattle.std.specs.Option.{option_map};
 ghost use Rattle.bind_core.specs.Polling.{poll_answer, after_poll};
 ghost use Rattle.desk_model.specs.Desk.{opening_desk, is_connected};
 ghost use Rattle.desk_model.specs.DeskFacts.{IsDesk};
-ghost use Rattle.desk_model.specs.Seen.{open_windows};
 ghost use Rattle.desk_model.specs.Clients.{free_client, step_bye, step_connect, step_hello, with_client};
 ghost use Rattle.desk_model.specs.Polling.{poll_reply, ring_of, with_ring};
 ghost use Rattle.scene_model.specs.Shapes.{IsShape};
@@ -38,7 +37,7 @@ use admit_core::Roster;
 use arrayvec::ArrayVec;
 use bind_core::NoMemory;
 use cmd_words::{Command, Input, Refusal, Reply};
-use desk_commands::{beat, close_windows, dismiss, is_poll, let_go, obey, place_of};
+use desk_commands::{beat, close_windows, dismiss, is_poll, let_go, obey};
 use desk_layout::settle;
 use desk_moves::{may_move, moves};
 use scene_core::View;
@@ -434,20 +433,6 @@ impl Desk {
         view_of(&self.tree, &self.windows, &self.pointer, self.shape)
     }
 
-    /// The place of the open window with that index, counted from 0 at the top: x, y, width and height in
-    /// pixels. None exactly at and past the number of open windows. See docs/MACHINE.md, "Windows".
-    pub fn window_at(&self, index: usize) -> Option<(i32, i32, u32, u32)>
-        ensures place { result ≡ option_map (λ w. (w.x, w.y, w.w, w.h)) (slice_get (open_windows self.now.desk) index) }
-        ensures some { IsSome result ↔ (index < length self.now.desk.windows) }
-        ensures few { length self.now.desk.windows ≤ 128 }
-        ensures valid { IsDesk self.now.desk }
-    {
-        match self.windows.at(index) {
-            Some(key) => Some(place_of(&self.tree, Id { key })),
-            None => None,
-        }
-    }
-
     /// Whether the last call of `connect`, `hello`, `step` or `bye` changed the rows, the open windows or their
     /// order; after `feed`, false only where it changed none of them; false before the first and after a `beat`. See
     /// docs/MACHINE.md, "Commands".
@@ -474,6 +459,13 @@ impl Desk {
         ensures { result.now.looks.items ≡ self.now.touched }
     {
         &self.touched
+    }
+
+    /// Whether the client is connected. See docs/MACHINE.md, "The desk".
+    pub fn is_connected(&self, client: u32) -> bool
+        ensures { result ≡ is_connected self.now.desk client }
+    {
+        self.has(client)
     }
 
     /// How many clients are connected, 0 to 16. See docs/MACHINE.md, "The desk".

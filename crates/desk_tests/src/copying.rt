@@ -70,7 +70,8 @@ input release | false
 1 poll() | event b release 44 8
 1 poll() | none
 1 p.close() | ok
-desk window 0 | 20 0 40 40
+desk top 30 30 | 2
+desk top 5 5 | none
 input press | false
 2 poll() | event a press 24 8
 ";

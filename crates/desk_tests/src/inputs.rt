@@ -38,7 +38,7 @@ input release | false
 2 poll() | event b release -21 48
 2 poll() | none
 1 poll() | none
-desk window 0 | 20 0 40 40
+desk top 30 30 | 2
 # a press on the lower window raises it
 input motion 5 20 | false
 input press | true
@@ -46,7 +46,7 @@ input release | false
 1 poll() | event a press 4 8
 1 poll() | event b release 4 8
 1 poll() | event c click 4 8
-desk window 0 | 0 0 40 40
+desk top 30 30 | 1
 ";
 
 /// A window with a VScreen that has the focus, and 33 keys.

@@ -1,5 +1,7 @@
 //! The desk that a server lends, and a copy of it.
 use crate::playing::{play, square};
+use desk_core::Desk;
+use scene_core::top_at;
 use server_core::Server;
 use std::process::Abort;
 use std::test::Fail;
@@ -17,20 +19,26 @@ const LATER: &str = "
 live | 1
 ";
 
+/// Whether a widget is on top at the last pixel of the window, and none beside it.
+fn shows_the_window(desk: &Desk) -> bool {
+    let view = desk.view();
+    top_at(&view, 23, 22).is_some() && top_at(&view, 24, 22).is_none()
+}
+
 /// The desk that is lent is the server's, and its copy stays as the desk was.
 fn lends_its_desk(rt: &impl Abort, server: &mut Server) -> Result<(), Fail> {
     play(rt, server, OPENED)?;
     assert_eq!(rt; server.desk().live(), 2);
-    assert_eq!(rt; server.desk().window_at(0), Some((4, 3, 20, 20)));
+    assert!(rt; shows_the_window(server.desk()));
     let copy = match server.desk().copy() {
         Ok(copy) => copy,
         Err(_) => return Err("there is no memory".into()),
     };
     play(rt, server, LATER)?;
     assert_eq!(rt; server.desk().live(), 1);
-    assert_eq!(rt; server.desk().window_at(0), None);
+    assert!(rt; !shows_the_window(server.desk()));
     assert_eq!(rt; copy.live(), 2);
-    assert_eq!(rt; copy.window_at(0), Some((4, 3, 20, 20)));
+    assert!(rt; shows_the_window(&copy));
     Ok(())
 }
 
