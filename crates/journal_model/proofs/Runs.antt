@@ -11,7 +11,7 @@ use Rattle.machine_model.specs.Step.{Step}
 use Rattle.machine_model.specs.Run.{Moment, Run, state_after}
 use Rattle.machine_model.proofs.Opening.{IsState-opening, dirty_count-opening}
 use Rattle.machine_model.proofs.Steps.{IsState-step}
-use Rattle.journal_model.specs.Journals.{Entry, Point, start, is_kept, journal_of, IsLegalFrom, IsLegal, answered, replay, Allows}
+use Rattle.journal_model.specs.Journals.{Entry, Point, opening_point, is_kept, journal_of, IsLegalFrom, IsLegal, answered, replay, Allows}
 use Rattle.journal_model.proofs.Steps.{legal-step}
 
 pub join : (point : Point) (first second : List Entry) → IsLegalFrom point first → IsLegalFrom (replay point first) second → IsLegalFrom point (first ++ second) × (replay point (first ++ second) ≡ replay (replay point first) second)
@@ -69,8 +69,8 @@ legal-run point from (m ∷ moments) is allowed run =
     by rest false unkept =
         rest point (subst (Allows point) (sym (same-unkept from m.event m.answer m.after unkept run.0)) allowed)
 
-pub legal-runs : (shape : Shape) (moments : List Moment) → IsShape shape → Run (opening shape) moments → IsLegal shape (journal_of moments) × Allows (replay (start shape) (journal_of moments)) (state_after (opening shape) moments)
+pub legal-runs : (shape : Shape) (moments : List Moment) → IsShape shape → Run (opening shape) moments → IsLegal shape (journal_of moments) × Allows (replay (opening_point shape) (journal_of moments)) (state_after (opening shape) moments)
 unfolding opening
 legal-runs shape moments fits run =
     let none = dirty_count-opening shape in
-    legal-run (start shape) (opening shape) moments (IsState-opening shape fits) (record { desk = refl; least = omega arith; most = omega (arith, none) }) run
+    legal-run (opening_point shape) (opening shape) moments (IsState-opening shape fits) (record { desk = refl; least = omega arith; most = omega (arith, none) }) run

@@ -33,8 +33,8 @@ pub record Point : Type 0 where
   pub most : ℕ
 
 -- Every journal begins with the desk at opening and nothing dirty.
-abbrev pub start : Shape → Point
-start shape = record { desk = opening_desk shape; least = 0; most = 0 }
+abbrev pub opening_point : Shape → Point
+opening_point shape = record { desk = opening_desk shape; least = 0; most = 0 }
 
 -- whether the change reaches the k-th pixel of the screen, which is the pixel (k mod width, k / width)
 abbrev pub is_reached_at : Desk → Desk → ℕ → Bool
@@ -113,7 +113,7 @@ IsLegalFrom point (entry ∷ entries) = IsLegalAnswer point entry.event entry.an
 
 -- A legal journal: its entries are legal from the desk at opening on.
 abbrev pub IsLegal : Shape → List Entry → Type 0
-IsLegal shape entries = IsLegalFrom (start shape) entries
+IsLegal shape entries = IsLegalFrom (opening_point shape) entries
 
 -- The machine's state is one that the journal allows: its desk is the replay, and its dirty pixels are as many as there
 -- can be.

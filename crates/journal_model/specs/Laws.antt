@@ -6,7 +6,7 @@ use Rattle.machine_model.specs.State.{State, IsState, opening}
 use Rattle.machine_model.specs.Events.{Event, Answer}
 use Rattle.machine_model.specs.Step.{Step}
 use Rattle.machine_model.specs.Run.{Moment, Run, state_after}
-use Rattle.journal_model.specs.Journals.{Entry, Point, start, is_kept, journal_of, IsLegalAnswer, IsLegalFrom, IsLegal, answered, replay, Allows}
+use Rattle.journal_model.specs.Journals.{Entry, Point, opening_point, is_kept, journal_of, IsLegalAnswer, IsLegalFrom, IsLegal, answered, replay, Allows}
 
 -- Where a journal allows a valid state of the machine, each step of it has a legal answer, and the journal with that entry
 -- allows the state after it.
@@ -17,7 +17,7 @@ StepsAreLegal =
 -- The journal of every run is legal, and allows the state in which the run ends.
 abbrev pub JournalsOfRunsAreLegal : Type 0
 JournalsOfRunsAreLegal =
-    (shape : Shape) (moments : List Moment) → IsShape shape → Run (opening shape) moments → IsLegal shape (journal_of moments) × Allows (replay (start shape) (journal_of moments)) (state_after (opening shape) moments)
+    (shape : Shape) (moments : List Moment) → IsShape shape → Run (opening shape) moments → IsLegal shape (journal_of moments) × Allows (replay (opening_point shape) (journal_of moments)) (state_after (opening shape) moments)
 
 -- Entries are legal one after another: those of a whole journal exactly where its first part is legal and the second is
 -- legal from where the first leads.
