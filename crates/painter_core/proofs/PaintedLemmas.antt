@@ -1,5 +1,5 @@
 -- Painting: nothing, one set after another, and the same set and colours in other words.
-use Rattle.std.proofs.Common.{◌≡◌, ℕ, ◌+◌, ◌-◌, ◌<◌, ◌≤◌, ℤ, pos, Bool, true, false, cond, ◌||◌, refl, sym, ap, ◌∙◌, arith}
+use Rattle.std.proofs.Common.{◌≡◌, ℕ, ◌+◌, ◌-◌, ◌<◌, ◌≤◌, ◌^◌, ℤ, pos, Bool, true, false, cond, ◌||◌, refl, sym, ap, ◌∙◌, arith}
 use Rattle.canvas_core.specs.Screen.{Screen, IsScreen, pixel_of, risen}
 use Rattle.canvas_core.proofs.Span.{risen-none, risen-then}
 use Rattle.painter_core.specs.Painted.{Painted}
