@@ -1,2 +1,6 @@
 pub mod Framing
 pub mod Framer
+pub mod Calls
+pub mod Told
+pub mod Table
+pub mod Session
