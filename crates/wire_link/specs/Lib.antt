@@ -4,3 +4,5 @@ pub mod Calls
 pub mod Told
 pub mod Table
 pub mod Session
+pub mod Carrying
+pub mod Going

@@ -10,8 +10,7 @@ use Rattle.wire_link.specs.declared.standing.Standing.{Standing}
 use Rattle.wire_link.specs.declared.standing.Standing.TheVariants.{Before, Client, Console, Over}
 use Rattle.wire_link.specs.declared.request.Request.{Request}
 use Rattle.wire_link.specs.Framing.{IsItem, IsPartial, BeginsTooLong, BeginsBad}
-use Rattle.wire_link.specs.Calls.{Answer, Kept, Ledger, Took, IsAnswered}
-use Rattle.wire_link.specs.Calls.Call as call
+use Rattle.wire_link.specs.Calls.{Call, Answer, Kept, Ledger, Took, IsAnswered}
 use Rattle.wire_link.specs.Table.{Outcome, asks, comes}
 
 -- one of a session's lines, with its payload, what it asked for, and what came of it
@@ -49,10 +48,10 @@ abbrev pub IsOpen : Standing → Type 0
 IsOpen Over = ⊥
 IsOpen _ = Unit {0}
 
--- The number of a count of lines stays at 18,446,744,073,709,551,615 once it is there.
-abbrev pub count_of : List Exchange → ℕ
-count_of [] = 0
-count_of (x ∷ walked) = one_more (count_of walked)
+-- A count of lines after these lines more; it stays at 18,446,744,073,709,551,615 once it is there.
+abbrev pub lines_after : ℕ → List Exchange → ℕ
+lines_after lines [] = lines
+lines_after lines (x ∷ walked) = lines_after (one_more lines) walked
 
 -- What stands behind the lines that the session went through, by how it ended: the line `bye` was the last of them; or
 -- the input ended in a line that isn't whole; or what comes next is too long, or a bad frame line, and its number is
@@ -81,7 +80,7 @@ Ends (BadFrame line place) lines standing rest = MeetsBadFrame line place lines 
 -- A client that has not said `bye` gives it when its session ends, whatever the end; the answer isn't written.
 pub record GivesBye (calls : List Kept) (refused : ℕ) : Type 0 where
   pub answer : Answer
-  pub answered : IsAnswered call.Bye answer calls refused
+  pub answered : IsAnswered Call.Bye answer calls refused
 
 pub record GivesNothing (calls : List Kept) (refused : ℕ) : Type 0 where
   pub no_calls : calls ≡ []
@@ -100,7 +99,7 @@ pub record SessionRun (bytes : List ℕ) (calls : List Kept) (refused : ℕ) (te
   pub last_refused : ℕ
   pub spelled : bytes ≡ bytes_of walked ++ rest
   pub walks : Walks Before walked standing
-  pub ends : Ends end (count_of walked) standing rest
+  pub ends : Ends end (lines_after 0 walked) standing rest
   pub parts : Parts standing last_calls last_refused
   pub all_calls : calls ≡ calls_of walked ++ last_calls
   pub all_refused : refused ≡ refused_of walked + last_refused

@@ -15,7 +15,6 @@ use Rattle.wire_link.specs.declared.standing.Standing.TheVariants.{Before, Clien
 use Rattle.wire_link.specs.declared.request.Request.{Request}
 use Rattle.wire_link.specs.declared.request.Request.TheVariants.{Hello, Watch, Ask, Unconnected, Misread, Feed, Tick, Bye}
 use Rattle.wire_link.specs.Calls.{Call, Answer, Kept, IsAnswered, is_number}
-use Rattle.wire_link.specs.Calls.Call as call
 use Rattle.wire_link.specs.Calls.Answer.{Replied}
 use Rattle.wire_link.specs.Told.{reply_line, answer_line}
 
@@ -73,7 +72,7 @@ pub record IsReply (reply : Reply) (after : Standing) (o : Outcome) : Type 0 whe
 -- the `hello` of the service: the session is a client where the answer is a number
 pub record IsGreeting (o : Outcome) : Type 0 where
   pub reply : Reply
-  pub answered : IsAnswered call.Hello (Replied reply) o.calls o.refused
+  pub answered : IsAnswered Call.Hello (Replied reply) o.calls o.refused
   pub text : o.text ≡ reply_line reply
   pub next : o.after ≡ (if is_number reply then Client else Before)
 
@@ -82,9 +81,9 @@ abbrev pub comes : Standing → Request → List ℕ → Outcome → Type 0
 comes standing Hello payload o = IsGreeting o
 comes standing Watch payload o = IsReply Done Console o
 comes standing Unconnected payload o = IsReply (Refused NotConnected) standing o
-comes standing (Ask command) payload o = IsCall (call.Ask command payload) standing o
+comes standing (Ask command) payload o = IsCall (Call.Ask command payload) standing o
 comes standing (Misread place) payload o = IsReply (Refused (Syntax place)) standing o
-comes standing (Feed input) payload o = IsCall (call.Feed input) standing o
-comes standing Tick payload o = IsCall call.Tick standing o
-comes Client Bye payload o = IsCall call.Bye Over o
+comes standing (Feed input) payload o = IsCall (Call.Feed input) standing o
+comes standing Tick payload o = IsCall Call.Tick standing o
+comes Client Bye payload o = IsCall Call.Bye Over o
 comes standing Bye payload o = IsReply Done Over o

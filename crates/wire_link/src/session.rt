@@ -1,0 +1,203 @@
+//! A session: one connection from its first byte to its end.
+ghost use Rattle.std.specs.Prelude.{◌≡◌, ◌≢◌, ◌<◌, ◌≤◌, [], true, false, length, take, OnOk, OnErr, MatchResult, IfOk, Err, ◌⊎◌};
+ghost use Rattle.outside_io.specs.Count.{Rose};
+ghost use Rattle.wire_link.specs.declared.end.End.TheVariants.{LinkFault};
+ghost use Rattle.wire_link.specs.Calls.{ledger};
+ghost use Rattle.wire_link.specs.Framing.{IsItem, IsPartial};
+ghost use Rattle.wire_link.specs.Session.{Ended, IsOpen};
+ghost use Rattle.wire_link.specs.Carrying.{is_client};
+ghost use Rattle.wire_link.specs.Going.{Exchanged, Went, Stopped, TurnDone, TurnEnded, place};
+
+use crate::asking::request;
+use crate::carrying::carry_out;
+use crate::cut::Cut;
+use crate::end::End;
+use crate::framer::Framer;
+use crate::replies::{Replies, flush, put};
+use crate::service::Service;
+use crate::standing::Standing;
+use arrayvec::ArrayVec;
+use outside_io::Failed;
+use outside_links::Link;
+use std::sync::Wait;
+
+/// The bytes that a read asks for at most.
+const PIECE: usize = 4096;
+
+/// How far a session has come: how it stands, how many lines were carried out, and the replies that wait to be written.
+pub struct Talk {
+    pub standing: Standing,
+    pub lines: u64,
+    pub out: Replies,
+}
+
+impl Drop for Talk {
+    fn drop(self) {
+        let Talk {
+            standing: _,
+            lines: _,
+            out: _,
+        } = self;
+    }
+}
+
+/// Carries out a whole line with its payload, and puts its reply behind those that wait.
+fn answer<R: Wait, L: Link, S: Service>(
+    rt: &R,
+    line: &[u8],
+    payload: &[u8],
+    talk: &mut Talk,
+    link: &mut L,
+    service: &mut S,
+) -> Result<(), Failed>
+    requires item { IsItem line.now payload.now }
+    requires still { IsOpen talk.old.standing }
+    requires client { S.has_client service.old ≡ is_client talk.old.standing }
+    ensures ok { OnOk result (Exchanged false line.now payload.now (place talk.old [] (L.held link.old) (ledger (S.kept service.old) (S.refusals service.old))) (place talk.new [] (L.held link.new) (ledger (S.kept service.new) (S.refusals service.new)))) }
+    ensures err { OnErr result (Exchanged true line.now payload.now (place talk.old [] (L.held link.old) (ledger (S.kept service.old) (S.refusals service.old))) (place talk.new [] (L.held link.new) (ledger (S.kept service.new) (S.refusals service.new)))) }
+    ensures client_now { S.has_client service.new ≡ is_client talk.new.standing }
+    ensures refusals { S.refusals service.old ≤ S.refusals service.new }
+    ensures left { L.left link.new ≡ L.left link.old }
+    ensures later { L.faults link.old ≤ L.faults link.new }
+    ensures cause { OnErr result (Rose (L.faults link.old) (L.faults link.new)) }
+    ensures steady { OnOk result (L.faults link.new ≡ L.faults link.old) }
+{
+    let request = request(talk.standing, line);
+    let answered = carry_out(rt, talk.standing, request, payload, service);
+    talk.standing = answered.after;
+    talk.lines = talk.lines.saturating_add(1);
+    put(&mut talk.out, answered.text.as_str().as_bytes(), link)
+}
+
+/// Whether the session goes on.
+fn is_open(standing: Standing) -> bool
+    ensures on { result ≡ true → IsOpen standing }
+    ensures off { result ≡ false → standing ≡ Standing.Over }
+{
+    match standing {
+        Standing::Over => false,
+        Standing::Before | Standing::Client | Standing::Console => true,
+    }
+}
+
+/// Takes what comes next out of the framer: carries out a line where one is whole, and answers whether one was.
+fn next_line<R: Wait, L: Link, S: Service>(
+    rt: &R,
+    framer: &mut Framer,
+    talk: &mut Talk,
+    link: &mut L,
+    service: &mut S,
+) -> Result<bool, End>
+    requires still { IsOpen talk.old.standing }
+    requires client { S.has_client service.old ≡ is_client talk.old.standing }
+    ensures told { MatchResult result
+        (λ _. Went (place talk.old framer.old.waiting (L.held link.old) (ledger (S.kept service.old) (S.refusals service.old))) [] (place talk.new framer.new.waiting (L.held link.new) (ledger (S.kept service.new) (S.refusals service.new))))
+        (λ end. Stopped end (place talk.old framer.old.waiting (L.held link.old) (ledger (S.kept service.old) (S.refusals service.old))) [] (place talk.new framer.new.waiting (L.held link.new) (ledger (S.kept service.new) (S.refusals service.new)))) }
+    ensures still_open { OnOk result (IsOpen talk.new.standing) }
+    ensures fewer { IfOk result (λ some. some ≡ true → length framer.new.waiting < length framer.old.waiting) }
+    ensures none { IfOk result (λ some. some ≡ false → IsPartial framer.new.waiting) }
+    ensures same { IfOk result (λ some. some ≡ false → framer.new.waiting ≡ framer.old.waiting) }
+    ensures client_now { S.has_client service.new ≡ is_client talk.new.standing }
+    ensures refusals { S.refusals service.old ≤ S.refusals service.new }
+    ensures left { L.left link.new ≡ L.left link.old }
+    ensures later { L.faults link.old ≤ L.faults link.new }
+    ensures cause { result ≡ Err LinkFault → Rose (L.faults link.old) (L.faults link.new) }
+    ensures steady { (result ≡ Err LinkFault → ⊥) → L.faults link.new ≡ L.faults link.old }
+{
+    match framer.next() {
+        Cut::More => Ok(false),
+        Cut::Line | Cut::Payload => {
+            match answer(rt, framer.line(), framer.payload(), talk, link, service) {
+                Ok(()) => {}
+                Err(_) => return Err(End::LinkFault),
+            }
+            if is_open(talk.standing) {
+                return Ok(true);
+            }
+            Err(End::Bye)
+        }
+        Cut::TooLong => Err(End::LineTooLong {
+            line: talk.lines.saturating_add(1),
+        }),
+        Cut::BadFrame { place } => Err(End::BadFrame {
+            line: talk.lines.saturating_add(1),
+            place,
+        }),
+    }
+}
+
+/// Takes the bytes of one read, and carries out all lines that are whole with them.
+fn whole_lines<R: Wait, L: Link, S: Service>(
+    rt: &R,
+    piece: &[u8],
+    framer: &mut Framer,
+    talk: &mut Talk,
+    link: &mut L,
+    service: &mut S,
+) -> Result<(), End>
+    requires still { IsOpen talk.old.standing }
+    requires client { S.has_client service.old ≡ is_client talk.old.standing }
+    ensures told { MatchResult result
+        (λ _. Went (place talk.old framer.old.waiting (L.held link.old) (ledger (S.kept service.old) (S.refusals service.old))) piece.now (place talk.new framer.new.waiting (L.held link.new) (ledger (S.kept service.new) (S.refusals service.new))))
+        (λ end. Stopped end (place talk.old framer.old.waiting (L.held link.old) (ledger (S.kept service.old) (S.refusals service.old))) piece.now (place talk.new framer.new.waiting (L.held link.new) (ledger (S.kept service.new) (S.refusals service.new)))) }
+    ensures still_open { OnOk result (IsOpen talk.new.standing) }
+    ensures partial { OnOk result (IsPartial framer.new.waiting) }
+    ensures client_now { S.has_client service.new ≡ is_client talk.new.standing }
+    ensures refusals { S.refusals service.old ≤ S.refusals service.new }
+    ensures left { L.left link.new ≡ L.left link.old }
+    ensures later { L.faults link.old ≤ L.faults link.new }
+    ensures cause { result ≡ Err LinkFault → Rose (L.faults link.old) (L.faults link.new) }
+    ensures steady { (result ≡ Err LinkFault → ⊥) → L.faults link.new ≡ L.faults link.old }
+{
+    let mut taken = 0;
+    loop {
+        match next_line(rt, framer, talk, link, service) {
+            Ok(true) => {}
+            Ok(false) => {
+                if taken == piece.len() {
+                    return Ok(());
+                }
+                taken += framer.feed(&piece[taken..]);
+            }
+            Err(end) => return Err(end),
+        }
+    }
+}
+
+/// Takes the bytes of one read, carries out all lines that are whole with them, and writes the replies that wait.
+fn take<R: Wait, L: Link, S: Service>(
+    rt: &R,
+    piece: &[u8],
+    framer: &mut Framer,
+    talk: &mut Talk,
+    link: &mut L,
+    service: &mut S,
+) -> Result<(), End>
+    requires still { IsOpen talk.old.standing }
+    requires written { talk.old.out.items ≡ [] }
+    requires client { S.has_client service.old ≡ is_client talk.old.standing }
+    ensures told { MatchResult result
+        (λ _. Went (place talk.old framer.old.waiting (L.held link.old) (ledger (S.kept service.old) (S.refusals service.old))) piece.now (place talk.new framer.new.waiting (L.held link.new) (ledger (S.kept service.new) (S.refusals service.new))))
+        (λ end. Stopped end (place talk.old framer.old.waiting (L.held link.old) (ledger (S.kept service.old) (S.refusals service.old))) piece.now (place talk.new framer.new.waiting (L.held link.new) (ledger (S.kept service.new) (S.refusals service.new)))) }
+    ensures still_open { OnOk result (IsOpen talk.new.standing) }
+    ensures partial { OnOk result (IsPartial framer.new.waiting) }
+    ensures still_written { result ≡ Err LinkFault ⊎ (talk.new.out.items ≡ []) }
+    ensures client_now { S.has_client service.new ≡ is_client talk.new.standing }
+    ensures refusals { S.refusals service.old ≤ S.refusals service.new }
+    ensures left { L.left link.new ≡ L.left link.old }
+    ensures later { L.faults link.old ≤ L.faults link.new }
+    ensures cause { result ≡ Err LinkFault → Rose (L.faults link.old) (L.faults link.new) }
+    ensures steady { (result ≡ Err LinkFault → ⊥) → L.faults link.new ≡ L.faults link.old }
+{
+    match whole_lines(rt, piece, framer, talk, link, service) {
+        Ok(()) => match flush(&mut talk.out, link) {
+            Ok(()) => Ok(()),
+            Err(_) => Err(End::LinkFault),
+        },
+        Err(End::LinkFault) => Err(End::LinkFault),
+        Err(end) => match flush(&mut talk.out, link) {
+            Ok(()) => Err(end),
+            Err(_) => Err(End::LinkFault),
+        },
+    }
+}
