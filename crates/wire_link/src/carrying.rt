@@ -111,10 +111,9 @@ fn leave<R: Wait, S: Service>(rt: &R, standing: Standing, service: &mut S) -> An
             let reply = service.bye(rt);
             replied(&reply, Standing::Over)
         }
-        Standing::Before | Standing::Console | Standing::Over => replied(
-            &Reply::Done,
-            Standing::Over,
-        ),
+        Standing::Before => replied(&Reply::Done, Standing::Over),
+        Standing::Console => replied(&Reply::Done, Standing::Over),
+        Standing::Over => replied(&Reply::Done, Standing::Over),
     }
 }
 
