@@ -22,7 +22,8 @@ use Rattle.wire_link.specs.declared.request.Request.TheVariants.{Hello, Watch, A
 use Rattle.wire_link.specs.Framing.{IsItem, IsPlainItem, IsFrameItem}
 use Rattle.wire_link.specs.Calls.{Kept, Ledger, Took, Adds}
 use Rattle.wire_link.specs.Table.{asks, comes, outcome}
-use Rattle.wire_link.specs.Carrying.{Suits, Came, input_in, is_client}
+use Rattle.wire_link.specs.Session.{Parts}
+use Rattle.wire_link.specs.Carrying.{Suits, Came, Parted, input_in, is_client}
 
 -- ---- what a service has kept
 
@@ -296,3 +297,11 @@ client_of standing same = ap is_client same
 -- the standing after a `hello` of a session that had no client
 pub none_before : (standing : Standing) → standing ≡ Before → is_client standing ≡ false
 none_before standing same = ap is_client same
+
+-- ---- of a session that ends
+
+pub parted_none : (standing : Standing) (ledger : Ledger) → Parts standing [] 0 → Parted standing ledger ledger
+parted_none standing ledger parts = record { calls = []; refused = 0; parts = parts; took = Took-none ledger }
+
+pub parted_as : (standing now : Standing) (old new : Ledger) → standing ≡ now → Parted now old new → Parted standing old new
+parted_as standing now old new same parted = subst (λ (s : Standing). Parted s old new) (sym same) parted

@@ -1,6 +1,6 @@
 -- A session: which bytes it took, which calls its service kept of them, how many it refused, what is written, and how
 -- it ended.
-use Rattle.std.specs.Prelude.{◌≡◌, ℕ, ◌+◌, ◌≤◌, List, [], ◌∷◌, ◌++◌, length, take, Option, map, sum}
+use Rattle.std.specs.Prelude.{◌≡◌, ℕ, ◌+◌, ◌≤◌, List, [], ◌∷◌, ◌++◌, length, take, Option}
 use Rattle.std.specs.List.{flat_map}
 use Rattle.std.specs.Io.KnownBytes.{Appends, Consumes, IsAtEnd}
 use Rattle.outside_io.specs.Count.{one_more}
@@ -38,7 +38,8 @@ unfoldable pub calls_of : List Exchange → List Kept
 calls_of walked = flat_map (λ x. x.outcome.calls) walked
 
 unfoldable pub refused_of : List Exchange → ℕ
-refused_of walked = sum (map (λ x. x.outcome.refused) walked)
+refused_of [] = 0
+refused_of (x ∷ walked) = x.outcome.refused + refused_of walked
 
 unfoldable pub text_of : List Exchange → List ℕ
 text_of walked = flat_map (λ x. x.outcome.text) walked

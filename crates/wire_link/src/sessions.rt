@@ -83,6 +83,19 @@ fn is_open(standing: Standing) -> bool
     }
 }
 
+/// Whether the link failed.
+fn is_fault(end: End) -> bool
+    ensures { result ≡ breaks end }
+{
+    match end {
+        End::LinkFault => true,
+        End::Bye => false,
+        End::EndOfInput => false,
+        End::LineTooLong { .. } => false,
+        End::BadFrame { .. } => false,
+    }
+}
+
 /// Carries out a whole line with its payload; the session ends where its reply can't be put, and with its `bye`.
 fn exchange<R: Wait, L: Link, S: Service>(
     rt: &R,
@@ -229,11 +242,15 @@ fn take<R: Wait, L: Link, S: Service>(
             Ok(()) => Ok(()),
             Err(_) => Err(End::LinkFault),
         },
-        Err(End::LinkFault) => Err(End::LinkFault),
-        Err(end) => match flush(&mut talk.out, link) {
-            Ok(()) => Err(end),
-            Err(_) => Err(End::LinkFault),
-        },
+        Err(end) => {
+            if is_fault(end) {
+                return Err(end);
+            }
+            match flush(&mut talk.out, link) {
+                Ok(()) => Err(end),
+                Err(_) => Err(End::LinkFault),
+            }
+        }
     }
 }
 
