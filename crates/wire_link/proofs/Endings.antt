@@ -1,6 +1,6 @@
 -- How a session ends: what it had taken before the last read, what the last read gave, and what its client's `bye` came
 -- to are parts of one session.
-use Rattle.std.proofs.Common.{◌≡◌, ℕ, ◌+◌, ◌≤◌, Bool, true, false, List, [], ◌∷◌, ◌++◌, length, take, Option, refl, sym, ap, subst, ◌∙◌, arith, lit≤, append-nil, append_assoc, length-append}
+use Rattle.std.proofs.Common.{◌≡◌, inl, inr, ℕ, ◌+◌, ◌≤◌, Bool, true, false, List, [], ◌∷◌, ◌++◌, length, take, Option, refl, sym, ap, subst, ◌∙◌, arith, lit≤, append-nil, append_assoc, length-append}
 use Rattle.std.proofs.lemmas.List.{take_all}
 use Rattle.std.proofs.Math.Seq.{take-append-add, take-append_seam}
 use Rattle.std.specs.Io.KnownBytes.{Appends, Consumes, IsAtEnd}
@@ -168,3 +168,11 @@ ended end start now held left_old left_new last before none empty fresh finished
           (subst (λ (out : Output). Puts out between.output (text_of went.walked)) fresh went.says) closing.says));
       at_end = closing.at_end;
     }
+
+-- ---- where a session begins
+
+pub partial_nothing : (waiting : List ℕ) → waiting ≡ [] → IsPartial waiting
+partial_nothing waiting none = subst IsPartial (sym none) (inl (record { no_feed = refl; short = lit≤ tt }))
+
+pub still_before : (standing : Standing) → standing ≡ Before → IsOpen standing
+still_before standing is = subst IsOpen (sym is) tt
