@@ -3,6 +3,7 @@
 
 mod over_budget;
 mod roster;
+pub mod threads;
 
 pub use over_budget::OverBudget;
 pub use roster::Roster;

@@ -40,6 +40,22 @@ impl Roster {
         }
     }
 
+    /// Another roster with the same entries in the same order and the same limit. It takes no memory.
+    pub fn copy(&self) -> Roster
+        ensures same { result ≡ self.now }
+        ensures valid { IsRoster self.now }
+    {
+        let mut entries = ArrayVec::new();
+        match entries.try_extend_from_slice(self.entries.as_slice()) {
+            Ok(()) => {}
+            Err(_) => unreachable!(),
+        }
+        Roster {
+            entries,
+            limit: self.limit,
+        }
+    }
+
     /// Admits this key with this share, as the last one; an entry that it had is left out. A key that isn't there
     /// needs fewer than 128 entries. `OverBudget` with both numbers, and nothing changed, exactly where the
     /// shares of the others and this one pass the limit.

@@ -86,3 +86,23 @@ fn shares_come_to_the_limit_and_no_further(rt: HostRuntime) -> Result<(), Fail> 
     assert_eq!(rt; roster.at(0), None);
     are_answered(&rt, &mut roster, CALLS)
 }
+
+const BEFORE: &str = "
+admit 1 40 true   1 40
+admit 2 40 true   1 40 2 40
+";
+
+const AFTER: &str = "
+refuse 3 40 10 true   1 40 2 40
+admit 1 40 true   2 40 1 40
+leave 2 true   1 40
+";
+
+#[test]
+fn a_copy_has_the_entries_of_its_roster(rt: HostRuntime) -> Result<(), Fail> {
+    let mut roster = Roster::new(90);
+    are_answered(&rt, &mut roster, BEFORE)?;
+    let mut copy = roster.copy();
+    are_answered(&rt, &mut roster, AFTER)?;
+    are_answered(&rt, &mut copy, AFTER)
+}

@@ -67,3 +67,23 @@ fn keys_are_kept_from_top_to_bottom(rt: HostRuntime) -> Result<(), Fail> {
     assert_eq!(rt; stack.at(0), None);
     are_answered(&rt, &mut stack, CALLS)
 }
+
+const BEFORE: &str = "
+push 7 true   7
+push 5 true   5 7
+push 9 true   9 5 7
+";
+
+const AFTER: &str = "
+raise 7 true   7 9 5
+remove 9 true   7 5
+";
+
+#[test]
+fn a_copy_has_the_order_of_its_stack(rt: HostRuntime) -> Result<(), Fail> {
+    let mut stack = Stack::new();
+    are_answered(&rt, &mut stack, BEFORE)?;
+    let mut copy = stack.copy();
+    are_answered(&rt, &mut stack, AFTER)?;
+    are_answered(&rt, &mut copy, AFTER)
+}

@@ -35,3 +35,7 @@ put_last items posted few =
     let all : List Posted = items ++ posted ∷ [] in
     let seen : map event_of (keep_last 32 all) ≡ keep_last 32 (map event_of all) = sym (drop-map event_of (length all - 32) all) ∙ ap (λ n. drop (n - 32) (map event_of all)) (sym (length-map all event_of)) in
     seen ∙ ap (keep_last 32) (map-append event_of items (posted ∷ [])) ∙ latest (map event_of items) (event_of posted) (rw (length-map items event_of) few)
+
+-- two runs put one after the other into an empty room that has place for both
+pub moved : (first second : List Posted) → length (first ++ second) ≤ 32 → keep_last 32 (keep_last 32 ([] ++ first) ++ second) ≡ first ++ second
+moved first second few = grind (arith, places, nat_tests)

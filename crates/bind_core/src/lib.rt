@@ -6,6 +6,7 @@ mod no_memory;
 mod polled;
 mod posted;
 mod ring;
+pub mod threads;
 
 pub use no_memory::NoMemory;
 pub use polled::Polled;

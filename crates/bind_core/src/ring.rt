@@ -7,7 +7,7 @@ use crate::no_memory::NoMemory;
 use crate::polled::Polled;
 use crate::posted::Posted;
 use circular_buffer::HeapCircularBuffer;
-use std::alloc::Global;
+use std::alloc::{AllocError, Global};
 use std::marker::Model;
 
 /// The most events that a ring keeps.
@@ -49,6 +49,21 @@ impl Ring {
     {
         match HeapCircularBuffer::with_capacity(alloc, CAPACITY) {
             Ok(events) => Ok(Ring { events, lost: 0 }),
+            Err(_) => Err(NoMemory),
+        }
+    }
+
+    /// Another ring with the same events kept and the same number lost, and room for as many more. `NoMemory` comes
+    /// only for want of memory, and nothing of the copy is left behind then. It costs one move of the kept events.
+    pub fn copy(&self) -> Result<Ring, NoMemory>
+        ensures same { IfOk result (λ ring. ring ≡ self.now) }
+        ensures valid { IsRing self.now }
+    {
+        match copy_of(&self.events) {
+            Ok(events) => Ok(Ring {
+                events,
+                lost: self.lost,
+            }),
             Err(_) => Err(NoMemory),
         }
     }
@@ -102,6 +117,20 @@ impl Ring {
             None => Polled::Empty,
         }
     }
+}
+
+// The same events in a room of their own, with place for as many.
+#[tactic(auto, using(crate::proofs::Events::moved))]
+fn copy_of(events: &HeapCircularBuffer<Posted>) -> Result<HeapCircularBuffer<Posted>, AllocError>
+    requires room { events.now.capacity ≡ 32 }
+    requires few { length events.now.items ≤ 32 }
+    ensures events { IfOk result (λ copy. copy ≡ events.now) }
+{
+    let mut copy = HeapCircularBuffer::with_capacity(*events.allocator(), CAPACITY)?;
+    let (first, second) = events.as_slices();
+    copy.extend_from_slice(first);
+    copy.extend_from_slice(second);
+    Ok(copy)
 }
 
 // Puts the event last, and answers whether the oldest was dropped for it.

@@ -1,10 +1,19 @@
 -- Bytes put over a span, read by their places.
-use Rattle.std.proofs.Common.{◌≡◌, ℕ, ◌+◌, ◌-◌, ◌*◌, ◌^◌, ◌<◌, ◌≤◌, cond, List, [], ◌∷◌, ◌++◌, length, take, drop, get_or, set, sym, ap, add-one, ◌∙◌, arith}
+use Rattle.std.proofs.Common.{◌≡◌, ℕ, ◌+◌, ◌-◌, ◌*◌, ◌%◌, ◌^◌, ◌<◌, ◌≤◌, cond, List, [], ◌∷◌, ◌++◌, length, take, drop, get_or, set, sym, ap, add-one, ◌∙◌, arith}
 use Rattle.std.proofs.lemmas.List.{places, append_assoc, drop-drop, take_all, set_split}
 use Rattle.std.proofs.lemmas.Bool.Decides.{nat_tests}
-use Rattle.std.proofs.Math.Nat.{mul-le-mul_right}
-use Rattle.canvas_core.specs.Screen.{Screen, IsScreen, place, with_span, in_span}
+use Rattle.std.proofs.lemmas.Nat.{mod_below}
+use Rattle.std.proofs.Math.Nat.{mul-le-mul_right, mod-add-mod, mod-eq_of_lt, add_assoc, add-zero}
+use Rattle.canvas_core.specs.Screen.{Screen, IsScreen, place, risen, spans_of, with_span, in_span}
 use Rattle.canvas_core.specs.Lending.{written, with_row}
+
+-- a count of all time that rose by nothing is what it was
+pub risen-none : (all : ℕ) → all < 2 ^ 64 → all ≡ risen all 0
+risen-none all fits = sym (mod-eq_of_lt fits) ∙ ap (λ n. n % 2 ^ 64) (sym (add-zero all))
+
+-- a count of all time that rose twice
+pub risen-then : (all some more : ℕ) → risen (risen all some) more ≡ risen all (some + more)
+risen-then all some more = mod-add-mod (all + some) (2 ^ 64) more ∙ ap (λ n. n % 2 ^ 64) (add_assoc all some more)
 
 -- one byte put is one byte set
 pub with_span-one : (bytes : List ℕ) (at b : ℕ) → at < length bytes → with_span bytes at (b ∷ []) ≡ set bytes at b
@@ -42,4 +51,6 @@ IsScreen-with_row s at len row valid fits = record {
   area = length-written s.bytes at row ∙ valid.area;
   count_fits = fits;
   spans_within = grind (arith, valid.spans_within);
+  all_writes_fit = mod_below (s.all_writes + len) (2 ^ 64) (omega arith);
+  all_spans_fit = mod_below (s.all_spans + spans_of len) (2 ^ 64) (omega arith);
 }

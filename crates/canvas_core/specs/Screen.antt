@@ -1,7 +1,8 @@
 -- A screen is a list of width * height bytes; the pixel (x, y) is byte y * width + x.
 -- Beside it stand two numbers of the time since the count was last started: that of the bytes written, and that of
--- the spans, each a part of a row with at least one pixel that was put or lent for writing at once.
-use Rattle.std.specs.Prelude.{◌≡◌, ℕ, ◌+◌, ◌*◌, ◌^◌, ◌<◌, ◌≤◌, Bool, ◌&&◌, nat_le, nat_lt, List, ◌++◌, length, take, drop, slice_index, min}
+-- the spans, each a part of a row with at least one pixel that was put or lent for writing at once. The same two
+-- numbers of all time, modulo 2^64, stand beside them: no call takes these back.
+use Rattle.std.specs.Prelude.{◌≡◌, ℕ, ◌+◌, ◌*◌, ◌%◌, ◌^◌, ◌<◌, ◌≤◌, Bool, ◌&&◌, nat_le, nat_lt, List, ◌++◌, length, take, drop, slice_index, min}
 
 pub record Screen : Type 0 where
   pub width : ℕ
@@ -9,6 +10,8 @@ pub record Screen : Type 0 where
   pub bytes : List ℕ
   pub writes : ℕ
   pub spans : ℕ
+  pub all_writes : ℕ
+  pub all_spans : ℕ
 
 -- what is true of every canvas: its sides are within the limits, it has a byte for each pixel, and the counts fit
 pub record IsScreen (s : Screen) : Type 0 where
@@ -19,6 +22,8 @@ pub record IsScreen (s : Screen) : Type 0 where
   pub area : length s.bytes ≡ s.width * s.height
   pub count_fits : s.writes < 2 ^ 32
   pub spans_within : s.spans ≤ s.writes
+  pub all_writes_fit : s.all_writes < 2 ^ 64
+  pub all_spans_fit : s.all_spans < 2 ^ 64
 
 -- the number of the desk's colour, which a new screen has everywhere
 abbrev pub desk_colour : ℕ
@@ -44,6 +49,15 @@ in_span at count k = nat_le at k && nat_lt k (at + count)
 abbrev pub spans_of : ℕ → ℕ
 spans_of len = min len 1
 
+-- a number of all time with so many more counted, modulo 2^64
+abbrev pub risen : ℕ → ℕ → ℕ
+risen all more = (all + more) % 2 ^ 64
+
 -- the screen with so many bytes more counted, which are a span; no pixel changes
 abbrev pub counted : Screen → ℕ → Screen
-counted s len = record s { writes = s.writes + len; spans = s.spans + spans_of len }
+counted s len = record s {
+  writes = s.writes + len;
+  spans = s.spans + spans_of len;
+  all_writes = risen s.all_writes len;
+  all_spans = risen s.all_spans (spans_of len);
+}

@@ -1,6 +1,6 @@
 ghost use Rattle.std.specs.Prelude.{◌≡◌, ℕ, ◌+◌, ◌-◌, ◌*◌, ◌^◌, ◌<◌, ◌≤◌, length, take, drop, replicate, slice_index, if◌then◌else◌, IfOk};
 ghost use Rattle.std.specs.Borrow.{sem};
-ghost use Rattle.canvas_core.specs.Screen.{IsScreen, counted, desk_colour, in_span, pixel_of, place, spans_of, with_span};
+ghost use Rattle.canvas_core.specs.Screen.{IsScreen, counted, desk_colour, in_span, pixel_of, place, risen, spans_of, with_span};
 ghost use Rattle.canvas_core.specs.Lending.{LendsRow};
 
 use crate::no_memory::NoMemory;
@@ -12,9 +12,9 @@ pub const DESK_COLOUR: u8 = 2;
 
 /// A screen of `width * height` pixels, one byte each, row after row from the top.
 ///
-/// Contracts see the record `Screen`: the width, the height, the list of bytes, and of the time since the
-/// last `start_count` the number of bytes written and the number of spans. The rules are in
-/// `docs/MACHINE.md`.
+/// Contracts see the record `Screen`: the width, the height, the list of bytes, of the time since the last
+/// `start_count` the number of bytes written and the number of spans, and the same two numbers of all time,
+/// which no call takes back, each modulo 2^64. The rules are in `docs/MACHINE.md`.
 #[derive(Debug)]
 pub struct Canvas {
     width: u32,
@@ -22,6 +22,8 @@ pub struct Canvas {
     bytes: Vec<u8>,
     writes: u32,
     spans: u32,
+    all_writes: u64,
+    all_spans: u64,
 }
 
 impl Model for Canvas {
@@ -35,6 +37,8 @@ impl Model for Canvas {
       bytes = c.bytes.items;
       writes = c.writes;
       spans = c.spans;
+      all_writes = c.all_writes;
+      all_spans = c.all_spans;
     } };
 
     ghost invariant = { λ c. IsScreen (record {
@@ -43,6 +47,8 @@ impl Model for Canvas {
       bytes = c.bytes.items;
       writes = c.writes;
       spans = c.spans;
+      all_writes = c.all_writes;
+      all_spans = c.all_spans;
     }) };
 }
 
@@ -54,12 +60,14 @@ impl Drop for Canvas {
             bytes: _,
             writes: _,
             spans: _,
+            all_writes: _,
+            all_spans: _,
         } = self;
     }
 }
 
 impl Canvas {
-    /// A canvas of `width` by `height` pixels, each in the desk's colour, with both counts at 0.
+    /// A canvas of `width` by `height` pixels, each in the desk's colour, with all counts at 0.
     /// `NoMemory` comes only for want of memory. `docs/MACHINE.md` has the limits of a screen.
     pub fn new(alloc: Global, width: u32, height: u32) -> Result<Canvas, NoMemory>
         requires least_width { 16 ≤ width }
@@ -71,6 +79,8 @@ impl Canvas {
         ensures bytes { IfOk result (λ c. c.bytes ≡ replicate (width * height) desk_colour) }
         ensures writes { IfOk result (λ c. c.writes ≡ 0) }
         ensures spans { IfOk result (λ c. c.spans ≡ 0) }
+        ensures all_writes { IfOk result (λ c. c.all_writes ≡ 0) }
+        ensures all_spans { IfOk result (λ c. c.all_spans ≡ 0) }
         ensures valid { IfOk result (λ c. IsScreen c) }
     {
         match Vec::from_elem(alloc, DESK_COLOUR, width as usize * height as usize) {
@@ -80,6 +90,8 @@ impl Canvas {
                 bytes,
                 writes: 0,
                 spans: 0,
+                all_writes: 0,
+                all_spans: 0,
             }),
             Err(_) => Err(NoMemory),
         }
@@ -101,10 +113,12 @@ impl Canvas {
         self.height
     }
 
-    /// Begins to count writes and spans anew, from 0. No pixel changes.
+    /// Begins to count writes and spans anew, from 0. No pixel changes, and the counts of all time stay.
     pub fn start_count(&mut self)
         ensures writes { self.new.writes ≡ 0 }
         ensures spans { self.new.spans ≡ 0 }
+        ensures all_writes { self.new.all_writes ≡ self.old.all_writes }
+        ensures all_spans { self.new.all_spans ≡ self.old.all_spans }
         ensures bytes { self.new.bytes ≡ self.old.bytes }
         ensures width { self.new.width ≡ self.old.width }
         ensures height { self.new.height ≡ self.old.height }
@@ -121,10 +135,12 @@ impl Canvas {
     {
         self.writes += len;
         self.spans += len.min(1);
+        self.all_writes = self.all_writes.wrapping_add(len as u64);
+        self.all_spans = self.all_spans.wrapping_add(len.min(1) as u64);
     }
 
     /// Lends the `len` pixels of row `y` from column `x` on (both from 0) for writing, without a copy, and
-    /// adds their number to the count of writes, and one to that of spans where there is at least one. They are
+    /// adds their number to the counts of writes, and one to those of spans where there is at least one. They are
     /// as they were, until they are written. The span has to be on the screen, and the count has to fit.
     pub fn row_for(&mut self, x: u32, y: u32, len: u32) -> &mut [u8]
         requires on_row { x + len ≤ self.old.width }
@@ -142,7 +158,7 @@ impl Canvas {
     }
 
     /// Writes `bytes` over the pixels of row `y` from column `x` on (both from 0), and adds their
-    /// number to the count of writes, and one to that of spans where there is at least one. The span
+    /// number to the counts of writes, and one to those of spans where there is at least one. The span
     /// has to be on the screen, and the count has to fit.
     pub fn put_row(&mut self, x: u32, y: u32, bytes: &[u8])
         requires on_row { x + length bytes.now ≤ self.old.width }
@@ -155,6 +171,8 @@ impl Canvas {
             else slice_index self.old.bytes k) }
         ensures writes { self.new.writes ≡ self.old.writes + length bytes.now }
         ensures spans { self.new.spans ≡ self.old.spans + spans_of (length bytes.now) }
+        ensures all_writes { self.new.all_writes ≡ risen self.old.all_writes (length bytes.now) }
+        ensures all_spans { self.new.all_spans ≡ risen self.old.all_spans (spans_of (length bytes.now)) }
         ensures width { self.new.width ≡ self.old.width }
         ensures height { self.new.height ≡ self.old.height }
         ensures valid { IsScreen self.new }
@@ -197,5 +215,21 @@ impl Canvas {
         ensures valid { IsScreen self.now }
     {
         self.spans
+    }
+
+    /// The number of bytes written since the canvas was made, modulo 2^64. `start_count` leaves it.
+    pub fn all_writes(&self) -> u64
+        ensures all_writes { result ≡ self.now.all_writes }
+        ensures valid { IsScreen self.now }
+    {
+        self.all_writes
+    }
+
+    /// The number of spans since the canvas was made, modulo 2^64. `start_count` leaves it.
+    pub fn all_spans(&self) -> u64
+        ensures all_spans { result ≡ self.now.all_spans }
+        ensures valid { IsScreen self.now }
+    {
+        self.all_spans
     }
 }

@@ -4,6 +4,7 @@
 
 mod canvas;
 mod no_memory;
+pub mod threads;
 
 pub use canvas::{Canvas, DESK_COLOUR};
 pub use no_memory::NoMemory;

@@ -38,6 +38,12 @@ fn has_counted(rt: &impl Abort, canvas: &Canvas, row: &str, numbers: [u32; 6]) {
     assert_eq!(rt; counts, (writes, spans), "at {row}");
 }
 
+/// The calls above wrote 24 bytes in 5 spans, of which the last 1 and 1 came after the count was started anew.
+fn has_counted_in_all(rt: &impl Abort, canvas: &Canvas) {
+    let counts = (canvas.all_writes(), canvas.all_spans());
+    assert_eq!(rt; counts, (24, 5));
+}
+
 /// The six numbers behind the first word of a row; a number that is missing is 0.
 fn numbers_of(row: &str) -> Result<[u32; 6], Fail> {
     let mut numbers = [0; 6];
@@ -80,6 +86,7 @@ fn draws(rt: &impl Abort, canvas: &mut Canvas, calls: &str) -> Result<(), Fail> 
         has_counted(rt, canvas, row, numbers);
     }
     has_runs(rt, canvas, &RUNS);
+    has_counted_in_all(rt, canvas);
     Ok(())
 }
 

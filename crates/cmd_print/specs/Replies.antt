@@ -5,7 +5,7 @@ use Rattle.std.specs.Fmt.{signed_decimal}
 use Rattle.cmd_words.specs.declared.replies.Reply.{Reply}
 use Rattle.cmd_words.specs.declared.replies.Reply.TheVariants.{Done, Number, Words, Event, NoEvent, Lost, Refused}
 use Rattle.cmd_words.specs.declared.replies.Refusal.{Refusal}
-use Rattle.cmd_words.specs.declared.replies.Refusal.TheVariants.{Memory, Syntax, NameTaken, NoSuchName, WrongKind, BadValue, Full, HasParent, Cycle, TooDeep, CellTaken, AlreadyOpen, NotOpen, NoMode, Admitted, Budget, NotAdmitted, FrameSize, InUse, NotConnected, NotHere, Connected, JournalFull}
+use Rattle.cmd_words.specs.declared.replies.Refusal.TheVariants.{Memory, Syntax, NameTaken, NoSuchName, WrongKind, BadValue, Full, HasParent, Cycle, TooDeep, CellTaken, AlreadyOpen, NotOpen, NoMode, Admitted, Budget, NotAdmitted, FrameSize, InUse, NotConnected, NotHere, Connected}
 use Rattle.cmd_words.specs.Words.{event_word}
 use Rattle.cmd_print.specs.Printed.{quoted}
 
@@ -33,7 +33,6 @@ error_number InUse = 19
 error_number NotConnected = 20
 error_number NotHere = 21
 error_number Connected = 22
-error_number JournalFull = 30
 
 -- the further numbers of an error
 abbrev pub error_details : Refusal → List ℤ

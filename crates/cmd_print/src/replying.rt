@@ -57,7 +57,6 @@ fn number_of(refusal: &Refusal) -> u32
         Refusal::NotConnected => 20,
         Refusal::NotHere => 21,
         Refusal::Connected => 22,
-        Refusal::JournalFull => 30,
     }
 }
 

@@ -45,5 +45,4 @@ pub enum Refusal {
     NotConnected,
     NotHere,
     Connected,
-    JournalFull,
 }

@@ -26,4 +26,4 @@ pub use commands::{is_poll, obey};
 pub use kinds::is_variable;
 pub use pointer::let_go;
 pub use widgets::get;
-pub use windows::{close_windows, place_of};
+pub use windows::close_windows;

@@ -5,8 +5,6 @@ ghost use Rattle.std.specs.List.{list_all, filter};
 ghost use Rattle.stack_core.specs.Stack.{holds_key, IsStack};
 ghost use Rattle.desk_model.specs.Windows.{step_open, step_close, step_top};
 ghost use Rattle.widget_model.specs.Widgets.{IsLive, row_at, nodes};
-ghost use Rattle.scene_model.specs.OpenWindows.{place_of_row};
-ghost use Rattle.scene_model.specs.Values.{number_in};
 ghost use Rattle.desk_commands.specs.Parts.{AreParts, names_window, is_others};
 ghost use Rattle.desk_commands.specs.Effects.{DidAll, TellsAll};
 
@@ -104,28 +102,4 @@ pub fn close_windows(tree: &Tree, windows: &mut Stack, client: u32)
     while let Some(key) = window_of(tree, windows, client) {
         windows.remove(key);
     }
-}
-
-/// The number that is the value, 0 where there is none.
-fn number_in(value: Option<Value>) -> i32
-    ensures { result ≡ number_in value }
-{
-    match value {
-        Some(Value::Number(n)) => n,
-        _ => 0,
-    }
-}
-
-/// The window's x, y, width and height in pixels of the screen, as its attributes give them. See docs/MACHINE.md,
-/// "Windows".
-#[tactic(auto, using(crate::proofs::WindowPlaces::sides_of_row))]
-pub fn place_of(tree: &Tree, id: Id) -> (i32, i32, u32, u32)
-    requires { IsLive tree.now id.key }
-    ensures { let place = place_of_row (row_at tree.now.entries id.key) in result ≡ (place.x, place.y, place.w, place.h) }
-{
-    let x = number_in(tree.attr(id, Attr::X));
-    let y = number_in(tree.attr(id, Attr::Y));
-    let w = number_in(tree.attr(id, Attr::W));
-    let h = number_in(tree.attr(id, Attr::H));
-    (x, y, w.unsigned_abs(), h.unsigned_abs())
 }

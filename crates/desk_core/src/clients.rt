@@ -1,4 +1,4 @@
-ghost use Rattle.std.specs.Prelude.{◌≡◌, ◌≤◌, ◌∷◌, ◌++◌, [], length, true, false, not, nat_eq, slice_get, Some, IfSome, MatchOption, OnOk, OnErr};
+ghost use Rattle.std.specs.Prelude.{◌≡◌, ◌≤◌, ◌∷◌, ◌++◌, [], length, true, false, not, nat_eq, slice_get, Some, IfOk, IfSome, MatchOption, OnOk, OnErr};
 ghost use Rattle.std.specs.List.{filter, list_any};
 ghost use Rattle.std.specs.Option.{option_map};
 ghost use Rattle.bind_core.specs.Ring.{event_of};
@@ -11,7 +11,7 @@ ghost use Rattle.desk_core.specs.ClientList.{clients_of, rings_of, IsJoined};
 
 use crate::member::Member;
 use bind_core::{NoMemory, Polled, Posted, Ring};
-use std::alloc::Global;
+use std::alloc::{AllocError, Global};
 use std::marker::Model;
 
 /// The connected clients, 1 to 16, in the order in which they came, each with the events that are kept for it. Contracts
@@ -45,6 +45,17 @@ impl Clients {
     {
         Clients {
             members: Vec::new(alloc),
+        }
+    }
+
+    /// The same clients in the same order, with the same events. NoMemory comes only for want of memory, and nothing of
+    /// the copy is left behind then.
+    pub(crate) fn copy(&self) -> Result<Clients, NoMemory>
+        ensures { IfOk result (λ copy. copy ≡ self.now) }
+    {
+        match copy_members(&self.members) {
+            Ok(members) => Ok(Clients { members }),
+            Err(_) => Err(NoMemory),
         }
     }
 
@@ -118,6 +129,13 @@ impl Clients {
     {
         self.members.len() as u32
     }
+}
+
+/// The same members in the same order.
+fn copy_members(members: &Vec<Member>) -> Result<Vec<Member>, AllocError>
+    ensures { IfOk result (λ copy. copy.items ≡ members.now.items) }
+{
+    members.clone()
 }
 
 /// Whether the client is one of these.

@@ -1,10 +1,9 @@
-ghost use Rattle.std.specs.Prelude.{◌≡◌, ◌<◌, ◌≤◌, ◌↔◌, ◌&&◌, IsSome, IfSome, MatchOption, OnOk, OnErr, Some, true, false, not, [], length, slice_get, All, map};
+ghost use Rattle.std.specs.Prelude.{◌≡◌, ◌<◌, ◌≤◌, ◌↔◌, ◌&&◌, IsSome, IfOk, IfSome, MatchOption, OnOk, OnErr, Some, true, false, not, [], length, slice_get, All, map};
 ghost use Rattle.std.specs.Bool.{OnTrue};
 ghost use Rattle.std.specs.Option.{option_map};
 ghost use Rattle.bind_core.specs.Polling.{poll_answer, after_poll};
 ghost use Rattle.desk_model.specs.Desk.{opening_desk, is_connected};
 ghost use Rattle.desk_model.specs.DeskFacts.{IsDesk};
-ghost use Rattle.desk_model.specs.Seen.{open_windows};
 ghost use Rattle.desk_model.specs.Clients.{free_client, step_bye, step_connect, step_hello, with_client};
 ghost use Rattle.desk_model.specs.Polling.{poll_reply, ring_of, with_ring};
 ghost use Rattle.scene_model.specs.Shapes.{IsShape};
@@ -28,6 +27,7 @@ ghost use Rattle.desk_model.specs.Refusals.{is_memory};
 
 use crate::asking::answer_to;
 use crate::clients::Clients;
+use crate::copying::{copy_touched, copy_tree};
 use crate::feeding::{asked_on, carry_out};
 use crate::joining::join;
 use crate::polling::poll_reply;
@@ -37,7 +37,7 @@ use admit_core::Roster;
 use arrayvec::ArrayVec;
 use bind_core::NoMemory;
 use cmd_words::{Command, Input, Refusal, Reply};
-use desk_commands::{beat, close_windows, dismiss, is_poll, let_go, obey, place_of};
+use desk_commands::{beat, close_windows, dismiss, is_poll, let_go, obey};
 use desk_layout::settle;
 use desk_moves::{may_move, moves};
 use scene_core::View;
@@ -395,6 +395,30 @@ impl Desk {
         beat(&mut self.tree, &self.roster)
     }
 
+    /// Another desk that equals this one in all: the same clients with the same kept events, the same widgets under the
+    /// same numbers with their films and places, the same open windows, roster and pointer, and what the last call
+    /// changed. Each later call answers on both alike. `NoMemory` comes only for want of memory, and nothing of the copy
+    /// is left behind then. See docs/MACHINE.md, "Copies".
+    pub fn copy(&self) -> Result<Desk, NoMemory>
+        ensures same { IfOk result (λ desk. desk ≡ self.now) }
+        ensures valid { IsDesk self.now.desk }
+    {
+        let tree = copy_tree(&self.tree)?;
+        let clients = self.clients.copy()?;
+        Ok(Desk {
+            shape: self.shape,
+            pointer: self.pointer,
+            alloc: self.alloc,
+            clients,
+            tree,
+            windows: self.windows.copy(),
+            roster: self.roster.copy(),
+            changed: self.changed,
+            moved: self.moved,
+            touched: copy_touched(&self.touched),
+        })
+    }
+
     /// What the desk shows, lent for a look: the widgets by their numbers with the places that are kept of them, the
     /// numbers of the open windows, the pointer and the screen's size. The kept place of each Window and of each widget
     /// under one is its place, in pixels of the screen; no other widget has one. See docs/MACHINE.md, "Layout".
@@ -407,20 +431,6 @@ impl Desk {
         ensures view { IsView result }
     {
         view_of(&self.tree, &self.windows, &self.pointer, self.shape)
-    }
-
-    /// The place of the open window with that index, counted from 0 at the top: x, y, width and height in
-    /// pixels. None exactly at and past the number of open windows. See docs/MACHINE.md, "Windows".
-    pub fn window_at(&self, index: usize) -> Option<(i32, i32, u32, u32)>
-        ensures place { result ≡ option_map (λ w. (w.x, w.y, w.w, w.h)) (slice_get (open_windows self.now.desk) index) }
-        ensures some { IsSome result ↔ (index < length self.now.desk.windows) }
-        ensures few { length self.now.desk.windows ≤ 128 }
-        ensures valid { IsDesk self.now.desk }
-    {
-        match self.windows.at(index) {
-            Some(key) => Some(place_of(&self.tree, Id { key })),
-            None => None,
-        }
     }
 
     /// Whether the last call of `connect`, `hello`, `step` or `bye` changed the rows, the open windows or their
@@ -449,6 +459,13 @@ impl Desk {
         ensures { result.now.looks.items ≡ self.now.touched }
     {
         &self.touched
+    }
+
+    /// Whether the client is connected. See docs/MACHINE.md, "The desk".
+    pub fn is_connected(&self, client: u32) -> bool
+        ensures { result ≡ is_connected self.now.desk client }
+    {
+        self.has(client)
     }
 
     /// How many clients are connected, 0 to 16. See docs/MACHINE.md, "The desk".

@@ -83,8 +83,9 @@ pub fn a_bye_leaves_the_others_parts()
     ensures { ByesLeaveOthers }
 {}
 
-/// Two desks of one shape that agree on whether a client is connected, on its rows and on its open windows
-/// answer each of its commands alike, under the same want of memory.
+/// Two desks of one shape that agree on whether a client is connected, on its rows with their films, on its open windows
+/// and on its kept events answer each of its commands alike, under the same want of memory; `admit` where they agree on
+/// the sum of the others' shares too.
 pub fn answers_depend_on_the_own_part()
     ensures { AnswersDependOnOwnPart }
 {}

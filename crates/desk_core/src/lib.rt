@@ -5,12 +5,14 @@ mod asked;
 mod asking;
 mod carried;
 mod clients;
+mod copying;
 mod desk;
 mod feeding;
 mod joining;
 pub mod laws;
 mod member;
 mod polling;
+pub mod threads;
 mod touching;
 mod watching;
 

@@ -1,4 +1,7 @@
+ghost use Rattle.std.specs.Prelude.{◌≡◌};
+
 use bind_core::Ring;
+use std::alloc::AllocError;
 
 /// A connected client, 1 to 16, and the events that are kept for it until it polls them.
 pub(crate) struct Member {
@@ -12,5 +15,19 @@ impl Drop for Member {
             client: _,
             events: _,
         } = self;
+    }
+}
+
+impl Clone for Member {
+    ghost is_clone = { λ member copy. copy ≡ member };
+
+    fn clone(&self) -> Result<Member, AllocError> {
+        match self.events.copy() {
+            Ok(events) => Ok(Member {
+                client: self.client,
+                events,
+            }),
+            Err(_) => Err(AllocError),
+        }
     }
 }

@@ -329,9 +329,9 @@ byes_leave_others desk client is = leaves-ends client desk _ is.held (bye_ends d
 
 pub answers_depend_on_own_part : AnswersDependOnOwnPart
 unfolding step
-answers_depend_on_own_part one two client command payload short is_one is_two agree =
+answers_depend_on_own_part one two client command payload short is_one is_two agree shares =
     answer-outcome one two (when (not (is_connected one client)) NotConnected) (when (not (is_connected two client)) NotConnected) (row_of command payload one client short) (row_of command payload two client short) (rw agree.connected refl)
-    (answer-row one two client command payload short is_one is_two agree)
+    (answer-row one two client command payload short is_one is_two agree shares)
 
 pub connects_depend_on_own_part : ConnectsDependOnOwnPart
 unfolding step_connect

@@ -1,7 +1,9 @@
--- What a client does touches its own part of the desk alone, and what it is answered depends on that part alone.
-use Rattle.std.specs.Prelude.{ℕ, ◌≡◌, ◌⊎◌, Bool, false, not, nat_eq, List, Option, Some, None, IfSome}
+-- What a client does touches its own part of the desk alone, and what it is answered depends on that part alone; only
+-- `admit` depends on how much the others' shares are together, too.
+use Rattle.std.specs.Prelude.{ℕ, ◌≡◌, ◌⊎◌, Bool, true, false, not, nat_eq, List, Option, Some, None, IfSome}
 use Rattle.std.specs.List.{filter}
 use Rattle.cmd_words.specs.declared.commands.Command.{Command}
+use Rattle.cmd_words.specs.declared.commands.Command.TheVariants.{Admit}
 use Rattle.widget_model.specs.Pointer.{Pointer, Grab, no_grab, on_widget, drags}
 use Rattle.widget_model.specs.Named.{own_rows, rows_of_others}
 use Rattle.desk_model.specs.Desk.{Desk, Admission, is_connected}
@@ -67,21 +69,30 @@ HellosLeaveOthers = (desk : Desk) (short : Bool) → IsDesk desk → IfSome (fre
 abbrev pub ByesLeaveOthers : Type 0
 ByesLeaveOthers = (desk : Desk) (client : ℕ) → IsDesk desk → LeavesOthers client desk (step_bye desk client).1
 
--- Two desks agree on the client's part: whether it is connected, its rows with their films, its open windows and its kept
--- events; and on how much the shares of all other clients' VScreens are together.
+-- Two desks of one shape agree on the client's part: whether it is connected, its rows with their films, its open windows
+-- and its kept events.
 pub record AgreeOn (client : ℕ) (one two : Desk) : Type 0 where
   pub shape : one.shape ≡ two.shape
   pub connected : is_connected one client ≡ is_connected two client
   pub rows : own_rows client one.rows ≡ own_rows client two.rows
   pub windows : own_windows client one.windows ≡ own_windows client two.windows
   pub events : ring_of one.rings client ≡ ring_of two.rings client
-  pub others_shares : shares_of (admissions_of_others client one.roster) ≡ shares_of (admissions_of_others client two.roster)
 
--- Such desks, of which all holds that holds of a desk, answer each command of the client alike, under the same want of
--- memory.
+-- They agree on how much the shares of all other clients' VScreens are together.
+abbrev pub AgreeOnShares : ℕ → Desk → Desk → Type 0
+AgreeOnShares client one two = shares_of (admissions_of_others client one.roster) ≡ shares_of (admissions_of_others client two.roster)
+
+-- whether the command is `admit`
+abbrev pub is_admit : Command → Bool
+is_admit (Admit name period) = true
+is_admit _ = false
+
+-- Desks that agree on the client's part, of which all holds that holds of a desk, answer each command of the client alike,
+-- under the same want of memory; `admit` where they agree on the others' shares too.
 abbrev pub AnswersDependOnOwnPart : Type 0
 AnswersDependOnOwnPart =
     (one two : Desk) (client : ℕ) (command : Command) (payload : List ℕ) (short : Bool) → IsDesk one → IsDesk two → AgreeOn client one two
+    → (is_admit command ≡ true → AgreeOnShares client one two)
     → (step one client command payload short).0 ≡ (step two client command payload short).0
 
 abbrev pub ConnectsDependOnOwnPart : Type 0

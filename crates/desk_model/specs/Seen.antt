@@ -1,18 +1,11 @@
--- What a desk shows: its scene, with the places of its open windows, the colour of each pixel, and the picture, which
--- is the desk drawn afresh.
+-- What a desk shows: its scene, the colour of each pixel, and the picture, which is the desk drawn afresh.
 use Rattle.std.specs.Prelude.{ℕ, pos, List}
-use Rattle.geom_core.specs.declared.rectangle.Rect.{Rect}
 use Rattle.scene_model.specs.Scene.{Scene}
-use Rattle.scene_model.specs.OpenWindows.{window_places}
 use Rattle.scene_model.specs.Colours.{colour_at, picture_of}
 use Rattle.desk_model.specs.Desk.{Desk}
 
 abbrev pub scene_of : Desk → Scene
 scene_of desk = record { width = desk.shape.width; height = desk.shape.height; rows = desk.rows; windows = desk.windows; pointer = desk.pointer }
-
--- the places of the open windows, from top to bottom
-unfoldable pub open_windows : Desk → List Rect
-open_windows desk = window_places (scene_of desk)
 
 -- the colour of the pixel (x, y) of the screen: a palette number
 unfoldable pub colour : Desk → ℕ → ℕ → ℕ

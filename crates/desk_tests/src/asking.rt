@@ -2,8 +2,9 @@
 //! `connect`, `bye` or `hello`; a command that comes with raw bytes, at most 128, gets so many of the letter A. A row
 //! `input INPUT | BOOL` gives the desk `motion X Y`, `press`, `release` or `key BYTE`, and tells whether it changed. Or a row
 //! tells of the desk: `desk live | NUMBER`, `desk changed | BOOL`,
-//! `desk window PLACE | X Y W H` or `| none`, and the same of the kept place of a client's widget, by
-//! `desk place CLIENT NAME`.
+//! `desk top X Y | CLIENT` or `| none`, whose widget is on top at a pixel, and the kept place of a client's widget, by
+//! `desk place CLIENT NAME | X Y W H` or `| none`. Of the VScreens of client 1 a row `beat NAME | FROM TO` tells the band of a beat, which is the
+//! only one, and a row `desk pixel NAME NUMBER | BYTE` a pixel that is shown.
 ghost use Rattle.std.specs.Prelude.{◌≤◌};
 
 use arrayvec::ArrayString;
@@ -11,6 +12,7 @@ use cmd_text::{Reply, parse, print_reply};
 use cmd_words::Input;
 use desk_core::Desk;
 use kind_core::{Shape, name_from};
+use scene_core::top_at;
 use script_lines::payload_size;
 use std::alloc::Global;
 use std::process::Abort;
@@ -102,6 +104,51 @@ fn kept_place(desk: &Desk, said: &str) -> Result<Option<(i32, i32, u32, u32)>, F
     }
 }
 
+/// The client whose widget is on top at the pixel, which is written `X Y`; none where no widget is.
+fn client_on_top(desk: &Desk, pixel: &str) -> Result<Option<u32>, Fail> {
+    let (x, y) = pixel.split_once(' ').ok_or("a pixel has two numbers")?;
+    let view = desk.view();
+    match top_at(&view, x.parse()?, y.parse()?) {
+        Some(id) => Ok(Some(view.tree.owner(id))),
+        None => Ok(None),
+    }
+}
+
+/// Whether the client on top is the one that is written, or `none`.
+fn is_on_top(desk: &Desk, pixel: &str, wanted: &str) -> Result<bool, Fail> {
+    match client_on_top(desk, pixel)? {
+        Some(client) => Ok(wanted != "none" && client == wanted.parse::<u32>()?),
+        None => Ok(wanted == "none"),
+    }
+}
+
+/// Whether a beat draws one band, which is the VScreen's and has the pixels `FROM TO`.
+fn beats(desk: &mut Desk, name: &str, wanted: &str) -> Result<bool, Fail> {
+    let name = name_from(name.as_bytes()).ok_or("it is no name")?;
+    let screen = desk.view().tree.find(1, &name);
+    let (from, to) = wanted.split_once(' ').ok_or("a band has two numbers")?;
+    let from: u32 = from.parse()?;
+    let to: u32 = to.parse()?;
+    let bands = desk.beat();
+    match bands.as_slice() {
+        [(beaten, band)] => Ok(Some(*beaten) == screen && band.from == from && band.to == to),
+        _ => Ok(false),
+    }
+}
+
+/// The byte of a VScreen's pixel that is shown, which is written `NAME NUMBER`.
+fn shown_pixel(desk: &Desk, said: &str) -> Result<Option<u8>, Fail> {
+    let (name, number) = said
+        .split_once(' ')
+        .ok_or("a pixel has a name and a number")?;
+    let name = name_from(name.as_bytes()).ok_or("it is no name")?;
+    let number: usize = number.parse()?;
+    let tree = desk.view().tree;
+    let id = tree.find(1, &name).ok_or("no widget has the name")?;
+    let film = tree.film(id).ok_or("there is no film")?;
+    Ok(film.shown().get(number).copied())
+}
+
 /// The input that is written so.
 fn input(said: &str) -> Result<Input, Fail> {
     match said {
@@ -128,13 +175,13 @@ fn input(said: &str) -> Result<Input, Fail> {
 fn is_so(desk: &Desk, said: &str, wanted: &str) -> Result<bool, Fail> {
     match said.split_once(' ') {
         Some(("place", widget)) => return Ok(kept_place(desk, widget)? == place(wanted)?),
+        Some(("top", pixel)) => return is_on_top(desk, pixel, wanted),
+        Some(("pixel", pixel)) => return Ok(shown_pixel(desk, pixel)? == Some(wanted.parse()?)),
         _ => {}
     }
     match said {
         "live" => Ok(desk.live() == wanted.parse::<u32>()?),
         "changed" => Ok(desk.changed() == (wanted == "true")),
-        "window 0" => Ok(desk.window_at(0) == place(wanted)?),
-        "window 1" => Ok(desk.window_at(1) == place(wanted)?),
         _ => Err("a row tells of nothing".into()),
     }
 }
@@ -163,6 +210,10 @@ fn holds(rt: &impl Abort, desk: &mut Desk, row: &str) -> Result<(), Fail> {
     if first == "input" {
         desk.feed(input(line)?);
         assert!(rt; desk.changed() == (wanted == "true"), "at {row}");
+        return Ok(());
+    }
+    if first == "beat" {
+        assert!(rt; beats(desk, line, wanted)?, "at {row}");
         return Ok(());
     }
     if first == "desk" {

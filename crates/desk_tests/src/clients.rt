@@ -19,11 +19,12 @@ fn clients_come_and_go(rt: HostRuntime) -> Result<(), Fail> {
 const OPENING: &str = "
 1 connect | ok
 1 w = new Window() | ok
-desk window 0 | none
+desk top 0 0 | none
 1 w.open() | ok
 desk changed | true
-desk window 0 | 0 0 160 120
-desk window 1 | none
+desk top 0 0 | 1
+desk top 31 31 | 1
+desk place 1 w | 0 0 160 120
 ";
 
 #[test]
@@ -77,8 +78,9 @@ const LEAVING: &str = "
 1 w.get(x) | error 4
 2 w.get(x) | ok 7
 2 w.open() | error 12
-desk window 0 | 7 0 160 120
-desk window 1 | none
+desk top 6 0 | none
+desk top 7 0 | 2
+desk place 2 w | 7 0 160 120
 ";
 
 #[test]

@@ -7,7 +7,7 @@ use std::process::Abort;
 use std::test::Fail;
 
 /// Two windows over one another, each with a Button.
-const BUTTONS: &str = "
+pub const BUTTONS: &str = "
 1 connect | ok
 1 p = new Window() | ok
 1 p.set(-w 40 -h 40) | ok
@@ -26,6 +26,10 @@ const BUTTONS: &str = "
 2 d.bind(click, c) | ok
 1 p.open() | ok
 2 q.open() | ok
+";
+
+/// A Button is pressed and let go elsewhere, and another is clicked.
+pub const PRESSES: &str = "
 input motion 30 20 | false
 input press | false
 input motion 0 60 | false
@@ -34,7 +38,7 @@ input release | false
 2 poll() | event b release -21 48
 2 poll() | none
 1 poll() | none
-desk window 0 | 20 0 40 40
+desk top 30 30 | 2
 # a press on the lower window raises it
 input motion 5 20 | false
 input press | true
@@ -42,11 +46,11 @@ input release | false
 1 poll() | event a press 4 8
 1 poll() | event b release 4 8
 1 poll() | event c click 4 8
-desk window 0 | 0 0 40 40
+desk top 30 30 | 1
 ";
 
-/// A window with a VScreen that has the focus: 33 keys, of which the first is lost.
-const KEYS: &str = "
+/// A window with a VScreen that has the focus, and 33 keys.
+pub const KEYS: &str = "
 1 connect | ok
 1 w = new Window() | ok
 1 w.set(-w 40 -h 40) | ok
@@ -90,6 +94,10 @@ input key 94 | false
 input key 95 | false
 input key 96 | false
 input key 97 | false
+";
+
+/// The first of the keys is lost.
+pub const TOLD: &str = "
 1 poll() | lost 1
 1 poll() | event k key 66 0
 1 poll() | event k key 67 0
@@ -126,9 +134,9 @@ input key 97 | false
 1 poll() | none
 ";
 
-/// A desk on a screen of 64 by 64 pixels.
-fn asked_wide(rt: &impl Abort, alloc: Global, table: &str) -> Result<(), Fail> {
-    let mut desk = Desk::new(
+/// A desk on a screen of 64 by 64 pixels, with no clients.
+pub fn wide_desk(alloc: Global) -> Desk {
+    Desk::new(
         alloc,
         Shape {
             width: 64,
@@ -136,16 +144,22 @@ fn asked_wide(rt: &impl Abort, alloc: Global, table: &str) -> Result<(), Fail> {
             budget: 1000,
             spare: 100,
         },
-    );
-    ask_all(rt, &mut desk, table)
+    )
+}
+
+/// The rows of both tables hold on a wide desk, one after the other.
+fn asked_wide(rt: &impl Abort, alloc: Global, before: &str, after: &str) -> Result<(), Fail> {
+    let mut desk = wide_desk(alloc);
+    ask_all(rt, &mut desk, before)?;
+    ask_all(rt, &mut desk, after)
 }
 
 #[test]
 fn a_press_meets_the_top_window_and_raises_it(rt: HostRuntime) -> Result<(), Fail> {
-    asked_wide(&rt, rt.alloc(), BUTTONS)
+    asked_wide(&rt, rt.alloc(), BUTTONS, PRESSES)
 }
 
 #[test]
 fn a_ring_keeps_the_latest_keys(rt: HostRuntime) -> Result<(), Fail> {
-    asked_wide(&rt, rt.alloc(), KEYS)
+    asked_wide(&rt, rt.alloc(), KEYS, TOLD)
 }

@@ -6,6 +6,8 @@ mod asking;
 #[cfg(test)]
 mod clients;
 #[cfg(test)]
+mod copying;
+#[cfg(test)]
 mod inputs;
 #[cfg(test)]
 mod placement;

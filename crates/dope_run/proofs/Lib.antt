@@ -1,12 +1,3 @@
-pub mod Gaining
 pub mod Obeyings
 pub mod Dumps
-pub mod Reading
-pub mod Feedings
-pub mod Flushings
-pub mod Framings
-pub mod Endings
-pub mod Readings
-pub mod Refusals
-pub mod Coming
-pub mod PlayWords
+pub mod Performings

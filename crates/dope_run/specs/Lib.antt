@@ -1,11 +1,7 @@
-pub mod Words
-pub mod WordLaws
 pub mod Text
 pub mod Report
-pub mod Framing
 pub mod Script
+pub mod Playing
 pub mod Transcript
 pub mod Obeying
-pub mod Playing
-pub mod Cutting
-pub mod ScriptLaws
+pub mod Lawfully

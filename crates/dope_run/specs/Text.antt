@@ -1,7 +1,6 @@
 -- What is written for each moment of a run: one line, with its line feed; for a dump a line with the screen's sides,
 -- its bytes, and a line feed.
 use Rattle.std.specs.Prelude.{ℕ, List, [], ◌++◌, Option, Some, None, codes, decimal}
-use Rattle.std.specs.List.{flat_map}
 use Rattle.kind_core.specs.declared.shapes.Shape.{Shape}
 use Rattle.cmd_words.specs.declared.inputs.Drew.{Drew}
 use Rattle.cmd_words.specs.declared.replies.Reply.{Reply}
@@ -48,7 +47,3 @@ answer_text _ _ shape = []
 
 abbrev pub text_of_moment : Moment → List ℕ
 text_of_moment moment = answer_text moment.event moment.answer moment.after.desk.shape
-
--- what is written for a run
-abbrev pub text_of : List Moment → List ℕ
-text_of moments = flat_map text_of_moment moments

@@ -2,14 +2,11 @@
 //! `run` carries the headline; specs/Transcript.antt has its definitions, and docs/MACHINE.md reads them in prose.
 #![tactic(auto)]
 
-mod cut;
 mod ending;
-pub mod laws;
 mod obeying;
 mod outcome;
 mod player;
 mod playing;
-mod raw_bytes;
 mod running;
 mod stage;
 mod status;

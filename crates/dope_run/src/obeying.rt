@@ -1,22 +1,23 @@
 //! Carrying out what a line asks for.
-ghost use Rattle.std.specs.Prelude.{◌≡◌, ℕ, ◌≤◌, ◌∷◌, [], length, replicate, MatchResult, OnOk, OnErr};
+ghost use Rattle.std.specs.Prelude.{◌≡◌, ℕ, ◌≤◌, ◌∷◌, List, [], length, replicate, Option, OnOk, OnErr};
 ghost use Rattle.outside_io.specs.Count.{Rose};
-ghost use Rattle.outside_io.specs.Outbox.{Output, Puts, PutsFront, output};
+ghost use Rattle.outside_io.specs.Outbox.{Puts, PutsFront, output};
 ghost use Rattle.machine_model.specs.State.{IsState, seen_at};
 ghost use Rattle.desk_model.specs.Commands.{IsPayload};
 ghost use Rattle.machine_model.specs.Events.Event.{Connect, Bye, Ask, Misread, Feed, Tick, CountDirty, LookAt, Dump};
 ghost use Rattle.script_lines.specs.Payloads.{payload_of};
 ghost use Rattle.script_lines.specs.Suits.{Suits};
-ghost use Rattle.dope_run.specs.declared.status.Status.TheVariants.{Done, WriteFault};
-ghost use Rattle.dope_run.specs.Obeying.{Obeyed};
+ghost use Rattle.script_walk.specs.declared.end.End.TheVariants.{Done};
+ghost use Rattle.dope_run.specs.Obeying.{Obeyed, at, wrote};
 ghost use Rattle.dope_run.specs.Script.{events_of_order};
+ghost use Rattle.dope_run.specs.Text.{dump_text};
 
 use crate::text::{dirty_line, drew_line, dump_line, pixel_line, reply_line};
 use arrayvec::ArrayString;
 use cmd_text::{Command, Input, Refusal, Reply};
 use outside_io::{Failed, Outbox, Sink};
 use script_lines::Order;
-use server_core::Server;
+use server_core::{Server, Shape};
 
 /// Puts one line of output.
 fn say<K: Sink, const CAP: usize>(
@@ -42,13 +43,9 @@ fn connect<K: Sink>(
 ) -> Result<(), Failed>
     requires low { 1 ≤ client }
     requires high { client ≤ 16 }
-    ensures told { MatchResult result
-        (λ _. Obeyed Done (Connect client ∷ []) server.old.state server.new.state (output (K.held sink.old) out.old) (output (K.held sink.new) out.new))
-        (λ _. Obeyed WriteFault (Connect client ∷ []) server.old.state server.new.state (output (K.held sink.old) out.old) (output (K.held sink.new) out.new)) }
-    ensures valid { IsState server.new.state }
-    ensures later { K.faults sink.old ≤ K.faults sink.new }
-    ensures cause { OnErr result (Rose (K.faults sink.old) (K.faults sink.new)) }
-    ensures steady { OnOk result (K.faults sink.new ≡ K.faults sink.old) }
+    ensures { Obeyed (wrote result) (Connect client ∷ [])
+        (at server.old.state (K.held sink.old) out.old (K.faults sink.old))
+        (at server.new.state (K.held sink.new) out.new (K.faults sink.new)) }
 {
     let reply = server.connect(client);
     say(&reply_line(client, &reply), out, sink)
@@ -63,13 +60,9 @@ fn bye<K: Sink>(
 ) -> Result<(), Failed>
     requires low { 1 ≤ client }
     requires high { client ≤ 16 }
-    ensures told { MatchResult result
-        (λ _. Obeyed Done (Bye client ∷ []) server.old.state server.new.state (output (K.held sink.old) out.old) (output (K.held sink.new) out.new))
-        (λ _. Obeyed WriteFault (Bye client ∷ []) server.old.state server.new.state (output (K.held sink.old) out.old) (output (K.held sink.new) out.new)) }
-    ensures valid { IsState server.new.state }
-    ensures later { K.faults sink.old ≤ K.faults sink.new }
-    ensures cause { OnErr result (Rose (K.faults sink.old) (K.faults sink.new)) }
-    ensures steady { OnOk result (K.faults sink.new ≡ K.faults sink.old) }
+    ensures { Obeyed (wrote result) (Bye client ∷ [])
+        (at server.old.state (K.held sink.old) out.old (K.faults sink.old))
+        (at server.new.state (K.held sink.new) out.new (K.faults sink.new)) }
 {
     let reply = server.bye(client);
     say(&reply_line(client, &reply), out, sink)
@@ -87,13 +80,9 @@ fn ask<K: Sink>(
     requires low { 1 ≤ client }
     requires high { client ≤ 16 }
     requires payload { IsPayload command.now payload.now }
-    ensures told { MatchResult result
-        (λ _. Obeyed Done (Ask client command.now payload.now ∷ []) server.old.state server.new.state (output (K.held sink.old) out.old) (output (K.held sink.new) out.new))
-        (λ _. Obeyed WriteFault (Ask client command.now payload.now ∷ []) server.old.state server.new.state (output (K.held sink.old) out.old) (output (K.held sink.new) out.new)) }
-    ensures valid { IsState server.new.state }
-    ensures later { K.faults sink.old ≤ K.faults sink.new }
-    ensures cause { OnErr result (Rose (K.faults sink.old) (K.faults sink.new)) }
-    ensures steady { OnOk result (K.faults sink.new ≡ K.faults sink.old) }
+    ensures { Obeyed (wrote result) (Ask client command.now payload.now ∷ [])
+        (at server.old.state (K.held sink.old) out.old (K.faults sink.old))
+        (at server.new.state (K.held sink.new) out.new (K.faults sink.new)) }
 {
     let reply = server.command(client, command, payload);
     say(&reply_line(client, &reply), out, sink)
@@ -107,12 +96,10 @@ fn misread<K: Sink>(
     out: &mut Outbox,
     sink: &mut K,
 ) -> Result<(), Failed>
-    ensures told { MatchResult result
-        (λ _. Obeyed Done (Misread client place ∷ []) server.now.state server.now.state (output (K.held sink.old) out.old) (output (K.held sink.new) out.new))
-        (λ _. Obeyed WriteFault (Misread client place ∷ []) server.now.state server.now.state (output (K.held sink.old) out.old) (output (K.held sink.new) out.new)) }
-    ensures later { K.faults sink.old ≤ K.faults sink.new }
-    ensures cause { OnErr result (Rose (K.faults sink.old) (K.faults sink.new)) }
-    ensures steady { OnOk result (K.faults sink.new ≡ K.faults sink.old) }
+    requires valid { IsState server.now.state }
+    ensures { Obeyed (wrote result) (Misread client place ∷ [])
+        (at server.now.state (K.held sink.old) out.old (K.faults sink.old))
+        (at server.now.state (K.held sink.new) out.new (K.faults sink.new)) }
 {
     let reply = Reply::Refused(Refusal::Syntax { place });
     say(&reply_line(client, &reply), out, sink)
@@ -120,21 +107,16 @@ fn misread<K: Sink>(
 
 /// The pointer or the keyboard does something; nothing is told.
 fn feed(input: Input, server: &mut Server)
-    ensures told { (out : Output) → Obeyed Done (Feed input ∷ []) server.old.state server.new.state out out }
-    ensures valid { IsState server.new.state }
+    ensures { (held : Option (List ℕ)) (waiting : List ℕ) (faults : ℕ) → Obeyed Done (Feed input ∷ []) (at server.old.state held waiting faults) (at server.new.state held waiting faults) }
 {
     server.feed(input);
 }
 
 /// One tick and its line.
 fn tick<K: Sink>(server: &mut Server, out: &mut Outbox, sink: &mut K) -> Result<(), Failed>
-    ensures told { MatchResult result
-        (λ _. Obeyed Done (Tick ∷ []) server.old.state server.new.state (output (K.held sink.old) out.old) (output (K.held sink.new) out.new))
-        (λ _. Obeyed WriteFault (Tick ∷ []) server.old.state server.new.state (output (K.held sink.old) out.old) (output (K.held sink.new) out.new)) }
-    ensures valid { IsState server.new.state }
-    ensures later { K.faults sink.old ≤ K.faults sink.new }
-    ensures cause { OnErr result (Rose (K.faults sink.old) (K.faults sink.new)) }
-    ensures steady { OnOk result (K.faults sink.new ≡ K.faults sink.old) }
+    ensures { Obeyed (wrote result) (Tick ∷ [])
+        (at server.old.state (K.held sink.old) out.old (K.faults sink.old))
+        (at server.new.state (K.held sink.new) out.new (K.faults sink.new)) }
 {
     let drew = server.tick();
     say(&drew_line(drew), out, sink)
@@ -148,13 +130,9 @@ fn ticks<K: Sink>(
     sink: &mut K,
 ) -> Result<(), Failed>
     requires valid { IsState server.old.state }
-    ensures told { MatchResult result
-        (λ _. Obeyed Done (replicate count Tick) server.old.state server.new.state (output (K.held sink.old) out.old) (output (K.held sink.new) out.new))
-        (λ _. Obeyed WriteFault (replicate count Tick) server.old.state server.new.state (output (K.held sink.old) out.old) (output (K.held sink.new) out.new)) }
-    ensures still_valid { IsState server.new.state }
-    ensures later { K.faults sink.old ≤ K.faults sink.new }
-    ensures cause { OnErr result (Rose (K.faults sink.old) (K.faults sink.new)) }
-    ensures steady { OnOk result (K.faults sink.new ≡ K.faults sink.old) }
+    ensures { Obeyed (wrote result) (replicate count Tick)
+        (at server.old.state (K.held sink.old) out.old (K.faults sink.old))
+        (at server.new.state (K.held sink.new) out.new (K.faults sink.new)) }
 {
     for i in 0..count {
         match tick(server, out, sink) {
@@ -167,12 +145,10 @@ fn ticks<K: Sink>(
 
 /// The line for how many pixels are dirty.
 fn dirty<K: Sink>(server: &Server, out: &mut Outbox, sink: &mut K) -> Result<(), Failed>
-    ensures told { MatchResult result
-        (λ _. Obeyed Done (CountDirty ∷ []) server.now.state server.now.state (output (K.held sink.old) out.old) (output (K.held sink.new) out.new))
-        (λ _. Obeyed WriteFault (CountDirty ∷ []) server.now.state server.now.state (output (K.held sink.old) out.old) (output (K.held sink.new) out.new)) }
-    ensures later { K.faults sink.old ≤ K.faults sink.new }
-    ensures cause { OnErr result (Rose (K.faults sink.old) (K.faults sink.new)) }
-    ensures steady { OnOk result (K.faults sink.new ≡ K.faults sink.old) }
+    requires valid { IsState server.now.state }
+    ensures { Obeyed (wrote result) (CountDirty ∷ [])
+        (at server.now.state (K.held sink.old) out.old (K.faults sink.old))
+        (at server.now.state (K.held sink.new) out.new (K.faults sink.new)) }
 {
     say(&dirty_line(server.dirty()), out, sink)
 }
@@ -197,34 +173,46 @@ fn pixel<K: Sink>(
     out: &mut Outbox,
     sink: &mut K,
 ) -> Result<(), Failed>
-    ensures told { MatchResult result
-        (λ _. Obeyed Done (LookAt x y ∷ []) server.now.state server.now.state (output (K.held sink.old) out.old) (output (K.held sink.new) out.new))
-        (λ _. Obeyed WriteFault (LookAt x y ∷ []) server.now.state server.now.state (output (K.held sink.old) out.old) (output (K.held sink.new) out.new)) }
-    ensures later { K.faults sink.old ≤ K.faults sink.new }
-    ensures cause { OnErr result (Rose (K.faults sink.old) (K.faults sink.new)) }
-    ensures steady { OnOk result (K.faults sink.new ≡ K.faults sink.old) }
+    requires valid { IsState server.now.state }
+    ensures { Obeyed (wrote result) (LookAt x y ∷ [])
+        (at server.now.state (K.held sink.old) out.old (K.faults sink.old))
+        (at server.now.state (K.held sink.new) out.new (K.faults sink.new)) }
 {
     say(&pixel_line(seen_at(server, x, y)), out, sink)
 }
 
-/// The whole screen: its sides, its bytes and a line feed.
-fn dump<K: Sink>(server: &Server, out: &mut Outbox, sink: &mut K) -> Result<(), Failed>
-    ensures told { MatchResult result
-        (λ _. Obeyed Done (Dump ∷ []) server.now.state server.now.state (output (K.held sink.old) out.old) (output (K.held sink.new) out.new))
-        (λ _. Obeyed WriteFault (Dump ∷ []) server.now.state server.now.state (output (K.held sink.old) out.old) (output (K.held sink.new) out.new)) }
+/// Puts a whole screen of this shape: its sides, its bytes and a line feed.
+fn say_screen<K: Sink>(
+    shape: Shape,
+    screen: &[u8],
+    out: &mut Outbox,
+    sink: &mut K,
+) -> Result<(), Failed>
+    ensures ok { OnOk result (Puts (output (K.held sink.old) out.old) (output (K.held sink.new) out.new) (dump_text shape screen.now)) }
+    ensures err { OnErr result (PutsFront (output (K.held sink.old) out.old) (output (K.held sink.new) out.new) (dump_text shape screen.now)) }
     ensures later { K.faults sink.old ≤ K.faults sink.new }
     ensures cause { OnErr result (Rose (K.faults sink.old) (K.faults sink.new)) }
     ensures steady { OnOk result (K.faults sink.new ≡ K.faults sink.old) }
 {
-    match say(&dump_line(server.shape()), out, sink) {
+    match say(&dump_line(shape), out, sink) {
         Ok(()) => {}
         Err(failed) => return Err(failed),
     }
-    match out.put(server.picture(), sink) {
+    match out.put(screen, sink) {
         Ok(()) => {}
         Err(failed) => return Err(failed),
     }
     out.put(b"\n", sink)
+}
+
+/// The whole screen.
+fn dump<K: Sink>(server: &Server, out: &mut Outbox, sink: &mut K) -> Result<(), Failed>
+    requires valid { IsState server.now.state }
+    ensures { Obeyed (wrote result) (Dump ∷ [])
+        (at server.now.state (K.held sink.old) out.old (K.faults sink.old))
+        (at server.now.state (K.held sink.new) out.new (K.faults sink.new)) }
+{
+    say_screen(server.shape(), server.picture(), out, sink)
 }
 
 /// Carries out an order, with its lines of output.
@@ -238,13 +226,9 @@ pub fn obey<K: Sink>(
     requires valid { IsState server.old.state }
     requires suits { Suits order.now }
     requires payload { length payload.now ≡ payload_of order.now }
-    ensures told { MatchResult result
-        (λ _. Obeyed Done (events_of_order order.now payload.now) server.old.state server.new.state (output (K.held sink.old) out.old) (output (K.held sink.new) out.new))
-        (λ _. Obeyed WriteFault (events_of_order order.now payload.now) server.old.state server.new.state (output (K.held sink.old) out.old) (output (K.held sink.new) out.new)) }
-    ensures still_valid { IsState server.new.state }
-    ensures later { K.faults sink.old ≤ K.faults sink.new }
-    ensures cause { OnErr result (Rose (K.faults sink.old) (K.faults sink.new)) }
-    ensures steady { OnOk result (K.faults sink.new ≡ K.faults sink.old) }
+    ensures { Obeyed (wrote result) (events_of_order order.now payload.now)
+        (at server.old.state (K.held sink.old) out.old (K.faults sink.old))
+        (at server.new.state (K.held sink.new) out.new (K.faults sink.new)) }
 {
     match order {
         Order::Nothing => Ok(()),

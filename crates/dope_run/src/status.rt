@@ -4,7 +4,7 @@
 ///
 /// - `Done`: the script was read to its end, and all its output was written.
 /// - `ReadFault`, `WriteFault`: the source, or the sink, failed.
-/// - `Usage`: the words aren't the plain form of a command.
+/// - `Usage`: the words order no command that is built.
 /// - `BadScript`: that line, counted from 1, is the first outside the grammar.
 /// - `NoMemory`: there was no memory to open the server.
 /// - `TooMuch`: the script has more than 67,108,864 bytes.

@@ -1,5 +1,5 @@
 -- Drawing bands: none drawn, and one band after those of other widgets.
-use Rattle.std.proofs.Common.{◌≡◌, ℕ, zero, suc, ◌+◌, ◌*◌, ◌<◌, ◌≤◌, ℤ, pos, Bool, true, false, cond, ◌&&◌, ◌||◌, List, [], ◌∷◌, length, get_or, take, refl, sym, ap, ◌∙◌, arith}
+use Rattle.std.proofs.Common.{◌≡◌, ℕ, zero, suc, ◌+◌, ◌-◌, ◌*◌, ◌<◌, ◌≤◌, ℤ, pos, Bool, true, false, cond, ◌&&◌, ◌||◌, List, [], ◌∷◌, length, get_or, take, refl, sym, ap, ◌∙◌, arith}
 use Rattle.std.specs.Prelude.{Option, Some, None, nat_eq}
 use Rattle.std.specs.List.{list_any}
 use Rattle.std.specs.Option.{option_map, option_map_or}
@@ -8,7 +8,9 @@ use Rattle.std.proofs.Math.Bool.{and-false, or-false}
 use Rattle.std.proofs.lemmas.Bool.{true≢false, false≢true, eq-eqb, and_parts, or_parts, or_from, false_from_ne_true}
 use Rattle.std.proofs.lemmas.List.{take_more}
 use Rattle.std.proofs.lemmas.List.Folds.{list_any-append}
-use Rattle.canvas_core.specs.Screen.{Screen, IsScreen, pixel_of}
+use Rattle.canvas_core.specs.Screen.{Screen, IsScreen, pixel_of, risen}
+use Rattle.canvas_core.proofs.Span.{risen-none, risen-then}
+use Rattle.painter_core.proofs.PaintedLemmas.{risen_by-none, risen_by-then}
 use Rattle.geom_core.specs.Count.{count_in, screen_of}
 use Rattle.geom_core.proofs.CountLemmas.{count_in-parts, count_rows-none}
 use Rattle.tree_core.specs.declared.id.Id.{Id}
@@ -98,15 +100,18 @@ BandsDrawn-none view screen is = record {
   pixels = λ x y hx hy. refl;
   counted = sym (count_rows-none (shows_a_band view []) (pos 0) view.width (pos 0) view.height (λ x y. refl));
   writes = omega arith;
+  all_writes = risen-none screen.all_writes is.all_writes_fit;
+  spans_grow = omega arith;
+  all_spans = risen_by-none screen.all_spans screen.spans is.all_spans_fit;
   width = refl;
   height = refl;
   canvas = is;
 }
 
 pub BandsDrawn-then : (view : View) (bands : List (Id × Band)) (i : ℕ) (d : Id × Band) (count n : ℕ) (old mid new : Screen) → IsWidgets view.tree.now → AreOfOneEach bands → i < length bands → BandsDrawn view (take i bands) count old mid
-    → ShowsScene (view_shows_band view (get_or bands i d).0.key (get_or bands i d).1) (scene_of view) mid new → n ≡ count_in (view_shows_band view (get_or bands i d).0.key (get_or bands i d).1) (screen_of view.width view.height) → new.writes ≡ mid.writes + n → new.width ≡ mid.width → new.height ≡ mid.height → IsScreen new
+    → ShowsScene (view_shows_band view (get_or bands i d).0.key (get_or bands i d).1) (scene_of view) mid new → n ≡ count_in (view_shows_band view (get_or bands i d).0.key (get_or bands i d).1) (screen_of view.width view.height) → new.writes ≡ mid.writes + n → new.all_writes ≡ risen mid.all_writes n → mid.spans ≤ new.spans → new.all_spans ≡ risen mid.all_spans (new.spans - mid.spans) → new.width ≡ mid.width → new.height ≡ mid.height → IsScreen new
     → BandsDrawn view (take (i + 1) bands) (count + n) old new
-BandsDrawn-then view bands i d count n old mid new valid each h drawn shows counted writes width height is =
+BandsDrawn-then view bands i d count n old mid new valid each h drawn shows counted writes all_writes spans_grow all_spans width height is =
     let next = get_or bands i d in
     let some = shows_a_band view (take i bands) in
     let here = view_shows_band view next.0.key next.1 in
@@ -120,6 +125,9 @@ BandsDrawn-then view bands i d count n old mid new valid each h drawn shows coun
           ∙ ap (λ k. count_in some (screen_of view.width view.height) + k) counted
           ∙ sym (count_in-parts (shows_a_band view (take (i + 1) bands)) some here (screen_of view.width view.height) (λ x y on. shows-more view bands i d x y h) (λ x y on. bands_apart_from view (take i bands) next x y valid (one_each-at bands i d each h)));
       writes = omega (arith, drawn.writes, writes);
+      all_writes = all_writes ∙ ap (λ k. risen k n) drawn.all_writes ∙ risen-then old.all_writes count n;
+      spans_grow = omega (arith, drawn.spans_grow, spans_grow);
+      all_spans = risen_by-then old.all_spans mid.all_spans new.all_spans old.spans mid.spans new.spans drawn.all_spans all_spans drawn.spans_grow spans_grow;
       width = width ∙ drawn.width;
       height = height ∙ drawn.height;
       canvas = is;

@@ -1,5 +1,5 @@
 -- Drawing: nothing drawn, one rectangle, and one drawing after another.
-use Rattle.std.proofs.Common.{◌≡◌, ℕ, suc, ◌+◌, ◌/◌, ◌%◌, ◌<◌, pos, Bool, true, false, not, ◌&&◌, cond, List, [], ◌∷◌, length, get_or, refl, sym, ap, ◌∙◌, arith}
+use Rattle.std.proofs.Common.{◌≡◌, ℕ, suc, ◌+◌, ◌-◌, ◌/◌, ◌%◌, ◌<◌, ◌≤◌, pos, Bool, true, false, not, ◌&&◌, cond, List, [], ◌∷◌, length, get_or, refl, sym, ap, ◌∙◌, arith}
 use Rattle.std.proofs.lemmas.Bool.{false≢true}
 use Rattle.std.proofs.lemmas.List.Sums.{sum_by-cons}
 use Rattle.std.proofs.lemmas.Nat.{div-add-mod', div_below, mod_below}
@@ -7,11 +7,13 @@ use Rattle.std.proofs.Math.Nat.{mul_comm}
 use Rattle.geom_core.specs.declared.rectangle.Rect.{Rect}
 use Rattle.geom_core.specs.Rect.{in_rect, area_of}
 use Rattle.geom_core.specs.Count.{true_count}
-use Rattle.canvas_core.specs.Screen.{Screen, IsScreen, pixel_of}
+use Rattle.canvas_core.specs.Screen.{Screen, IsScreen, pixel_of, risen}
+use Rattle.canvas_core.proofs.Span.{risen-none, risen-then}
 use Rattle.scene_model.specs.Scene.{Scene}
 use Rattle.scene_model.specs.Colours.{colour_at}
 use Rattle.redraw_core.specs.Dirt.{Dirt, IsDirt, IsClean, IsTaken, is_dirty, dirty_count}
 use Rattle.painter_core.specs.Painting.{ShowsScene}
+use Rattle.painter_core.proofs.PaintedLemmas.{risen_by-none, risen_by-then}
 use Rattle.drawing_core.specs.Drawing.{Drawn, was_cleaned}
 
 stays : (b : Bool) (drawn before : ℕ) → before ≡ cond (b && not b) drawn before
@@ -24,6 +26,9 @@ Drawn-nothing scene dirt screen is fine = record {
   cleans = λ x y hx hy on. on;
   cleaned = omega arith;
   writes = omega arith;
+  all_writes = risen-none screen.all_writes fine.all_writes_fit;
+  spans_grow = omega arith;
+  all_spans = risen_by-none screen.all_spans screen.spans fine.all_spans_fit;
   dirt_width = refl;
   dirt_height = refl;
   dirt = is;
@@ -45,9 +50,9 @@ taken_was false inside now e on = sym e ∙ on
 
 -- a rectangle that was taken out of the dirt and painted
 pub Drawn-piece : (scene : Scene) (n : ℕ) (rect : Rect) (old : Dirt) (screen : Screen) (new : Dirt) (drawn : Screen) → old.width ≡ screen.width → old.height ≡ screen.height → IsTaken n rect old new → dirty_count new + area_of rect ≡ dirty_count old → new.width ≡ old.width → new.height ≡ old.height → IsDirt new
-    → ShowsScene (in_rect rect) scene screen drawn → drawn.writes ≡ screen.writes + area_of rect → drawn.width ≡ screen.width → drawn.height ≡ screen.height → IsScreen drawn
+    → ShowsScene (in_rect rect) scene screen drawn → drawn.writes ≡ screen.writes + area_of rect → drawn.all_writes ≡ risen screen.all_writes (area_of rect) → screen.spans ≤ drawn.spans → drawn.all_spans ≡ risen screen.all_spans (drawn.spans - screen.spans) → drawn.width ≡ screen.width → drawn.height ≡ screen.height → IsScreen drawn
     → Drawn scene old screen (area_of rect) new drawn
-Drawn-piece scene n rect old screen new drawn width height taken fewer w h is shows writes w' h' fine = record {
+Drawn-piece scene n rect old screen new drawn width height taken fewer w h is shows writes all_writes spans_grow all_spans w' h' fine = record {
   pixels = λ x y hx hy.
       let inside = in_rect rect (pos x) (pos y) in
       let mark : inside ≡ was_cleaned old new x y =
@@ -56,6 +61,9 @@ Drawn-piece scene n rect old screen new drawn width height taken fewer w h is sh
   cleans = λ x y hx hy on. taken_was (is_dirty old x y) (in_rect rect (pos x) (pos y)) (is_dirty new x y) (taken.pixels x y hx hy) on;
   cleaned = fewer;
   writes = writes;
+  all_writes = all_writes;
+  spans_grow = spans_grow;
+  all_spans = all_spans;
   dirt_width = w;
   dirt_height = h;
   dirt = is;
@@ -84,6 +92,9 @@ Drawn-then scene old screen n mid between m new drawn one two = record {
   cleans = λ x y hx hy on. one.cleans x y hx hy (two.cleans x y (omega (arith, one.dirt_width)) (omega (arith, one.dirt_height)) on);
   cleaned = omega (arith, one.cleaned, two.cleaned);
   writes = omega (arith, one.writes, two.writes);
+  all_writes = two.all_writes ∙ ap (λ k. risen k m) one.all_writes ∙ risen-then screen.all_writes n m;
+  spans_grow = omega (arith, one.spans_grow, two.spans_grow);
+  all_spans = risen_by-then screen.all_spans between.all_spans drawn.all_spans screen.spans between.spans drawn.spans one.all_spans two.all_spans one.spans_grow two.spans_grow;
   dirt_width = two.dirt_width ∙ one.dirt_width;
   dirt_height = two.dirt_height ∙ one.dirt_height;
   dirt = two.dirt;

@@ -14,7 +14,7 @@ use vscreen_core::Band;
 
 /// Draws the bands of these widgets' films wherever the screen shows them, and answers how many pixels that is: exactly
 /// the screen's pixels on which one of the widgets is on top, at a pixel of its film that is in its band, get their
-/// colour, each is written once, and no other pixel changes.
+/// colour, as many bytes are written, by the counts of all time too, and no other pixel changes.
 ///
 /// Each widget is live, and none is named twice; where it has no film, or no open window shows it, nothing is drawn of
 /// it. The canvas and the view have one size, the view's widgets and the places that are kept of them are as every call

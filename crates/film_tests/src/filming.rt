@@ -119,11 +119,16 @@ pub fn plays(rt: &impl Abort, alloc: Global, w: u32, h: u32, table: &str) -> Res
 {
     let mut film = Film::new(alloc, w, h)?;
     assert_eq!(rt; (film.width(), film.height(), film.period()), (w, h, 0));
+    goes_on(rt, alloc, &mut film, table)
+}
+
+/// The film is played on by the rows of the table.
+pub fn goes_on(rt: &impl Abort, alloc: Global, film: &mut Film, table: &str) -> Result<(), Fail> {
     for text in table.lines() {
         if text.is_empty() || text.starts_with('#') {
             continue;
         }
-        row(rt, alloc, &mut film, text)?;
+        row(rt, alloc, film, text)?;
     }
     Ok(())
 }

@@ -8,6 +8,8 @@ mod admitting;
 #[cfg(test)]
 mod bands;
 #[cfg(test)]
+mod copying;
+#[cfg(test)]
 mod filming;
 #[cfg(test)]
 mod frames;

@@ -8,6 +8,7 @@ pub mod laws;
 mod rectangle;
 mod spans;
 mod splits;
+pub mod threads;
 
 pub use cuts::cut;
 pub use fronts::{Front, take_front};

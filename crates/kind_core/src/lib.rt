@@ -9,6 +9,7 @@ mod room;
 mod shapes;
 mod table;
 mod texts;
+pub mod threads;
 mod values;
 
 pub use kinds::{Attr, EventKind, Kind};

@@ -73,7 +73,7 @@ fn texts_of_refusals_8_to_15(rt: HostRuntime) {
 }
 
 #[test]
-fn texts_of_refusals_16_to_30(rt: HostRuntime) {
+fn texts_of_refusals_16_to_22(rt: HostRuntime) {
     says(
         &rt,
         Refusal::Budget { need: 40, left: 10 },
@@ -89,5 +89,4 @@ fn texts_of_refusals_16_to_30(rt: HostRuntime) {
     says(&rt, Refusal::NotConnected, "error 20");
     says(&rt, Refusal::NotHere, "error 21");
     says(&rt, Refusal::Connected, "error 22");
-    says(&rt, Refusal::JournalFull, "error 30");
 }

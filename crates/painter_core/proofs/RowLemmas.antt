@@ -4,7 +4,7 @@ use Rattle.std.specs.Prelude.{nat_le, nat_lt, nat_eq, Option, Some, None, IfSome
 use Rattle.std.proofs.Math.Nat.{mul-le-mul_left}
 use Rattle.std.proofs.lemmas.Bool.Decides.{nat_tests}
 use Rattle.std.proofs.lemmas.Int.{ints}
-use Rattle.canvas_core.specs.Screen.{Screen, IsScreen, place, pixel_of, in_span}
+use Rattle.canvas_core.specs.Screen.{Screen, IsScreen, place, pixel_of, in_span, risen}
 use Rattle.canvas_core.specs.Lending.{with_row}
 use Rattle.canvas_core.proofs.Span.{get_or-with_span, written-with_span, place-fits, IsScreen-with_row}
 use Rattle.geom_core.specs.declared.rectangle.Rect.{Rect}
@@ -62,6 +62,9 @@ filled_at s x y w row colour valid across down some len fits drawn = record {
     width = refl;
     height = refl;
     writes = omega arith;
+    all_writes = ap (λ n. risen s.all_writes n) (omega arith);
+    spans_grow = omega arith;
+    all_spans = ap (λ n. risen s.all_spans n) (omega arith);
     valid = IsScreen-with_row s (place s x y) w row valid fits;
     pixels = line_pixels s x y w row colour valid across down len drawn;
   };

@@ -1,6 +1,6 @@
 -- An inner word of the proofs: what painting does to a screen.
-use Rattle.std.specs.Prelude.{◌≡◌, ℕ, ◌+◌, ◌<◌, ◌≤◌, ℤ, pos, Bool, true, ◌&&◌, List, Option, None, if◌then◌else◌}
-use Rattle.canvas_core.specs.Screen.{Screen, IsScreen, pixel_of}
+use Rattle.std.specs.Prelude.{◌≡◌, ℕ, ◌+◌, ◌-◌, ◌<◌, ◌≤◌, ℤ, pos, Bool, true, ◌&&◌, List, Option, None, if◌then◌else◌}
+use Rattle.canvas_core.specs.Screen.{Screen, IsScreen, pixel_of, risen}
 use Rattle.geom_core.specs.declared.rectangle.Rect.{Rect}
 use Rattle.geom_core.specs.Rect.{in_rect, area_of, IsInside}
 use Rattle.geom_core.specs.Pieces.{covers, total_area}
@@ -8,11 +8,15 @@ use Rattle.geom_core.specs.Count.{count_in}
 use Rattle.painter_core.specs.Layers.{Layers}
 use Rattle.painter_core.specs.Trail.{last_of, is_wanted}
 
--- The pixels of the set have their colours, the others are as they were, and so many bytes were written.
+-- The pixels of the set have their colours, the others are as they were, and so many bytes were written, of which the
+-- count of all time tells too. Of spans it tells as many as the count since the last start.
 pub record Painted (set : ℤ → ℤ → Bool) (colour : ℤ → ℤ → ℕ) (count : ℕ) (old new : Screen) : Type 0 where
   pub width : new.width ≡ old.width
   pub height : new.height ≡ old.height
   pub writes : new.writes ≡ old.writes + count
+  pub all_writes : new.all_writes ≡ risen old.all_writes count
+  pub spans_grow : old.spans ≤ new.spans
+  pub all_spans : new.all_spans ≡ risen old.all_spans (new.spans - old.spans)
   pub valid : IsScreen new
   pub pixels : (x y : ℕ) → x < old.width → y < old.height
       → pixel_of new x y ≡ (if set (pos x) (pos y) then colour (pos x) (pos y) else pixel_of old x y)

@@ -1,5 +1,5 @@
-ghost use Rattle.std.specs.Prelude.{◌≡◌, ◌+◌, ◌*◌, ◌^◌, ◌<◌, ◌≤◌, ℤ, true, Some, None};
-ghost use Rattle.canvas_core.specs.Screen.{IsScreen};
+ghost use Rattle.std.specs.Prelude.{◌≡◌, ◌+◌, ◌-◌, ◌*◌, ◌^◌, ◌<◌, ◌≤◌, ℤ, true, Some, None};
+ghost use Rattle.canvas_core.specs.Screen.{IsScreen, risen};
 ghost use Rattle.geom_core.specs.Count.{count_in, screen_of};
 ghost use Rattle.geom_core.specs.Pieces.{covers, total_area, AreDisjoint, HavePixels};
 ghost use Rattle.geom_core.specs.Rect.{in_rect};
@@ -68,8 +68,8 @@ fn paint_parts(view: &View<'_>, id: u32, parts: &[Rect], canvas: &mut Canvas) ->
 
 /// Draws a band of the widget's film wherever the screen shows it, and answers how many pixels that is: exactly the
 /// screen's pixels on which the widget is on top, at a pixel of its film that is in the band, get their colour, and no
-/// other pixel changes. Each of them is written once. A band is drawn as at most three rectangles: the rest of its first
-/// row, whole rows, and the start of its last row.
+/// other pixel changes. As many bytes are written, by the counts of all time too. A band is drawn as at most three
+/// rectangles: the rest of its first row, whole rows, and the start of its last row.
 ///
 /// The widget is live; where it has no film, or no open window shows it, nothing is drawn. The canvas has the view's size,
 /// and its count of writes has room for all pixels of the screen. The view is as every call of a desk leaves it. Nothing
@@ -85,6 +85,9 @@ pub fn paint_band(id: Id, band: Band, view: &View<'_>, canvas: &mut Canvas) -> u
     ensures pixels { ShowsScene (view_shows_band view.now id.key band) (scene_of view.now) canvas.old canvas.new }
     ensures count { result ≡ count_in (view_shows_band view.now id.key band) (screen_of view.now.width view.now.height) }
     ensures writes { canvas.new.writes ≡ canvas.old.writes + result }
+    ensures all_writes { canvas.new.all_writes ≡ risen canvas.old.all_writes result }
+    ensures spans_grow { canvas.old.spans ≤ canvas.new.spans }
+    ensures all_spans { canvas.new.all_spans ≡ risen canvas.old.all_spans (canvas.new.spans - canvas.old.spans) }
     ensures width { canvas.new.width ≡ canvas.old.width }
     ensures height { canvas.new.height ≡ canvas.old.height }
     ensures valid { IsScreen canvas.new }

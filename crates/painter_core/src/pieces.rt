@@ -1,5 +1,5 @@
-ghost use Rattle.std.specs.Prelude.{◌≡◌, ◌+◌, ◌^◌, ◌<◌};
-ghost use Rattle.canvas_core.specs.Screen.{IsScreen};
+ghost use Rattle.std.specs.Prelude.{◌≡◌, ◌+◌, ◌-◌, ◌^◌, ◌<◌, ◌≤◌};
+ghost use Rattle.canvas_core.specs.Screen.{IsScreen, risen};
 ghost use Rattle.geom_core.specs.Rect.{area_of, in_rect, IsInside};
 ghost use Rattle.geom_core.specs.Count.{screen_of};
 ghost use Rattle.painter_core.specs.Painting.{ShowsScene, HasOneTop};
@@ -14,8 +14,8 @@ use scene_core::View;
 pub const LEVELS: u32 = 13;
 
 /// Draws the piece, a rectangle of pixels of the screen, as the view shows it: each of its pixels gets its colour, and
-/// no other pixel changes. Each pixel is written once. A piece that one widget shows, or none does, is written in whole
-/// rows, a span for each.
+/// no other pixel changes. As many bytes are written as it has pixels, by the counts of all time too. A piece that one
+/// widget shows, or none does, is written in whole rows, a span for each.
 ///
 /// The canvas has the view's size, the piece is on it, and its count of writes has room for the piece's area. The
 /// view's widgets and the places that are kept of them are as every call of a desk leaves them. Nothing is refused, and
@@ -30,6 +30,9 @@ pub fn paint(piece: Rect, view: &View<'_>, canvas: &mut Canvas)
     requires count_fits { canvas.old.writes + area_of piece < 2 ^ 32 }
     ensures pixels { ShowsScene (in_rect piece) (scene_of view.now) canvas.old canvas.new }
     ensures writes { canvas.new.writes ≡ canvas.old.writes + area_of piece }
+    ensures all_writes { canvas.new.all_writes ≡ risen canvas.old.all_writes (area_of piece) }
+    ensures spans_grow { canvas.old.spans ≤ canvas.new.spans }
+    ensures all_spans { canvas.new.all_spans ≡ risen canvas.old.all_spans (canvas.new.spans - canvas.old.spans) }
     ensures spans { 0 < area_of piece → HasOneTop (scene_of view.now) piece → canvas.new.spans ≡ canvas.old.spans + piece.h }
     ensures width { canvas.new.width ≡ canvas.old.width }
     ensures height { canvas.new.height ≡ canvas.old.height }

@@ -14,6 +14,7 @@ mod runs;
 mod slices;
 mod store;
 mod taking;
+pub mod threads;
 
 pub use no_memory::NoMemory;
 pub use queue::Queue;

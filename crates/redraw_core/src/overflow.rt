@@ -2,6 +2,7 @@ ghost use Rattle.std.specs.Prelude.{◌≡◌, ◌≤◌, ◌*◌, ◌<◌, pos,
 ghost use Rattle.geom_core.specs.Rect.{in_rect, IsEnclosed};
 ghost use Rattle.geom_core.specs.Count.{screen_of};
 ghost use Rattle.redraw_core.specs.Dirt.{IsDirt, IsClean, IsTaken, EachPixel, is_dirty, dirty_count};
+ghost use Rattle.redraw_core.specs.Marking.{IsLongest};
 
 use crate::no_memory::NoMemory;
 use crate::rows::{corner_of, erase_rows, mark_rows};
@@ -135,7 +136,8 @@ impl Overflow {
         self.count -= erase_rows(&mut self.cells, self.width, rect);
     }
 
-    /// Takes a run of 1 to `n` true values of one row, which become false; None exactly where none is true.
+    /// Takes a run of 1 to `n` true values of one row, which become false; None exactly where none is true. It has
+    /// `n` of them, or ends where its row does, or a false one follows it.
     pub fn take_run(&mut self, n: u32) -> Option<Rect>
         requires { 1 ≤ n }
         ensures width { self.new.width ≡ self.old.width }
@@ -143,6 +145,7 @@ impl Overflow {
         ensures none { IfNone result (IsClean self.old) }
         ensures unchanged { IfNone result (self.new ≡ self.old) }
         ensures taken { IfSome result (λ rect. IsTaken n rect self.old self.new) }
+        ensures longest { IfSome result (λ rect. IsLongest n rect self.old) }
         ensures valid { IsDirt self.new }
     {
         if self.count == 0 {

@@ -1,5 +1,5 @@
 // Runs of one row of the screen, as rectangles.
-ghost use Rattle.std.specs.Prelude.{◌≡◌, ◌+◌, ◌-◌, ◌*◌, ◌/◌, ◌%◌, ◌<◌, ◌≤◌, ◌^◌, pos};
+ghost use Rattle.std.specs.Prelude.{◌≡◌, ◌+◌, ◌-◌, ◌*◌, ◌/◌, ◌%◌, ◌<◌, ◌≤◌, ◌^◌, pos, min};
 
 use geom_core::Rect;
 
@@ -11,6 +11,7 @@ pub fn last_end(start: usize, width: u32, n: u32) -> usize
     ensures after { start < result }
     ensures most { result ≤ start + n }
     ensures row { result ≤ start - start % width + width }
+    ensures greatest { result ≡ min (start + n) (start - start % width + width) }
 {
     let row = start - start % width as usize;
     (start + n as usize).min(row + width as usize)

@@ -1,5 +1,5 @@
 // Dirt taken: the front of the last rectangle, or a run of the map where no rectangle is kept.
-ghost use Rattle.std.specs.Prelude.{◌≡◌, ◌<◌, ◌≤◌, ℤ, pos, true, false, ◌&&◌, ◌++◌, ◌∷◌, [], length, drop, IfNone, IfSome};
+ghost use Rattle.std.specs.Prelude.{◌≡◌, ◌+◌, ◌<◌, ◌≤◌, ℤ, pos, true, false, ◌&&◌, ◌++◌, ◌∷◌, [], length, drop, IfNone, IfSome};
 ghost use Rattle.geom_core.specs.Rect.{in_rect, area_of};
 ghost use Rattle.geom_core.specs.Pieces.{covers, AreDisjoint, HavePixels};
 ghost use Rattle.geom_core.specs.Count.{screen_of};
@@ -18,6 +18,7 @@ fn whole_rows(rect: Rect, n: u32) -> u64
     ensures least { 1 ≤ result }
     ensures most { result ≤ n }
     ensures whole { area_of rect ≤ n → area_of rect ≤ result }
+    ensures rows { rect.w ≤ n → n < area_of rect → n < result + rect.w }
 {
     if area(rect) <= u64::from(n) || n < rect.w {
         return u64::from(n);

@@ -33,7 +33,7 @@ fn add_checkers(queue: &mut Queue) -> u32 {
 }
 
 /// Adds `most` pixels of which no two touch, one by one, and answers the count.
-fn add_apart(queue: &mut Queue, most: u32) -> u32 {
+pub fn add_apart(queue: &mut Queue, most: u32) -> u32 {
     for k in 0..most {
         queue.add(pixel(k % 32 * 2, k / 32 * 2));
     }

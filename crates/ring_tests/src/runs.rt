@@ -112,3 +112,28 @@ none
 fn each_loss_is_told_once(rt: HostRuntime) -> Result<(), Fail> {
     run(&rt, &mut Ring::new(rt.alloc())?, PAUSES)
 }
+
+/// 40 keys, of which a few were told: the kept ones go round the end of the room.
+const BEFORE: &str = "
+post 1 30
+told 1 20
+post 31 62
+";
+
+const AFTER: &str = "
+lost 10
+told 31 40
+post 63 72
+told 41 72
+none
+";
+
+/// Both are polled to the end, one after the other: neither changes what the other keeps.
+#[test]
+fn a_copy_tells_what_its_ring_tells(rt: HostRuntime) -> Result<(), Fail> {
+    let mut ring = Ring::new(rt.alloc())?;
+    run(&rt, &mut ring, BEFORE)?;
+    let mut copy = ring.copy()?;
+    run(&rt, &mut ring, AFTER)?;
+    run(&rt, &mut copy, AFTER)
+}

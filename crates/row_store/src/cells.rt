@@ -1,4 +1,4 @@
-ghost use Rattle.std.specs.Prelude.{◌≡◌, ◌<◌, ◌≤◌, ◌+◌, ◌-◌, ◌*◌, ℕ, [], None, OnOk, length, slice_set, slice_index_or};
+ghost use Rattle.std.specs.Prelude.{◌≡◌, ◌<◌, ◌≤◌, ◌+◌, ◌-◌, ◌*◌, ℕ, [], None, OnOk, IfOk, length, slice_set, slice_index_or};
 ghost use Rattle.widget_model.specs.Rows.{IsIndex};
 ghost use Rattle.row_store.specs.CellTable.{cell_offset};
 
@@ -48,6 +48,15 @@ impl Cells {
         Cells {
             children: Vec::new(alloc),
         }
+    }
+
+    /// The same children in the same cells, in one move. An error, which is want of memory, leaves nothing behind.
+    pub fn copy(&self) -> Result<Cells, AllocError>
+        ensures { IfOk result (λ copy. copy ≡ self.now) }
+    {
+        Ok(Cells {
+            children: Vec::from_slice(*self.children.allocator(), &self.children)?,
+        })
     }
 
     /// Makes cells for the client's widgets, client 1 to 16. An error, which is want of memory, leaves each

@@ -1,4 +1,4 @@
-ghost use Rattle.std.specs.Prelude.{◌≡◌, ◌<◌, ◌≤◌, ◌+◌, ◌*◌, ◌-◌, [], None, OnOk, length, slice_set, slice_index_or};
+ghost use Rattle.std.specs.Prelude.{◌≡◌, ◌<◌, ◌≤◌, ◌+◌, ◌*◌, ◌-◌, [], None, OnOk, IfOk, length, slice_set, slice_index_or};
 ghost use Rattle.widget_model.specs.KeptPlaces.{most_numbers, no_places, place_in, placed, emptied, unplaced};
 ghost use Rattle.row_store.specs.KeptSlots.{filled_up, kept_of};
 
@@ -42,6 +42,15 @@ impl KeptPlaces {
         KeptPlaces {
             places: Vec::new(alloc),
         }
+    }
+
+    /// The same places in the same slots, in one move. An error, which is want of memory, leaves nothing behind.
+    pub fn copy(&self) -> Result<KeptPlaces, AllocError>
+        ensures { IfOk result (λ copy. copy ≡ self.now) }
+    {
+        Ok(KeptPlaces {
+            places: Vec::from_slice(*self.places.allocator(), &self.places)?,
+        })
     }
 
     /// Makes the slots of the client's numbers, client 1 to 16, and of all lower ones. An error, which is want of

@@ -11,6 +11,7 @@ mod names;
 mod row;
 mod slots;
 mod store;
+pub mod threads;
 
 pub use cells::Cells;
 pub use change::Change;

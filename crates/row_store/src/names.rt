@@ -1,4 +1,4 @@
-ghost use Rattle.std.specs.Prelude.{◌≡◌, ◌++◌, ◌∷◌, [], None, IsSome, is_ok, if◌then◌else◌, not, nat_eq};
+ghost use Rattle.std.specs.Prelude.{◌≡◌, ◌++◌, ◌∷◌, [], None, IsSome, IfOk, is_ok, if◌then◌else◌, not, nat_eq};
 ghost use Rattle.std.specs.List.{filter};
 ghost use Rattle.widget_model.specs.Rows.{new_row};
 ghost use Rattle.widget_model.specs.Nodes.{id_named};
@@ -43,6 +43,25 @@ impl Names {
             numbers: IndexMap::new(alloc),
         }
     }
+
+    /// The same numbers under the same names, in the same order. An error, which is want of memory, leaves nothing
+    /// behind.
+    pub fn copy(&self) -> Result<Names, AllocError>
+        ensures { IfOk result (λ copy. copy ≡ self.now) }
+    {
+        Ok(Names {
+            numbers: copy_numbers(&self.numbers)?,
+        })
+    }
+}
+
+/// The same numbers under the same names, in the same order.
+fn copy_numbers(
+    numbers: &IndexMap<(u32, Name), u32>,
+) -> Result<IndexMap<(u32, Name), u32>, AllocError>
+    ensures { IfOk result (λ copy. copy.entries ≡ numbers.now.entries) }
+{
+    numbers.clone()
 }
 
 /// The number of the client's row of that name, None exactly where there is none. One look-up in a hash map.

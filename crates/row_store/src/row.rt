@@ -1,4 +1,4 @@
-ghost use Rattle.std.specs.Prelude.{◌≡◌};
+ghost use Rattle.std.specs.Prelude.{◌≡◌, IfOk};
 ghost use Rattle.std.specs.Option.{option_copied};
 ghost use Rattle.widget_model.specs.Rows.{new_row, first_values, default_at, attr_of, IsIndex, column_rule_of, row_rule_of, binding_of, with_film};
 ghost use Rattle.row_store.specs.Changes.{changed_by, CanBeMade};
@@ -6,6 +6,7 @@ ghost use Rattle.row_store.specs.Changes.{changed_by, CanBeMade};
 use crate::change::Change;
 use crate::slots::{attr_slot, event_slot};
 use kind_core::{Attr, Cell, EventKind, Kind, Name, Value, default_of};
+use std::alloc::AllocError;
 use std::marker::Model;
 use std::mem;
 use vscreen_core::Film;
@@ -32,6 +33,56 @@ impl Model for Row {
     ghost Value = { Seen };
 
     ghost view = { λ r. record { client = r.client; name = r.name; kind = r.kind; values = r.values; attached = r.attached; column_rules = r.column_rules; row_rules = r.row_rules; link = r.link; bindings = r.bindings; film = r.film } };
+}
+
+impl Clone for Row {
+    ghost is_clone = { λ row copy. copy ≡ row };
+
+    fn clone(&self) -> Result<Row, AllocError> {
+        Ok(Row {
+            client: self.client,
+            name: self.name,
+            kind: self.kind,
+            values: same_values(&self.values),
+            attached: self.attached,
+            column_rules: self.column_rules,
+            row_rules: self.row_rules,
+            link: self.link,
+            bindings: same_tags(&self.bindings),
+            film: copy_film(&self.film)?,
+        })
+    }
+}
+
+/// The same values.
+fn same_values(values: &[Option<Value>; 13]) -> [Option<Value>; 13]
+    ensures { result ≡ values.now }
+{
+    let mut copy = [None; 13];
+    copy.copy_from_slice(values);
+    copy
+}
+
+/// The same tags.
+fn same_tags(tags: &[Option<Name>; 7]) -> [Option<Name>; 7]
+    ensures { result ≡ tags.now }
+{
+    let mut copy = [None; 7];
+    copy.copy_from_slice(tags);
+    copy
+}
+
+/// Another film that equals this one, where there is one.
+fn copy_film(film: &Option<Film>) -> Result<Option<Film>, AllocError>
+    ensures { IfOk result (λ copy. copy ≡ film.now) }
+{
+    match film {
+        Some(film) => match film.copy() {
+            Ok(copy) => Ok(Some(copy)),
+            Err(_) => Err(AllocError),
+        },
+        None => Ok(None),
+    }
 }
 
 /// The default of the kind's attribute.

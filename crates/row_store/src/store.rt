@@ -1,4 +1,4 @@
-ghost use Rattle.std.specs.Prelude.{◌≡◌, ◌<◌, ◌≤◌, not, ◌++◌, ◌∷◌, [], Some, None, IsSome, OnOk, OnErr, length, slice_get, is_some};
+ghost use Rattle.std.specs.Prelude.{◌≡◌, ◌<◌, ◌≤◌, not, ◌++◌, ◌∷◌, [], Some, None, IsSome, OnOk, OnErr, IfOk, length, slice_get, is_some};
 ghost use Rattle.std.specs.Option.{option_copied, option_map};
 ghost use Rattle.std.specs.List.{filter};
 ghost use Rattle.slab.specs.Slab.{get as slab_get};
@@ -51,6 +51,17 @@ impl Store {
             keys: IndexMap::new(alloc),
             rows: Slab::new(alloc),
         }
+    }
+
+    /// Other rows that equal these, under the same numbers and in the same order. An error, which is want of memory,
+    /// leaves nothing behind.
+    pub fn copy(&self) -> Result<Store, AllocError>
+        ensures { IfOk result (λ copy. copy ≡ self.now) }
+    {
+        Ok(Store {
+            keys: copy_keys(&self.keys)?,
+            rows: copy_rows(&self.rows)?,
+        })
     }
 
     /// How many rows there are.
@@ -118,6 +129,20 @@ impl Store {
     {
         take_out(&mut self.keys, &mut self.rows, id);
     }
+}
+
+/// The same keys under the same numbers, in the same order.
+fn copy_keys(keys: &IndexMap<u32, usize>) -> Result<IndexMap<u32, usize>, AllocError>
+    ensures { IfOk result (λ copy. copy.entries ≡ keys.now.entries) }
+{
+    keys.clone()
+}
+
+/// The same rows under the same keys.
+fn copy_rows(rows: &Slab<Row>) -> Result<Slab<Row>, AllocError>
+    ensures { IfOk result (λ copy. slab_get copy ≡ slab_get rows.now) }
+{
+    rows.clone()
 }
 
 /// Takes out the rows under the numbers of the client, 1 to 16, and no others. It tries each of the 128

@@ -41,7 +41,7 @@ fn plays_rows(rt: &impl Abort, alloc: Global, table: &str) -> Result<(), Fail> {
     Ok(())
 }
 
-const OFF_THE_PLAIN_FORM: &str = "play --width 32 --height 32 --budget 10 --spare 11
+const REFUSED_WORDS: &str = "play --width 32 --height 32 --budget 10 --spare 11
 ~
 play
 Play --width 32 --height 32 --budget 100 --spare 10
@@ -51,9 +51,10 @@ play --width 32 --height 32 --budget 100
 play --width 32 --height 32 --budget 100 --spare
 play --width 32 --height 32 --budget 100 --spare 10 now
 play --width 32 --height 32 --budget 100 --spare 10 ~
-play --height 32 --width 32 --budget 100 --spare 10
-play --width 32 --height 32 --spare 10 --budget 100
-play --width=32 --height 32 --budget 100 --spare 10
+play --width 32 --width 32 --height 32 --budget 100 --spare 10
+play --width 32 --height 32 --budget 100 --spare 10 --depth 8
+view
+check
 play -width 32 --height 32 --budget 100 --spare 10
 play --width 00000032 --height 32 --budget 100 --spare 10
 play --width +32 --height 32 --budget 100 --spare 10
@@ -69,16 +70,19 @@ play --width 32 --height 32 --budget 786433 --spare 10
 play --width 32 --height 32 --budget 100 --spare 0";
 
 #[test]
-fn words_off_the_plain_form_are_refused_with_nothing_done(rt: HostRuntime) -> Result<(), Fail> {
-    refuses_words(&rt, rt.alloc(), OFF_THE_PLAIN_FORM)
+fn words_are_refused_with_nothing_done(rt: HostRuntime) -> Result<(), Fail> {
+    refuses_words(&rt, rt.alloc(), REFUSED_WORDS)
 }
 
 #[test]
-fn each_number_of_the_words_is_taken_to_its_ends(rt: HostRuntime) -> Result<(), Fail> {
+fn words_are_taken_in_any_order_and_each_number_to_its_ends(rt: HostRuntime) -> Result<(), Fail> {
     takes_words(
         &rt,
         rt.alloc(),
         "play --width 32 --height 32 --budget 100 --spare 10
+play --height 32 --width 32 --budget 100 --spare 10
+play --width 32 --height 32 --spare 10 --budget 100
+play --width=32 --height 32 --budget 100 --spare 10
 play --width 0000032 --height 032 --budget 0000100 --spare 0000010
 play --width 16 --height 16 --budget 1 --spare 1
 play --width 1024 --height 768 --budget 786432 --spare 786432",

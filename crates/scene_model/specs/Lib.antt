@@ -21,4 +21,3 @@ pub mod TopLaws
 pub mod DependLaws
 pub mod FillLaws
 pub mod LookLaws
-pub mod OpenWindows

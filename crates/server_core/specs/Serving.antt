@@ -1,5 +1,5 @@
--- What contracts see of a server: the state of the machine, and how many pixels and spans were written since the last
--- tick began.
+-- What contracts see of a server: the state of the machine, how many bytes of the screen and spans were written since
+-- the last tick began, and how many of all time, modulo 2^64.
 use Rattle.std.specs.Prelude.{◌≡◌, ℕ, Bool, List}
 use Rattle.canvas_core.specs.Screen.{Screen, IsScreen}
 use Rattle.kind_core.specs.declared.shapes.Shape.{Shape}
@@ -15,6 +15,8 @@ pub record Serving : Type 0 where
   pub state : State
   pub writes : ℕ
   pub spans : ℕ
+  pub all_writes : ℕ
+  pub all_spans : ℕ
 
 -- the state that a server's parts make up
 abbrev pub state_of : Desk → List ℕ → List Bool → State

@@ -6,6 +6,7 @@ mod following;
 pub mod laws;
 mod no_memory;
 mod server;
+pub mod threads;
 
 pub use cmd_words::{Command, Drew, Input, Reply};
 pub use kind_core::Shape;

@@ -1,4 +1,5 @@
 ghost use Rattle.std.specs.Prelude.{◌≡◌, ◌+◌, ◌-◌, ◌≤◌, length, IfOk};
+ghost use Rattle.canvas_core.specs.Screen.{risen};
 ghost use Rattle.scene_model.specs.Shapes.{IsShape};
 ghost use Rattle.desk_model.specs.Seen.{picture};
 ghost use Rattle.cmd_words.specs.declared.replies.Reply.TheVariants.{Done};
@@ -24,9 +25,9 @@ use view_shots::shot;
 
 /// The server: a desk, its screen, and which pixels of it are dirty.
 ///
-/// Contracts see the record `Serving`: the machine's state, and of the time since the last tick began the pixels
-/// and the spans written. Between any two calls each pixel is dirty or has the picture's colour. docs/MACHINE.md has
-/// the rules.
+/// Contracts see the record `Serving`: the machine's state, and the bytes of the screen and the spans written, both
+/// since the last tick began and of all time. Only a tick writes. Between any two calls each pixel is dirty or has the
+/// picture's colour. docs/MACHINE.md has the rules.
 pub struct Server {
     shape: Shape,
     desk: Desk,
@@ -46,6 +47,8 @@ impl Model for Server {
       state = state_of s.desk.desk s.canvas.bytes s.queue.marks;
       writes = s.canvas.writes;
       spans = s.canvas.spans;
+      all_writes = s.canvas.all_writes;
+      all_spans = s.canvas.all_spans;
     } };
 
     ghost invariant = { λ s. IsServing s.shape s.desk.desk s.canvas s.queue × ShowsDesk s.desk s.shown };
@@ -72,6 +75,8 @@ impl Server {
         ensures opens { IfOk result (λ server. server.state ≡ opening shape) }
         ensures unwritten { IfOk result (λ server. server.writes ≡ 0) }
         ensures spans { IfOk result (λ server. server.spans ≡ 0) }
+        ensures all_unwritten { IfOk result (λ server. server.all_writes ≡ 0) }
+        ensures all_spans { IfOk result (λ server. server.all_spans ≡ 0) }
         ensures valid { IfOk result (λ server. IsState server.state) }
     {
         let canvas = match Canvas::new(alloc, shape.width, shape.height) {
@@ -103,6 +108,8 @@ impl Server {
         ensures step { Step self.old.state (Connect client) (Replied result) self.new.state }
         ensures unwritten { self.new.writes ≡ self.old.writes }
         ensures spans { self.new.spans ≡ self.old.spans }
+        ensures all_unwritten { self.new.all_writes ≡ self.old.all_writes }
+        ensures all_spans { self.new.all_spans ≡ self.old.all_spans }
         ensures valid { IsState self.new.state }
     {
         let reply = self.desk.connect(client);
@@ -120,6 +127,8 @@ impl Server {
         ensures step { Step self.old.state Hello (Replied result) self.new.state }
         ensures unwritten { self.new.writes ≡ self.old.writes }
         ensures spans { self.new.spans ≡ self.old.spans }
+        ensures all_unwritten { self.new.all_writes ≡ self.old.all_writes }
+        ensures all_spans { self.new.all_spans ≡ self.old.all_spans }
         ensures valid { IsState self.new.state }
     {
         let reply = self.desk.hello();
@@ -141,6 +150,8 @@ impl Server {
         ensures step { Step self.old.state (Ask client command.now payload.now) (Replied result) self.new.state }
         ensures unwritten { self.new.writes ≡ self.old.writes }
         ensures spans { self.new.spans ≡ self.old.spans }
+        ensures all_unwritten { self.new.all_writes ≡ self.old.all_writes }
+        ensures all_spans { self.new.all_spans ≡ self.old.all_spans }
         ensures valid { IsState self.new.state }
     {
         if only_asks(command) {
@@ -163,6 +174,8 @@ impl Server {
         ensures step { Step self.old.state (Bye client) (Replied result) self.new.state }
         ensures unwritten { self.new.writes ≡ self.old.writes }
         ensures spans { self.new.spans ≡ self.old.spans }
+        ensures all_unwritten { self.new.all_writes ≡ self.old.all_writes }
+        ensures all_spans { self.new.all_spans ≡ self.old.all_spans }
         ensures valid { IsState self.new.state }
     {
         let reply = self.desk.bye(client);
@@ -181,6 +194,8 @@ impl Server {
         ensures step { Step self.old.state (Feed input) (Replied Done) self.new.state }
         ensures unwritten { self.new.writes ≡ self.old.writes }
         ensures spans { self.new.spans ≡ self.old.spans }
+        ensures all_unwritten { self.new.all_writes ≡ self.old.all_writes }
+        ensures all_spans { self.new.all_spans ≡ self.old.all_spans }
         ensures valid { IsState self.new.state }
     {
         self.desk.feed(input);
@@ -194,13 +209,15 @@ impl Server {
 
     /// One tick: draws the bands of the admitted VScreens' films, and then dirty pixels, as many as the budget has left
     /// beside the bands, and says how many it drew of each and how many stay dirty. A pixel that a band drew stays dirty
-    /// where it was. docs/MACHINE.md, "A tick".
+    /// where it was. As many bytes are written as it drew pixels, by the count of all time too. docs/MACHINE.md, "A tick".
     pub fn tick(&mut self) -> Drew
         ensures step { Step self.old.state Tick (Drawn result) self.new.state }
         ensures chosen { TickedWith (lost_marks self.old.state.dirt self.new.state.dirt)
             self.old.state result self.new.state }
         ensures writes { self.new.writes ≡ result.bands + result.queue }
+        ensures all_writes { self.new.all_writes ≡ risen self.old.all_writes (result.bands + result.queue) }
         ensures spans { self.new.spans ≤ self.new.writes }
+        ensures all_spans { self.new.all_spans ≡ risen self.old.all_spans self.new.spans }
         ensures within_budget { self.new.writes ≤ self.old.state.desk.shape.budget }
         ensures fewer { dirty_count self.new.state
             ≤ dirty_count self.old.state - self.old.state.desk.shape.spare }
@@ -244,6 +261,14 @@ impl Server {
         ensures valid { IsState self.now.state }
     {
         self.canvas.spans()
+    }
+
+    /// The desk of the server's state, lent. It takes no memory. docs/MACHINE.md, "Copies".
+    pub fn desk(&self) -> &Desk
+        ensures desk { result.now.desk ≡ self.now.state.desk }
+        ensures valid { IsState self.now.state }
+    {
+        &self.desk
     }
 
     /// The server's fixed numbers.

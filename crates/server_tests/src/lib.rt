@@ -2,6 +2,8 @@
 #![tactic(auto)]
 
 #[cfg(test)]
+mod lending;
+#[cfg(test)]
 mod playing;
 #[cfg(test)]
 mod screens;

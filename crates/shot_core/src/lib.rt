@@ -4,6 +4,7 @@
 mod no_memory;
 mod shot;
 mod spot;
+pub mod threads;
 mod touched;
 
 pub use no_memory::NoMemory;

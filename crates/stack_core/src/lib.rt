@@ -2,5 +2,6 @@
 #![tactic(auto)]
 
 mod order;
+pub mod threads;
 
 pub use order::{Stack, StackFull};

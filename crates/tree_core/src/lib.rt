@@ -12,6 +12,7 @@ mod links;
 mod pointer;
 mod refusal;
 mod removing;
+pub mod threads;
 mod tree;
 
 pub use id::Id;

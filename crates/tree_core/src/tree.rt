@@ -30,7 +30,7 @@ use kind_core::{Attr, AttrRefusal, Cell, EventKind, Kind, Name, Value, check};
 use row_store::{
     Cells, Change, Counts, KeptPlaces, Names, Store, drop_names, drop_rows, number_of, take_out,
 };
-use std::alloc::Global;
+use std::alloc::{AllocError, Global};
 use std::marker::Model;
 use vscreen_core::Film;
 
@@ -84,6 +84,35 @@ impl Tree {
             counts: Counts::new(),
             places: KeptPlaces::new(alloc),
         }
+    }
+
+    /// Another tree that equals this one: the same rows under the same numbers, with their films, and the same places.
+    /// The next number that it gives a client is the one that this tree would give it. `NoMemory` comes only for want
+    /// of memory, and nothing of the copy is left behind then. It costs a look at each name and row, and one move of each
+    /// picture, of the cells and of the places.
+    pub fn copy(&self) -> Result<Tree, NoMemory>
+        ensures same { IfOk result (λ tree. tree ≡ self.now) }
+        ensures valid { IsWidgets self.now }
+    {
+        match self.copied() {
+            Ok(tree) => Ok(tree),
+            Err(_) => Err(NoMemory),
+        }
+    }
+
+    // Another tree that equals this one. Each part is copied by what it offers.
+    fn copied(&self) -> Result<Tree, AllocError>
+        ensures same { IfOk result (λ tree. tree ≡ self.now) }
+        ensures valid { IsWidgets self.now }
+    {
+        Ok(Tree {
+            clients: Vec::from_slice(*self.clients.allocator(), &self.clients)?,
+            names: self.names.copy()?,
+            store: self.store.copy()?,
+            cells: self.cells.copy()?,
+            counts: self.counts.copy(),
+            places: self.places.copy()?,
+        })
     }
 
     /// Joins a client, 1 to 16, that isn't joined, as the last one. NoMemory leaves the tree as it was. It

@@ -12,11 +12,11 @@ use std::test::Fail;
 use tree_core::{Id, Tree};
 use vscreen_core::Film;
 
-/// The VScreen `v` of client 1.
-fn screen(tree: &Tree) -> Result<Id, Fail>
+/// The VScreen of client 1 with that name.
+pub fn screen(tree: &Tree, named: &[u8]) -> Result<Id, Fail>
     ensures { IfOk result (λ id. row_kind tree.now.entries id.key ≡ Some VScreen) }
 {
-    let name = name_from(b"v").ok_or("a name")?;
+    let name = name_from(named).ok_or("a name")?;
     let id = match tree.find(1, &name) {
         Some(id) => id,
         None => return Err("there is no such widget".into()),
@@ -28,7 +28,7 @@ fn screen(tree: &Tree) -> Result<Id, Fail>
 }
 
 /// A film of 2 by 1 pixels with the frame 7, 9, admitted with a period of 3 ticks.
-fn admitted(alloc: Global) -> Result<Film, Fail> {
+pub fn admitted(alloc: Global) -> Result<Film, Fail> {
     let mut film = match Film::new(alloc, 2, 1) {
         Ok(film) => film,
         Err(_) => return Err("there is no memory".into()),
@@ -46,23 +46,23 @@ fn keeps_a_screen(rt: &impl Abort, alloc: Global, tree: &mut Tree) -> Result<(),
     requires { is_joined tree.old.clients 1 ≡ false }
 {
     begin(rt, tree, "add v VScreen | done")?;
-    let id = screen(tree)?;
+    let id = screen(tree, b"v")?;
     assert!(rt; tree.film(id).is_none());
     let film = admitted(alloc)?;
     tree.set_film(id, film);
     play(rt, tree, "remove v | in use")?;
-    let id = screen(tree)?;
+    let id = screen(tree, b"v")?;
     let mut film = tree.take_film(id).ok_or("a film")?;
     assert!(rt; tree.film(id).is_none());
     assert_eq!(rt; film.period(), 3);
     film.settle();
-    let id = screen(tree)?;
+    let id = screen(tree, b"v")?;
     tree.set_film(id, film);
     let lent = tree.film(id).ok_or("a film")?;
     assert_eq!(rt; lent.period(), 0);
     assert_eq!(rt; lent.width(), 2);
     play(rt, tree, "remove v | done\nadd v VScreen | done")?;
-    let id = screen(tree)?;
+    let id = screen(tree, b"v")?;
     assert!(rt; tree.film(id).is_none());
     Ok(())
 }

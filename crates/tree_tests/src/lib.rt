@@ -8,6 +8,8 @@ mod changing;
 #[cfg(test)]
 mod citing;
 #[cfg(test)]
+mod copying;
+#[cfg(test)]
 mod films;
 #[cfg(test)]
 mod playing;

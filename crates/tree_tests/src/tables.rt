@@ -56,7 +56,12 @@ pub fn kind(words: &mut SplitWhitespace<'_>) -> Result<Kind, Fail> {
     match word(words)? {
         "Window" => Ok(Kind::Window),
         "Grid" => Ok(Kind::Grid),
+        "Frame" => Ok(Kind::Frame),
+        "Button" => Ok(Kind::Button),
         "Label" => Ok(Kind::Label),
+        "Entry" => Ok(Kind::Entry),
+        "Scale" => Ok(Kind::Scale),
+        "Scrollbar" => Ok(Kind::Scrollbar),
         "Variable" => Ok(Kind::Variable),
         "VScreen" => Ok(Kind::VScreen),
         _ => Err("a word is no kind".into()),

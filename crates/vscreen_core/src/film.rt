@@ -78,6 +78,24 @@ impl Film {
         })
     }
 
+    /// Another film that equals this one in all: its size, its three pictures, its period and its phase. `NoMemory`
+    /// where memory is short, and only then; nothing of the copy is left behind. It costs one move of each picture.
+    pub fn copy(&self) -> Result<Film, NoMemory>
+        ensures same { IfOk result (λ film. film ≡ self.now) }
+        ensures valid { IsFilm self.now }
+    {
+        let alloc = *self.newest.allocator();
+        Ok(Film {
+            width: self.width,
+            height: self.height,
+            newest: Vec::from_slice(alloc, &self.newest)?,
+            current: Vec::from_slice(alloc, &self.current)?,
+            shown: Vec::from_slice(alloc, &self.shown)?,
+            period: self.period,
+            phase: self.phase,
+        })
+    }
+
     /// Makes the frame, of at most 65,536 bytes, the newest, and changes nothing else: the period under way goes on
     /// with its own frame. `WrongSize` with both numbers of bytes, and nothing changed, exactly where it hasn't a
     /// byte for each pixel. It costs one copy of the frame.

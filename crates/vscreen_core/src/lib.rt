@@ -5,6 +5,7 @@ mod band;
 mod film;
 pub mod laws;
 mod no_memory;
+pub mod threads;
 mod wrong_size;
 
 pub use band::{Band, share};

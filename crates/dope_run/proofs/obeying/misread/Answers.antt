@@ -7,7 +7,7 @@ use Rattle.dope_run.specs.Text.{answer_text}
 use Rattle.dope_run.proofs.Obeyings.{obeyed_by_writing}
 use Rattle.dope_run.proofs.obeying.misread.Goals as goal
 
-pub returns-clause-told : goal.returns-clause-told
+pub returns : goal.returns
 unfolding answer_text
-returns-clause-told g c =
-    obeyed_by_writing c.say.result (Misread c.args.client c.args.place) (Replied (Refused (Syntax c.args.place))) _ _ _ _ _ (refl, refl) c.reply_line.ensures c.say.ensures.ok c.say.ensures.err
+returns g c =
+    obeyed_by_writing c.say.result (Misread c.args.client c.args.place) (Replied (Refused (Syntax c.args.place))) _ _ _ (refl, refl) c.reply_line.ensures c.requires.valid c.say.ensures.ok c.say.ensures.err c.say.ensures.later c.say.ensures.cause c.say.ensures.steady

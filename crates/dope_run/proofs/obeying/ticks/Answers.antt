@@ -4,8 +4,8 @@ use Rattle.std.proofs.lemmas.List.{replicate_more, replicate-append-replicate}
 use Rattle.std.proofs.lemmas.List.Elements.{All-replicate}
 use Rattle.machine_model.specs.Step.{CanCome}
 use Rattle.machine_model.specs.Events.Event.{Tick}
-use Rattle.dope_run.specs.declared.status.Status.TheVariants.{Done, WriteFault}
-use Rattle.dope_run.proofs.Obeyings.{obeyed_after, obeyed_more, obeyed_same}
+use Rattle.script_walk.specs.declared.end.End.TheVariants.{Done, WriteFault}
+use Rattle.dope_run.proofs.Obeyings.{obeyed_none, obeyed_after, obeyed_more, obeyed_same}
 use Rattle.dope_run.proofs.obeying.ticks.Goals as goal
 
 all_ticks : (i n : ℕ) → i < n → (replicate i Tick ++ Tick ∷ []) ++ replicate (n - (i + 1)) Tick ≡ replicate n Tick
@@ -14,17 +14,18 @@ all_ticks i n below =
     ∙ replicate-append-replicate (i + 1) (n - (i + 1)) Tick
     ∙ ap (λ k. replicate k Tick) (let is : i + 1 + (n - (i + 1)) ≡ n = omega arith in is)
 
-pub returns-in-Err-clause-told : goal.returns-in-Err-clause-told
-returns-in-Err-clause-told g c =
+pub loop-i-init : goal.loop-i-init
+loop-i-init g c = record { told = obeyed_none _ c.requires.valid }
+
+pub returns-in-Err : goal.returns-in-Err
+returns-in-Err g c =
     let below : c.loop-i.i < c.args.count = omega arith in
-    obeyed_same WriteFault _ _ _ _ _ _ (all_ticks c.loop-i.i c.args.count below)
-    (obeyed_more _ _ _ _ _ _ (All-replicate CanCome (c.args.count - (c.loop-i.i + 1)) Tick tt) c.requires.valid
-    (obeyed_after WriteFault _ _ _ _ _ _ _ _ c.loop-i.invariant.told c.in-Err.ensures.told))
+    obeyed_same WriteFault _ _ _ _ (all_ticks c.loop-i.i c.args.count below)
+    (obeyed_more _ _ _ _ (All-replicate CanCome (c.args.count - (c.loop-i.i + 1)) Tick tt) c.requires.valid
+    (obeyed_after WriteFault _ _ _ _ _ c.loop-i.invariant.told c.in-Err.ensures))
 
 pub loop-i-preserved : goal.loop-i-preserved
 loop-i-preserved g c = record {
-  told = obeyed_same Done _ _ _ _ _ _ (replicate_more c.loop-i.i Tick)
-      (obeyed_after Done _ _ _ _ _ _ _ _ c.loop-i.invariant.told c.in-Ok.ensures.told);
-  valid = search rules;
-  steady = search rules;
+  told = obeyed_same Done _ _ _ _ (replicate_more c.loop-i.i Tick)
+      (obeyed_after Done _ _ _ _ _ c.loop-i.invariant.told c.in-Ok.ensures);
 }

@@ -1,20 +1,20 @@
-use Rattle.std.proofs.Common.{refl, rules, sym, subst}
-use Rattle.dope_run.specs.Playing.{IsFresh}
-use Rattle.dope_run.proofs.Endings.{not_refused}
-use Rattle.dope_run.proofs.PlayWords.{no_shape}
+use Rattle.std.proofs.Common.{map, string_bytes}
+use Rattle.kind_core.specs.declared.shapes.Shape.{Shape}
+use Rattle.command_line.specs.declared.order.Order.TheVariants.{Play}
+use Rattle.command_line.proofs.Readings.{plain_spells, spelled_orders}
+use Rattle.command_line.specs.Law.{Orders}
+use Rattle.dope_run.proofs.running.run.Given.{Over}
+use Rattle.dope_run.proofs.running.run.Goals.{In-Err-Usage}
 use Rattle.dope_run.proofs.running.run.Goals as goal
 
-pub play-status-requires-clause-fresh : goal.play-status-requires-clause-fresh
-play-status-requires-clause-fresh g c = subst (λ shape. IsFresh shape c.in-Ok.stage.player) (sym c.in-Ok.ensures.shape) c.in-Ok.ensures.fresh
+refused : (g : Over) (c : In-Err-Usage g) (shape : Shape) → Orders (map string_bytes c.args.words.now) (Play shape) → ⊥
+refused g c = c.in-Err-Usage.ensures.usage c.in-Err-Usage.field-0-is
 
-pub returns-in-Err-clause-untouched : goal.returns-in-Err-clause-untouched
-returns-in-Err-clause-untouched g c = λ refused. (refl, refl, search (rules, c.requires.none_kept))
+pub returns-in-Err-Usage-clause-usage : goal.returns-in-Err-Usage-clause-usage
+returns-in-Err-Usage-clause-usage g c = λ is. refused g c
 
-pub returns-clause-untouched : goal.returns-clause-untouched
-returns-clause-untouched g c = λ refused. absurd (not_refused _ c.play-status.result _ _ _ _ _ c.play-status.ensures.ended refused)
+pub returns-in-Err-Usage-clause-plain : goal.returns-in-Err-Usage-clause-plain
+returns-in-Err-Usage-clause-plain g c = λ shape plain is. let words = map string_bytes c.args.words.now in refused g c shape (spelled_orders words (Play shape) (plain_spells words (Play shape) plain))
 
-pub returns-clause-played : goal.returns-clause-played
-returns-clause-played g c = λ played. (c.in-Some.shape, c.in-Some.ensures.found, rw (← c.in-Ok.ensures.shape, c.into_server.ensures) c.play-status.ensures.ended)
-
-pub returns-in-None-clause-usage : goal.returns-in-None-clause-usage
-returns-in-None-clause-usage g c = (λ usage shape asks. no_shape shape (c.in-None.ensures.all shape asks), λ none. refl)
+pub returns-in-Err-Usage-clause-spelled : goal.returns-in-Err-Usage-clause-spelled
+returns-in-Err-Usage-clause-spelled g c = λ shape spells is. refused g c shape (spelled_orders (map string_bytes c.args.words.now) (Play shape) spells)

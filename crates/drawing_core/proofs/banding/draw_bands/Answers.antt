@@ -20,4 +20,4 @@ pub loop-entry-preserved : goal.loop-entry-preserved
 loop-entry-preserved c =
     let within : c.loop-entry.entry-index < length c.args.bands.now = omega (arith, c.loop-entry-test.true) in
     BandsDrawn-then c.args.view.now c.args.bands.now c.loop-entry.entry-index _ c.loop-entry.count c.paint_band-count.result c.args.canvas.now c.loop-entry.canvas c.paint_band-count.new.canvas c.requires.view.valid c.requires.one_each within c.loop-entry.invariant
-    c.paint_band-count.ensures.pixels c.paint_band-count.ensures.count c.paint_band-count.ensures.writes c.paint_band-count.ensures.width c.paint_band-count.ensures.height c.paint_band-count.ensures.valid
+    c.paint_band-count.ensures.pixels c.paint_band-count.ensures.count c.paint_band-count.ensures.writes c.paint_band-count.ensures.all_writes c.paint_band-count.ensures.spans_grow c.paint_band-count.ensures.all_spans c.paint_band-count.ensures.width c.paint_band-count.ensures.height c.paint_band-count.ensures.valid

@@ -1,9 +1,11 @@
 use Rattle.std.proofs.Common.{◌≡◌, ◌*◌, sym, ap, subst, ◌∙◌, arith}
 use Rattle.std.specs.Option.{option_copied}
+use Rattle.canvas_core.proofs.Span.{risen-none}
 use Rattle.geom_core.specs.Count.{screen_of}
 use Rattle.geom_core.specs.Pieces.{AreDisjoint}
 use Rattle.widget_model.specs.Widgets.{row_at}
 use Rattle.painter_core.specs.Banding.{view_shows_band}
+use Rattle.painter_core.proofs.PaintedLemmas.{risen_by-none}
 use Rattle.painter_core.proofs.StageLemmas.{IsPaintable-view}
 use Rattle.painter_core.proofs.RootLemmas.{row_there}
 use Rattle.painter_core.proofs.SceneLemmas.{ShowsScene-nothing}
@@ -52,3 +54,9 @@ returns-in-None-clause-count c =
     let row = row_there (row_at view.tree.now.entries c.args.id.key) c.requires.live in
     let none = no_film view c.args.id.key row.0 (option_copied c.film.result) row.1 c.film.ensures.film (ap option_copied c.in-None.is) in
     nothing_counted view c.args.id.key row.0 c.args.band c.requires.view.valid row.1 none
+
+pub returns-in-None-clause-all_writes : goal.returns-in-None-clause-all_writes
+returns-in-None-clause-all_writes c = risen-none c.args.canvas.now.all_writes c.requires.valid.all_writes_fit
+
+pub returns-in-None-clause-all_spans : goal.returns-in-None-clause-all_spans
+returns-in-None-clause-all_spans c = risen_by-none c.args.canvas.now.all_spans c.args.canvas.now.spans c.requires.valid.all_spans_fit

@@ -1,7 +1,10 @@
-use Rattle.std.proofs.Common.{◌<◌, refl, arith}
+use Rattle.std.proofs.Common.{◌<◌, refl, ap, ◌∙◌, arith}
+use Rattle.canvas_core.specs.Screen.{risen}
+use Rattle.canvas_core.proofs.Span.{risen-none}
 use Rattle.geom_core.specs.Rect.{area_of, IsInside}
 use Rattle.geom_core.specs.Count.{screen_of}
 use Rattle.geom_core.proofs.RectLemmas.{IsEnclosed-from_inside}
+use Rattle.painter_core.proofs.PaintedLemmas.{risen_by-none}
 use Rattle.painter_core.proofs.StageLemmas.{IsPaintable-view}
 use Rattle.painter_core.proofs.SceneLemmas.{windows_few, one_trail, ShowsScene-piece, whole_counted}
 use Rattle.painter_core.proofs.pieces.paint.Goals as goal
@@ -25,3 +28,16 @@ pub returns-clause-spans : goal.returns-clause-spans
 returns-clause-spans c some one =
     let inside : IsInside c.args.piece (screen_of c.args.view.now.width c.args.view.now.height) = rw (← c.requires.width, ← c.requires.height) c.requires.on_screen in
     c.paint_from.ensures.at_once refl (one_trail c.args.view.now c.args.piece c.requires.view.valid c.requires.view inside one)
+
+pub returns-clause-all_writes : goal.returns-clause-all_writes
+returns-clause-all_writes c =
+    c.paint_from.ensures.painted.all_writes
+    ∙ ap (λ n. risen c.args.canvas.now.all_writes n) (whole_counted c.args.view.now c.args.piece c.paint_from.result c.args.canvas.now c.paint_from.new.canvas c.paint_from.ensures)
+
+pub returns-then-area-eq0-clause-all_writes : goal.returns-then-area-eq0-clause-all_writes
+returns-then-area-eq0-clause-all_writes c =
+    risen-none c.args.canvas.now.all_writes c.requires.valid.all_writes_fit
+    ∙ ap (λ n. risen c.args.canvas.now.all_writes n) (omega (arith, c.if-area-eq0.true, c.area.ensures))
+
+pub returns-then-area-eq0-clause-all_spans : goal.returns-then-area-eq0-clause-all_spans
+returns-then-area-eq0-clause-all_spans c = risen_by-none c.args.canvas.now.all_spans c.args.canvas.now.spans c.requires.valid.all_spans_fit

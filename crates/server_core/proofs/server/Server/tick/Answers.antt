@@ -1,4 +1,7 @@
 use Rattle.std.proofs.Common.{◌-◌, min, sym, ap, ◌∙◌, arith}
+use Rattle.canvas_core.specs.Screen.{risen}
+use Rattle.canvas_core.proofs.Span.{risen-then}
+use Rattle.painter_core.proofs.PaintedLemmas.{risen_by-then}
 use Rattle.kind_core.specs.declared.shapes.Shape.{Shape}
 use Rattle.redraw_core.specs.Dirt.{dirty_count}
 use Rattle.widget_model.specs.Widgets.{Widgets}
@@ -96,3 +99,22 @@ returns-clause-fewer c =
 
 pub returns-clause-right : goal.returns-clause-right
 returns-clause-right c = clean-is_picture _ (returns-clause-valid c)
+
+pub returns-clause-all_writes : goal.returns-clause-all_writes
+returns-clause-all_writes c =
+    rw (← c.self.view_is)
+    (c.draw-queue.ensures.drawn.all_writes
+    ∙ ap (λ n. risen n c.draw-queue.result) (c.draw_bands-bands.ensures.all_writes ∙ ap (λ n. risen n c.draw_bands-bands.result) c.start_count.ensures.all_writes)
+    ∙ risen-then c.self.inside.canvas.all_writes c.draw_bands-bands.result c.draw-queue.result)
+
+-- the spans of a tick are those since the count was started, by the bands and by the dirt
+pub returns-clause-all_spans : goal.returns-clause-all_spans
+returns-clause-all_spans c =
+    let begun = c.start_count.new.self in
+    let banded = c.draw_bands-bands.new.canvas in
+    let drawn = c.draw-queue.new.canvas in
+    let more = risen_by-then begun.all_spans banded.all_spans drawn.all_spans begun.spans banded.spans drawn.spans c.draw_bands-bands.ensures.all_spans c.draw-queue.ensures.drawn.all_spans c.draw_bands-bands.ensures.spans_grow c.draw-queue.ensures.drawn.spans_grow in
+    rw (← c.self.view_is)
+    (more
+    ∙ ap (λ n. risen begun.all_spans n) (omega (arith, c.start_count.ensures.spans))
+    ∙ ap (λ n. risen n drawn.spans) c.start_count.ensures.all_spans)

@@ -1,0 +1,11 @@
+pub mod Tests
+pub mod Built
+pub mod Walks
+pub mod Suiting
+pub mod Taken
+pub mod Additions
+pub mod Matches
+pub mod Faults
+pub mod Plains
+pub mod Ranges
+pub mod Readings

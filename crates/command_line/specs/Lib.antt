@@ -1,0 +1,13 @@
+pub mod Table
+pub mod Program
+pub mod Numbers
+pub mod Matched
+pub mod Given
+pub mod Plain
+pub mod Orders
+pub mod Law
+pub mod First
+pub mod Fit
+pub mod Rows
+pub mod Apps
+pub mod Values

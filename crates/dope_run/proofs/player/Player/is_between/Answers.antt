@@ -1,5 +1,0 @@
-use Rattle.dope_run.proofs.Feedings.{kept-waits-some}
-use Rattle.dope_run.proofs.player.Player.is_between.Goals as goal
-
-pub returns-then-self-gt0-clause-some : goal.returns-then-self-gt0-clause-some
-returns-then-self-gt0-clause-some c = λ is. kept-waits-some c.args.self.now c.if-self-gt0.true

@@ -1,0 +1,3 @@
+mod Taping
+mod Standing
+mod Rooms

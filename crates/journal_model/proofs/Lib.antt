@@ -1,0 +1,3 @@
+pub mod DirtGrows
+pub mod Steps
+pub mod Runs

@@ -1,0 +1,9 @@
+pub mod Gaining
+pub mod Playing
+pub mod Keeping
+pub mod Feeding
+pub mod Flushing
+pub mod Endings
+pub mod Framings
+pub mod Readings
+pub mod Refusals

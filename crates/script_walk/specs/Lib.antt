@@ -1,0 +1,9 @@
+pub mod Framing
+pub mod Covering
+pub mod Rules
+pub mod Performing
+pub mod Walked
+pub mod Laws
+pub mod Cutting
+pub mod Reading
+pub mod Points

@@ -1,0 +1,15 @@
+pub mod Totals
+pub mod TicketSteps
+pub mod NumberSteps
+pub mod Growth
+pub mod TurnSteps
+pub mod Draws
+pub mod Whole
+pub mod Looking
+pub mod Passing
+pub mod Publishing
+pub mod Joining
+pub mod Opening
+pub mod Closing
+pub mod Making
+pub mod Together
