@@ -1,6 +1,6 @@
 -- What carrying out a line's request comes to.
-use Rattle.std.proofs.Common.{◌≡◌, ◌⊎◌, inl, inr, ℕ, zero, suc, ◌+◌, ◌-◌, ◌^◌, ◌≤◌, min, List, [], ◌∷◌, ◌++◌, length, Bool, true, false, Option, Some, None, refl, sym, ap, subst, ◌∙◌, arith, append-nil, append_assoc}
-use Rattle.std.specs.Prelude.{ℤ, IfSome}
+use Rattle.std.proofs.Common.{◌≡◌, inl, inr, ℕ, zero, suc, ◌+◌, ◌-◌, ◌^◌, ◌≤◌, min, List, [], ◌∷◌, ◌++◌, length, true, false, Option, Some, None, refl, sym, ap, subst, ◌∙◌, arith, append-nil, append_assoc}
+use Rattle.std.specs.Prelude.{IfSome}
 use Rattle.cmd_words.specs.declared.commands.Command.{Command}
 use Rattle.cmd_words.specs.declared.commands.Command.TheVariants.{New, Set, Get, Place, Lift, ColumnConfig, RowConfig, Link, Unlink, Bind, Unbind, OpenWindow, CloseWindow, TopWindow, Mode, Admit, Leave, SendFrame, DropWidget, Poll}
 use Rattle.cmd_words.specs.declared.methods.Method.{Method}
@@ -8,7 +8,7 @@ use Rattle.cmd_words.specs.declared.methods.Method.TheVariants as method
 use Rattle.cmd_words.specs.declared.inputs.Input.{Input}
 use Rattle.cmd_words.specs.Language.{Language, Then, ◌▹◌, ◌▸◌, ◌⊕◌, stands_for, word}
 use Rattle.cmd_words.specs.Productions.{sp, name, sopt, popt, copt, up_to, options}
-use Rattle.cmd_words.specs.Grammar.{command_line, call, body, comma, closes, empty, opens}
+use Rattle.cmd_words.specs.Grammar.{command_line, call, body, comma, closes, empty}
 use Rattle.cmd_text.specs.FrameLine.{IsFrameLine, frame_front, anything}
 use Rattle.cmd_text.proofs.Lines.{one_command}
 use Rattle.desk_model.specs.Commands.{payload_size, IsPayload}
@@ -18,8 +18,8 @@ use Rattle.script_lines.specs.Lines.{asks as script_asks, input_line}
 use Rattle.wire_link.specs.declared.standing.Standing.{Standing}
 use Rattle.wire_link.specs.declared.standing.Standing.TheVariants.{Before, Client, Console, Over}
 use Rattle.wire_link.specs.declared.request.Request.{Request}
-use Rattle.wire_link.specs.declared.request.Request.TheVariants.{Hello, Watch, Ask, Unconnected, Misread, Feed, Tick, Bye}
-use Rattle.wire_link.specs.Framing.{IsItem, IsPlainItem, IsFrameItem}
+use Rattle.wire_link.specs.declared.request.Request.TheVariants.{Hello, Watch, Ask, Bye}
+use Rattle.wire_link.specs.Framing.{IsItem}
 use Rattle.wire_link.specs.Calls.{Kept, Ledger, Took, Adds}
 use Rattle.wire_link.specs.Table.{asks, comes, outcome}
 use Rattle.wire_link.specs.Session.{Parts}

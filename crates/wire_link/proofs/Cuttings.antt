@@ -1,18 +1,14 @@
 -- Bytes are cut in one way: where a line ends, whether it is bad, how many payload bytes follow it.
-use Rattle.std.proofs.Common.{◌≡◌, ◌⊎◌, inl, inr, ℕ, ◌+◌, ◌<◌, ◌≤◌, ◌==◌, ◌||◌, true, false, List, [], ◌∷◌, ◌++◌, length, take, refl, sym, ap, subst, ◌∙◌, arith, length-append}
+use Rattle.std.proofs.Common.{◌≡◌, ◌⊎◌, inl, inr, ℕ, ◌<◌, ◌≤◌, false, List, [], ◌∷◌, ◌++◌, length, refl, sym, ap, subst, ◌∙◌, arith}
 use Rattle.std.proofs.lemmas.Bool.Decides.{nat_tests}
-use Rattle.std.proofs.lemmas.List.{take_all, take-append-le, take-append-drop}
-use Rattle.cmd_words.specs.declared.commands.Command.{Command}
-use Rattle.cmd_words.specs.Grammar.{command_line}
-use Rattle.cmd_text.specs.FrameLine.{IsFrameLine}
 use Rattle.cmd_text.specs.Misread.{IsMisread}
 use Rattle.cmd_text.proofs.Lines.{one_command}
 use Rattle.desk_model.specs.Commands.{payload_size}
 use Rattle.script_lines.specs.Sayings.{command_limit, frame_limit}
 use Rattle.wire_link.specs.declared.stage.Stage.{Stage}
 use Rattle.wire_link.specs.declared.stage.Stage.TheVariants.{Open, Whole, Filling, Bad}
-use Rattle.wire_link.specs.Framing.{Framed, IsLine, IsFrame, IsBadFrame, IsTooLarge, IsShortOfPayload, IsPartial, BeginsTooLong, has_feed}
-use Rattle.wire_link.specs.Framer.{Fits, FitsOpen, FitsWhole, FitsFilling, FitsBad, framed, waiting_of}
+use Rattle.wire_link.specs.Framing.{Framed, IsLine, IsFrame, IsBadFrame, IsTooLarge, IsPartial, BeginsTooLong, has_feed}
+use Rattle.wire_link.specs.Framer.{Fits, FitsOpen, FitsWhole, FitsFilling, FitsBad, framed}
 use Rattle.wire_link.proofs.Feeds.{has_feed-take}
 
 -- ---- where the first line ends
@@ -21,7 +17,7 @@ use Rattle.wire_link.proofs.Feeds.{has_feed-take}
 feed_first : (byte : ℕ) (bytes : List ℕ) → has_feed (byte ∷ bytes) ≡ false → byte ≡ 10 → ⊥
 feed_first byte bytes clear is = (let on : has_feed (10 ∷ bytes) ≡ false = ap (λ b. has_feed (b ∷ bytes)) (sym is) ∙ clear in cc)
 
-feed_later : (byte : ℕ) (bytes : List ℕ) → has_feed (byte ∷ bytes) ≡ false → has_feed bytes ≡ false
+pub feed_later : (byte : ℕ) (bytes : List ℕ) → has_feed (byte ∷ bytes) ≡ false → has_feed bytes ≡ false
 feed_later byte bytes clear = grind (arith, nat_tests)
 
 pub record SameLine (a b x y : List ℕ) : Type 0 where

@@ -1,11 +1,10 @@
 -- How a session ends: what it had taken before the last read, what the last read gave, and what its client's `bye` came
 -- to are parts of one session.
-use Rattle.std.proofs.Common.{◌≡◌, inl, inr, ℕ, ◌+◌, ◌≤◌, Bool, true, false, List, [], ◌∷◌, ◌++◌, length, take, Option, refl, sym, ap, subst, ◌∙◌, arith, lit≤, append-nil, append_assoc, length-append}
-use Rattle.std.proofs.lemmas.List.{take_all}
+use Rattle.std.proofs.Common.{◌≡◌, inl, ℕ, ◌+◌, ◌≤◌, false, List, [], ◌++◌, length, take, Option, refl, sym, ap, subst, ◌∙◌, arith, lit≤, append-nil, append_assoc, length-append}
 use Rattle.std.proofs.Math.Seq.{take-append-add, take-append_seam}
 use Rattle.std.specs.Io.KnownBytes.{Appends, Consumes, IsAtEnd}
 use Rattle.outside_io.specs.Sink.{AppendsFront}
-use Rattle.outside_io.specs.Outbox.{Output, output, flushed, Puts, PutsFront}
+use Rattle.outside_io.specs.Outbox.{Output, output, flushed, Puts}
 use Rattle.outside_io.proofs.Told.{Appends-append, Consumes-none, Consumes-append}
 use Rattle.outside_io.proofs.Gathered.{Puts-none, Puts-append, Appends-put}
 use Rattle.wire_link.specs.declared.end.End.{End}
@@ -14,9 +13,9 @@ use Rattle.wire_link.specs.declared.standing.Standing.{Standing}
 use Rattle.wire_link.specs.declared.standing.Standing.TheVariants.{Before}
 use Rattle.wire_link.specs.Framing.{IsPartial}
 use Rattle.wire_link.specs.Calls.{Ledger, Took}
-use Rattle.wire_link.specs.Session.{Exchange, Walks, Ends, IsOpen, SessionRun, LastRead, GainsFront, Gains, Ended, bytes_of, calls_of, refused_of, text_of, lines_after}
+use Rattle.wire_link.specs.Session.{Exchange, Walks, Ends, IsOpen, GainsFront, Gains, Ended, bytes_of, calls_of, refused_of, text_of, lines_after}
 use Rattle.wire_link.specs.Carrying.{Parted}
-use Rattle.wire_link.specs.Going.{Place, Says, Went, Stopped, Going, Finished, TurnDone, TurnEnded, TurnLast, TurnStopped, breaks}
+use Rattle.wire_link.specs.Going.{Place, Says, Went, Going, Finished, TurnDone, TurnEnded, TurnLast, TurnStopped, breaks}
 use Rattle.wire_link.proofs.Carryings.{Took-none, Took-append}
 use Rattle.wire_link.proofs.Walkings.{bytes_of-nil, bytes_of-append, calls_of-nil, calls_of-append, text_of-nil, text_of-append, refused_of-nil, refused_of-append, Walks-append, lines_after-append}
 use Rattle.wire_link.proofs.Goings.{went_none, went_after}

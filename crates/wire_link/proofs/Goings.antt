@@ -1,10 +1,10 @@
 -- How a session goes through bytes, one part after another, and where it ends in them.
-use Rattle.std.proofs.Common.{◌≡◌, ◌⊎◌, inl, inr, ℕ, ◌+◌, ◌≤◌, Bool, true, false, List, [], ◌∷◌, ◌++◌, length, take, drop, Option, refl, sym, ap, subst, ◌∙◌, arith, append-nil, append_assoc, length-append}
+use Rattle.std.proofs.Common.{◌≡◌, ℕ, ◌+◌, ◌≤◌, Bool, true, false, List, [], ◌∷◌, ◌++◌, length, take, drop, Option, refl, sym, ap, subst, ◌∙◌, arith, append-nil, append_assoc, length-append}
 use Rattle.std.proofs.lemmas.List.{take-append-le, take-append-drop}
 use Rattle.std.specs.Io.KnownBytes.{Appends}
 use Rattle.outside_io.specs.Count.{one_more}
 use Rattle.outside_io.specs.Sink.{AppendsFront}
-use Rattle.outside_io.specs.Outbox.{Output, output, flushed, Puts, PutsFront}
+use Rattle.outside_io.specs.Outbox.{Output, output, Puts}
 use Rattle.outside_io.proofs.Told.{Appends-none}
 use Rattle.outside_io.proofs.Gathered.{Puts-none, Puts-append, PutsFront-after, Puts-flushed, PutsFront-flushed}
 use Rattle.script_lines.specs.Sayings.{command_limit}
@@ -12,11 +12,10 @@ use Rattle.wire_link.specs.declared.end.End.{End}
 use Rattle.wire_link.specs.declared.end.End.TheVariants.{Bye, EndOfInput, LinkFault, LineTooLong, BadFrame}
 use Rattle.wire_link.specs.declared.request.Request.{Request}
 use Rattle.wire_link.specs.declared.standing.Standing.{Standing}
-use Rattle.wire_link.specs.declared.standing.Standing.TheVariants.{Over}
-use Rattle.wire_link.specs.Framing.{Framed, IsItem, IsPartial, BeginsTooLong, BeginsBad, GivesLine, GivesPayload, has_feed}
+use Rattle.wire_link.specs.Framing.{Framed, IsItem, BeginsTooLong, BeginsBad, GivesLine, has_feed}
 use Rattle.wire_link.specs.Calls.{Ledger, Took}
 use Rattle.wire_link.specs.Table.{asks, outcome}
-use Rattle.wire_link.specs.Session.{Exchange, IsExchange, Walks, Ends, IsOpen, bytes_of, calls_of, refused_of, text_of, lines_after}
+use Rattle.wire_link.specs.Session.{Ends, bytes_of, calls_of, refused_of, text_of, lines_after}
 use Rattle.wire_link.specs.Carrying.{Came}
 use Rattle.wire_link.specs.Going.{Place, Says, Exchanged, ExchangedLast, Went, Stopped, IsEarly, TurnStopped, TurnEnded, breaks}
 use Rattle.wire_link.proofs.Carryings.{Took-none, Took-append}
@@ -173,7 +172,7 @@ stopped_after end a b c first second p q = record {
 
 -- ---- the bytes behind the place where a session ended are not looked at
 
-long_more : (bytes more : List ℕ) → BeginsTooLong bytes → BeginsTooLong (bytes ++ more)
+pub long_more : (bytes more : List ℕ) → BeginsTooLong bytes → BeginsTooLong (bytes ++ more)
 long_more bytes more long =
     let enough : command_limit + 1 ≤ length bytes = long.long in
     record {
@@ -181,7 +180,7 @@ long_more bytes more long =
       no_feed = ap has_feed (take-append-le (command_limit + 1) bytes more enough) ∙ long.no_feed;
     }
 
-bad_more : (bytes more : List ℕ) (place : ℕ) → BeginsBad bytes place → BeginsBad (bytes ++ more) place
+pub bad_more : (bytes more : List ℕ) (place : ℕ) → BeginsBad bytes place → BeginsBad (bytes ++ more) place
 bad_more bytes more place bad = record {
   line = bad.line;
   later = bad.later ++ more;

@@ -4,3 +4,4 @@ pub mod Carryings
 pub mod Walkings
 pub mod Goings
 pub mod Endings
+pub mod OneCuts

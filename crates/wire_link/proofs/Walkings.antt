@@ -1,9 +1,8 @@
 -- The lines that a session went through, one part after another: their bytes, calls, refusals, texts and numbers.
-use Rattle.std.proofs.Common.{◌≡◌, ℕ, ◌+◌, List, [], ◌∷◌, ◌++◌, refl, sym, ap, subst, ◌∙◌, arith, append-nil}
-use Rattle.std.proofs.lemmas.Grind.{flat_map-append, common_steps}
+use Rattle.std.proofs.Common.{◌≡◌, ℕ, ◌+◌, List, [], ◌∷◌, ◌++◌, refl, subst, arith, append-nil}
+use Rattle.std.proofs.lemmas.Grind.{flat_map-append}
 use Rattle.wire_link.specs.declared.standing.Standing.{Standing}
-use Rattle.wire_link.specs.Calls.{Kept}
-use Rattle.wire_link.specs.Session.{Exchange, IsExchange, Walks, bytes_of, calls_of, refused_of, text_of, lines_after}
+use Rattle.wire_link.specs.Session.{Exchange, Walks, bytes_of, calls_of, refused_of, text_of, lines_after}
 use Rattle.outside_io.specs.Count.{one_more}
 
 pub bytes_of-nil : bytes_of [] ≡ []

@@ -6,12 +6,12 @@ use Rattle.script_lines.specs.declared.order.Order.{Order}
 use Rattle.script_lines.specs.declared.order.Order.TheVariants as order_of
 use Rattle.desk_model.specs.Commands.{IsPayload}
 use Rattle.wire_link.specs.declared.standing.Standing.{Standing}
-use Rattle.wire_link.specs.declared.standing.Standing.TheVariants.{Before, Client, Console, Over}
+use Rattle.wire_link.specs.declared.standing.Standing.TheVariants.{Before, Client}
 use Rattle.wire_link.specs.declared.request.Request.{Request}
-use Rattle.wire_link.specs.declared.request.Request.TheVariants.{Hello, Watch, Ask, Unconnected, Misread, Feed, Tick, Bye}
+use Rattle.wire_link.specs.declared.request.Request.TheVariants.{Hello, Watch, Ask}
 use Rattle.wire_link.specs.Calls.{Kept, Ledger, Took}
 use Rattle.wire_link.specs.Session.{Parts}
-use Rattle.wire_link.specs.Table.{Outcome, outcome, comes}
+use Rattle.wire_link.specs.Table.{outcome, comes}
 
 -- the input among what a script's line asks for
 abbrev pub input_in : Option Order → Option Input

@@ -1,10 +1,10 @@
 -- Inner words of the proofs: how a session goes through bytes, and how far it has come.
-use Rattle.std.specs.Prelude.{◌≡◌, ℕ, ◌≤◌, Bool, true, false, List, [], ◌∷◌, ◌++◌, length, Option}
+use Rattle.std.specs.Prelude.{◌≡◌, ℕ, ◌≤◌, Bool, true, false, List, [], ◌++◌, length, Option}
 use Rattle.std.specs.Io.KnownBytes.{Consumes, IsAtEnd}
 use Rattle.outside_io.specs.Count.{one_more}
 use Rattle.outside_io.specs.Outbox.{Output, output, Puts, PutsFront}
 use Rattle.wire_link.specs.declared.end.End.{End}
-use Rattle.wire_link.specs.declared.end.End.TheVariants.{Bye, EndOfInput, LinkFault, LineTooLong, BadFrame}
+use Rattle.wire_link.specs.declared.end.End.TheVariants.{Bye, EndOfInput, LinkFault}
 use Rattle.wire_link.specs.declared.sessions.Talk.{Talk}
 use Rattle.wire_link.specs.declared.standing.Standing.{Standing}
 use Rattle.wire_link.specs.declared.standing.Standing.TheVariants.{Over}

@@ -6,3 +6,4 @@ pub mod Table
 pub mod Session
 pub mod Carrying
 pub mod Going
+pub mod Laws

@@ -7,7 +7,7 @@ use Rattle.outside_io.specs.Count.{one_more}
 use Rattle.wire_link.specs.declared.end.End.{End}
 use Rattle.wire_link.specs.declared.end.End.TheVariants.{Bye, EndOfInput, LinkFault, LineTooLong, BadFrame}
 use Rattle.wire_link.specs.declared.standing.Standing.{Standing}
-use Rattle.wire_link.specs.declared.standing.Standing.TheVariants.{Before, Client, Console, Over}
+use Rattle.wire_link.specs.declared.standing.Standing.TheVariants.{Before, Client, Over}
 use Rattle.wire_link.specs.declared.request.Request.{Request}
 use Rattle.wire_link.specs.Framing.{IsItem, IsPartial, BeginsTooLong, BeginsBad}
 use Rattle.wire_link.specs.Calls.{Call, Answer, Kept, Ledger, Took, IsAnswered}

@@ -1,6 +1,6 @@
 -- The table of a session's lines: what each line asks for in each state of the session, one row a line of the table;
 -- and what comes of it, what is written and how the session stands then.
-use Rattle.std.specs.Prelude.{◌≡◌, ℕ, Bool, true, false, List, [], if◌then◌else◌}
+use Rattle.std.specs.Prelude.{◌≡◌, ℕ, List, [], if◌then◌else◌}
 use Rattle.cmd_words.specs.declared.commands.Command.{Command}
 use Rattle.cmd_words.specs.declared.inputs.Input.{Input}
 use Rattle.cmd_words.specs.declared.replies.Reply.{Reply}

@@ -8,6 +8,7 @@ mod cut;
 mod end;
 mod framer;
 mod gathered;
+pub mod laws;
 mod no_memory;
 mod replies;
 mod request;
@@ -16,6 +17,7 @@ mod sessions;
 mod stage;
 mod standing;
 mod text;
+pub mod threads;
 
 pub use cut::Cut;
 pub use end::End;

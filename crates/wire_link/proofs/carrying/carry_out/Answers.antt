@@ -1,5 +1,4 @@
-use Rattle.std.proofs.Common.{◌≡◌, refl, sym, ◌∙◌}
-use Rattle.wire_link.specs.Carrying.{Suits}
+use Rattle.std.proofs.Common.{refl, ◌∙◌}
 use Rattle.wire_link.proofs.Carryings.{came_reply, came_as, client_of}
 use Rattle.wire_link.proofs.carrying.carry_out.Goals as goal
 

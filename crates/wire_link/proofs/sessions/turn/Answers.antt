@@ -1,7 +1,6 @@
-use Rattle.std.proofs.Common.{◌≡◌, ◌≤◌, ◌<◌, ℕ, List, [], length, take, ap, subst, ◌∙◌, arith, lit≤}
-use Rattle.std.proofs.lemmas.List.{length-take}
+use Rattle.std.proofs.Common.{[], lit≤}
 use Rattle.outside_io.proofs.Told.{Consumes-keeps}
-use Rattle.wire_link.proofs.Goings.{turn_ended, went_from, stopped_from, stopped_unread}
+use Rattle.wire_link.proofs.Goings.{stopped_unread}
 use Rattle.wire_link.proofs.sessions.turn.Goals as goal
 
 pub returns-in-Err-clause-told : goal.returns-in-Err-clause-told
