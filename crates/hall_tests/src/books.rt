@@ -222,26 +222,3 @@ entry 10 | none
 ",
     )
 }
-
-#[test]
-fn frames_that_pass_the_kept_bytes_are_folded_away(rt: HostRuntime) -> Result<(), Fail> {
-    plays(
-        &rt,
-        rt.alloc(),
-        "
-0 hello | ok 1
-0 1 v = new VScreen() | ok
-0 1 v.mode(256, 256) | ok
-times 1024 0 1 v.frame(65536) | ok
-len | 1027
-base | 0
-0 1 v.frame(65536) | ok
-len | 1028
-base | 1027
-entry 1026 | none
-entry 1027 | ask 0
-0 1 v.get(x) | error 5
-0 1 v.admit(64) | error 16 1024 490
-",
-    )
-}
