@@ -2,8 +2,18 @@
 //! and as an adapter over the real thing.
 #![tactic(auto)]
 
+mod inline;
+mod job;
 mod link;
+mod listener;
 mod mem_link;
+mod mem_listener;
+mod starter;
 
+pub use inline::Inline;
+pub use job::Job;
 pub use link::Link;
+pub use listener::Listener;
 pub use mem_link::MemLink;
+pub use mem_listener::MemListener;
+pub use starter::Starter;

@@ -1,0 +1,10 @@
+-- Jobs that are out are taken in the order in which they were started, and what came of a job fits it.
+use Rattle.std.specs.Prelude.{◌≡◌, List, [], ◌∷◌, Option, MatchOption}
+
+-- nothing was taken and no job was out, or the job that was started first was taken
+abbrev pub Takes : {J : Type 0} → {D : Type 0} → (J → D → Type 0) → List J → List J → Option D → Type 0
+Takes fits old now taken = MatchOption taken ((old ≡ []) × (now ≡ [])) (λ done. (job : _) × (old ≡ job ∷ now) × fits job done)
+
+-- the jobs that are out at a starter which hands every job back
+abbrev pub none_out : {S : Type 0} → {J : Type 0} → S → List J
+none_out s = []
