@@ -1,5 +1,5 @@
 -- Links are handed out in the order in which they come.
-use Rattle.std.specs.Prelude.{◌≡◌, ◌⊎◌, ℕ, List, [], ◌∷◌, Option, option_map, Contains}
+use Rattle.std.specs.Prelude.{◌≡◌, ◌⊎◌, ℕ, List, [], ◌∷◌, Option, None, option_map, Contains}
 use Rattle.outside_io.specs.Count.{one_more}
 
 -- what was to come is this link and then what is to come now, where the listener tells it; one that doesn't tell
@@ -22,3 +22,7 @@ IsListed s = Contains s.fail_at (one_more s.calls)
 -- the next call fails if it asks for a link
 abbrev pub AcceptFails : {L : Type 0} → ListenerInMemory L → Type 0
 AcceptFails s = IsListed s ⊎ (s.coming ≡ [])
+
+-- a listener that tells no links
+abbrev pub untold : {S : Type 0} → {L : Type 0} → S → Option (List L)
+untold s = None

@@ -4,7 +4,7 @@ use std::thread::Threads;
 /// Work that may be done in a thread of its own. `docs/MACHINE.md`, "Connections and jobs", has the rules.
 pub trait Job {
     /// What comes of the work.
-    type Done: Send + Drop;
+    type Done: Send + Drop + 'static;
 
     /// What came of the job fits it.
     ghost fits: { Self → Self.Done → Type 0 };

@@ -4,16 +4,23 @@
 
 mod inline;
 mod job;
+mod jobs;
 mod link;
 mod listener;
 mod mem_link;
 mod mem_listener;
+mod out;
 mod starter;
+mod tcp_link;
+mod tcp_listen;
 
 pub use inline::Inline;
 pub use job::Job;
+pub use jobs::Jobs;
 pub use link::Link;
 pub use listener::Listener;
 pub use mem_link::MemLink;
 pub use mem_listener::MemListener;
 pub use starter::Starter;
+pub use tcp_link::TcpLink;
+pub use tcp_listen::TcpListen;

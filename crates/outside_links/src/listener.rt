@@ -11,7 +11,7 @@ use std::sync::Wait;
 /// jobs", has the rules.
 pub trait Listener {
     /// What it hands out.
-    type Link: Link + Send + Drop;
+    type Link: Link + Drop;
 
     /// The links to come, in their order, where the listener tells them.
     ghost coming: { Self → Option (List Self.Link) };

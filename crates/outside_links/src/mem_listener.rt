@@ -64,7 +64,7 @@ impl<L: Link> MemListener<L> {
     }
 }
 
-impl<L: Link + Send + Drop> Listener for MemListener<L> {
+impl<L: Link + Drop> Listener for MemListener<L> {
     type Link = L;
 
     ghost coming = { λ s. Some s.coming };
