@@ -5,7 +5,6 @@ use crate::calls::calls_all;
 use crate::loopback::{Ends, connect, free_port};
 use outside_io::Failed;
 use outside_links::{Job, Jobs, Link, Listener, TcpLink, TcpListen};
-use std::net::TcpStream;
 use std::sync::Wait;
 use std::test::Fail;
 use std::thread::Threads;
@@ -14,7 +13,7 @@ use std::thread::Threads;
 #[derive(Drop)]
 struct Echo {
     number: u32,
-    link: TcpLink<TcpStream>,
+    link: TcpLink,
 }
 
 /// What came of it: how many bytes there were.

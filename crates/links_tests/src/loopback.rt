@@ -15,8 +15,8 @@ pub fn free_port(rt: &impl Net<Listener = TcpListener, Stream = TcpStream>) -> R
 
 /// The two ends of a connection: the one that was accepted, and the one that called, until it is closed.
 pub struct Ends {
-    pub accepted: TcpLink<TcpStream>,
-    pub caller: TcpLink<TcpStream>,
+    pub accepted: TcpLink,
+    pub caller: TcpLink,
 }
 
 /// A connection to a listener's port.

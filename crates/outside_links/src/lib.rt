@@ -11,8 +11,10 @@ mod mem_link;
 mod mem_listener;
 mod out;
 mod starter;
+mod stream_link;
 mod tcp_link;
 mod tcp_listen;
+pub mod threads;
 
 pub use inline::Inline;
 pub use job::Job;
@@ -22,5 +24,6 @@ pub use listener::Listener;
 pub use mem_link::MemLink;
 pub use mem_listener::MemListener;
 pub use starter::Starter;
+pub use stream_link::StreamLink;
 pub use tcp_link::TcpLink;
 pub use tcp_listen::TcpListen;

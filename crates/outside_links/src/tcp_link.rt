@@ -1,70 +1,73 @@
-ghost use Rattle.std.specs.Prelude.{◌≡◌, ℕ, ◌<◌, ◌≤◌, None, is_ok, OnOk, OnErr, IfOk, length, take, if◌then◌else◌};
+ghost use Rattle.std.specs.Prelude.{◌≡◌, ℕ, ◌<◌, ◌≤◌, None, is_ok, OnOk, OnErr, IfOk, length, if◌then◌else◌};
 ghost use Rattle.std.specs.Io.{ReadsAtMost, WritesAtMost};
-ghost use Rattle.std.specs.Io.KnownBytes.{Appends, ReadConsumes, WriteAppends};
+ghost use Rattle.std.specs.Io.KnownBytes.{ReadConsumes, WriteAppends};
 ghost use Rattle.outside_io.specs.Telling.{TellsAsBefore};
 ghost use Rattle.outside_io.specs.Count.{Rose, one_more};
 ghost use Rattle.outside_links.specs.Listener.{untold};
 
 use crate::link::Link;
+use crate::stream_link::StreamLink;
 use outside_io::Failed;
-use std::io::{Read, Write};
-use std::net::OpenStream;
+use std::marker::Model;
+use std::net::TcpStream;
 
-/// A link over a stream of std, as a TCP connection: the trusted edge, since no clause can say what a connection
-/// gives or takes. It tells no bytes. Each error of the stream is a fault, and so is a write that took nothing; the
-/// count of faults stays at its last value.
-#[derive(Drop)]
-pub struct TcpLink<S: Read + Write + OpenStream + Drop> {
-    stream: S,
-    faults: u64,
+/// A TCP connection as a link: the trusted edge. It tells no bytes. Each error is a fault, and so is a write that took
+/// nothing; the count of faults stays at its last value.
+///
+/// Contracts see the count of faults. `StreamLink` has the code.
+pub struct TcpLink {
+    link: StreamLink<TcpStream>,
 }
 
-impl<S: Read + Write + OpenStream + Drop> TcpLink<S> {
-    ghost use Rattle.outside_links.specs.Adapter.{stream_of, faults_of_stream};
+impl Model for TcpLink {
+    ghost use Rattle.std.specs.Prelude.{ℕ};
+    ghost use Rattle.outside_links.specs.Adapter.{faults_of_stream};
 
-    /// A link over `stream`, without a fault so far. What is written is sent without delay; where the system refuses
-    /// that the link works all the same.
-    pub fn new(stream: S) -> TcpLink<S>
-        ensures stream { stream_of result ≡ stream }
-        ensures faults { faults_of_stream result ≡ 0 }
-    {
-        let _switched = stream.set_nodelay(true);
-        TcpLink { stream, faults: 0 }
+    ghost Value = { ℕ };
+
+    ghost view = { λ s. faults_of_stream s.link };
+}
+
+impl Drop for TcpLink {
+    fn drop(self) {
+        let TcpLink { link: _ } = self;
     }
 }
 
-impl<S: Read + Write + OpenStream + Drop> Link for TcpLink<S> {
-    ghost use Rattle.outside_links.specs.Adapter.{stream_of, faults_of_stream};
+impl TcpLink {
+    /// A link over `stream`, without a fault so far. What is written is sent without delay; where the system refuses
+    /// that the link works all the same.
+    pub fn new(stream: TcpStream) -> TcpLink
+        ensures { result ≡ 0 }
+    {
+        TcpLink {
+            link: StreamLink::new(stream),
+        }
+    }
+}
 
+impl Link for TcpLink {
     ghost left = { untold };
 
     ghost held = { untold };
 
-    ghost faults = { faults_of_stream };
+    ghost faults = { λ s. s };
 
-    /// Hands on what the stream gives, and counts its errors. Where the stream tells its bytes, exactly those are
-    /// handed on.
+    /// Hands on what the connection gives, and counts its errors.
     fn read(&mut self, buf: &mut [u8]) -> Result<usize, Failed>
         ensures bound { ReadsAtMost result buf.new }
         ensures bytes { ReadConsumes None None result buf.new }
         ensures tells { TellsAsBefore None None }
         ensures still { untold {L = ℕ} self.new ≡ untold self.old }
-        ensures later { faults_of_stream self.old ≤ faults_of_stream self.new }
-        ensures cause { OnErr result (Rose (faults_of_stream self.old) (faults_of_stream self.new)) }
-        ensures steady { OnOk result (faults_of_stream self.new ≡ faults_of_stream self.old) }
-        ensures faults { faults_of_stream self.new ≡ (if is_ok result then faults_of_stream self.old else one_more (faults_of_stream self.old)) }
-        ensures handed_on { ReadConsumes (S.remaining (stream_of self.old)) (S.remaining (stream_of self.new)) result buf.new }
+        ensures later { self.old ≤ self.new }
+        ensures cause { OnErr result (Rose self.old self.new) }
+        ensures steady { OnOk result (self.new ≡ self.old) }
+        ensures faults { self.new ≡ (if is_ok result then self.old else one_more self.old) }
     {
-        match self.stream.read(buf) {
-            Ok(count) => Ok(count),
-            Err(_) => {
-                self.faults = self.faults.saturating_add(1);
-                Err(Failed)
-            }
-        }
+        self.link.read(buf)
     }
 
-    /// Hands `bytes` on to the stream. An error is a fault, and so is a write that took none of bytes that aren't
+    /// Hands `bytes` on to the connection. An error is a fault, and so is a write that took none of bytes that aren't
     /// empty.
     fn write(&mut self, bytes: &[u8]) -> Result<usize, Failed>
         ensures bound { WritesAtMost result bytes.now }
@@ -72,18 +75,11 @@ impl<S: Read + Write + OpenStream + Drop> Link for TcpLink<S> {
         ensures bytes { WriteAppends None None result bytes.now }
         ensures tells { TellsAsBefore None None }
         ensures still { untold {L = ℕ} self.new ≡ untold self.old }
-        ensures later { faults_of_stream self.old ≤ faults_of_stream self.new }
-        ensures cause { OnErr result (Rose (faults_of_stream self.old) (faults_of_stream self.new)) }
-        ensures steady { OnOk result (faults_of_stream self.new ≡ faults_of_stream self.old) }
-        ensures faults { faults_of_stream self.new ≡ (if is_ok result then faults_of_stream self.old else one_more (faults_of_stream self.old)) }
-        ensures handed_on { IfOk result (λ n. Appends (S.contents (stream_of self.old)) (S.contents (stream_of self.new)) (take n bytes.now)) }
+        ensures later { self.old ≤ self.new }
+        ensures cause { OnErr result (Rose self.old self.new) }
+        ensures steady { OnOk result (self.new ≡ self.old) }
+        ensures faults { self.new ≡ (if is_ok result then self.old else one_more self.old) }
     {
-        match self.stream.write(bytes) {
-            Ok(count) if count > 0 || bytes.is_empty() => Ok(count),
-            _ => {
-                self.faults = self.faults.saturating_add(1);
-                Err(Failed)
-            }
-        }
+        self.link.write(bytes)
     }
 }

@@ -1,4 +1,4 @@
-ghost use Rattle.std.specs.Prelude.{◌≡◌, ℕ, ◌≤◌, is_ok, IfOk, OnErr, OnOk, if◌then◌else◌};
+ghost use Rattle.std.specs.Prelude.{◌≡◌, ℕ, ◌≤◌, None, is_ok, IfOk, OnErr, OnOk, if◌then◌else◌};
 ghost use Rattle.outside_io.specs.Count.{Rose, one_more};
 ghost use Rattle.outside_links.specs.Listener.{HandsOut, untold};
 
@@ -54,9 +54,9 @@ impl TcpListen {
 }
 
 impl Listener for TcpListen {
-    type Link = TcpLink<TcpStream>;
+    type Link = TcpLink;
 
-    ghost coming = { untold };
+    ghost coming = { λ _. None };
 
     ghost faults = { λ s. s };
 
@@ -66,7 +66,7 @@ impl Listener for TcpListen {
         rt: &R,
         port: u16,
     ) -> Result<(), Failed>
-        ensures still { untold {L = TcpLink TcpStream} self.new ≡ untold self.old }
+        ensures still { untold {L = ℕ} self.new ≡ untold self.old }
         ensures later { self.old ≤ self.new }
         ensures cause { OnErr result (Rose self.old self.new) }
         ensures steady { OnOk result (self.new ≡ self.old) }
@@ -82,9 +82,9 @@ impl Listener for TcpListen {
     }
 
     /// Waits for a call on the port.
-    fn accept<R: Wait>(&mut self, _rt: &R) -> Result<TcpLink<TcpStream>, Failed>
+    fn accept<R: Wait>(&mut self, _rt: &R) -> Result<TcpLink, Failed>
         ensures first { IfOk result (λ link. HandsOut (untold self.old) (untold self.new) link) }
-        ensures still { OnErr result (untold {L = TcpLink TcpStream} self.new ≡ untold self.old) }
+        ensures still { OnErr result (untold {L = ℕ} self.new ≡ untold self.old) }
         ensures later { self.old ≤ self.new }
         ensures cause { OnErr result (Rose self.old self.new) }
         ensures steady { OnOk result (self.new ≡ self.old) }
