@@ -57,17 +57,53 @@ fn jobs_run_at_the_same_time_and_are_taken_in_order(rt: HostRuntime) -> Result<(
     let mut listener = TcpListen::new();
     assert_eq!(&rt; listener.bind_port(&rt, port), Ok(()));
     let mut jobs = Jobs::new(rt.alloc());
-    let Ends { accepted, caller: mut first } = connect(&rt, &mut listener, port)?;
-    assert!(&rt; jobs.start(&rt, Echo { number: 1, link: accepted }).is_ok());
-    let Ends { accepted, caller: mut second } = connect(&rt, &mut listener, port)?;
-    assert!(&rt; jobs.start(&rt, Echo { number: 2, link: accepted }).is_ok());
+    let Ends {
+        accepted,
+        caller: mut first,
+    } = connect(&rt, &mut listener, port)?;
+    assert!(&rt;
+        jobs.start(
+            &rt,
+            Echo {
+                number: 1,
+                link: accepted
+            }
+        )
+        .is_ok()
+    );
+    let Ends {
+        accepted,
+        caller: mut second,
+    } = connect(&rt, &mut listener, port)?;
+    assert!(&rt;
+        jobs.start(
+            &rt,
+            Echo {
+                number: 2,
+                link: accepted
+            }
+        )
+        .is_ok()
+    );
     // The second is answered while the first is still out.
     calls_all(&rt, &mut second, "write b 1\nread 1 b")?;
     calls_all(&rt, &mut first, "write a 1\nread 1 a\nwrite c 1\nread 1 c")?;
     drop(second);
     drop(first);
-    assert_eq!(&rt; jobs.take(&rt), Some(Echoed { number: 1, count: 2 }));
-    assert_eq!(&rt; jobs.take(&rt), Some(Echoed { number: 2, count: 1 }));
+    assert_eq!(&rt;
+        jobs.take(&rt),
+        Some(Echoed {
+            number: 1,
+            count: 2
+        })
+    );
+    assert_eq!(&rt;
+        jobs.take(&rt),
+        Some(Echoed {
+            number: 2,
+            count: 1
+        })
+    );
     assert_eq!(&rt; jobs.take(&rt), None);
     Ok(())
 }
@@ -79,12 +115,24 @@ fn a_starter_made_without_threads_hands_the_job_back(rt: HostRuntime) -> Result<
     assert_eq!(&rt; listener.bind_port(&rt, port), Ok(()));
     let Ends { accepted, caller } = connect(&rt, &mut listener, port)?;
     let mut jobs = Jobs::without_threads(rt.alloc());
-    let back = match jobs.start(&rt, Echo { number: 3, link: accepted }) {
+    let back = match jobs.start(
+        &rt,
+        Echo {
+            number: 3,
+            link: accepted,
+        },
+    ) {
         Ok(()) => return Err(Fail::new("a job was started")),
         Err(back) => back,
     };
     drop(caller);
-    assert_eq!(&rt; back.run(&rt), Echoed { number: 3, count: 0 });
+    assert_eq!(&rt;
+        back.run(&rt),
+        Echoed {
+            number: 3,
+            count: 0
+        }
+    );
     assert_eq!(&rt; jobs.take(&rt), None);
     Ok(())
 }
