@@ -1,3 +1,4 @@
 pub mod Tape
 pub mod Entries
 pub mod Books
+pub mod Halls
