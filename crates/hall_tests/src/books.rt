@@ -93,9 +93,11 @@ fn is_answer(answer: &Answer, wanted: &str) -> Result<bool, Fail> {
                 .and_then(|text| text.split_once('+'))
                 .ok_or("a tick drew so many")?;
             let (queue, left) = rest.split_once(" left ").ok_or("a tick leaves so many")?;
-            Ok(drew.bands == bands.parse::<u32>()?
-                && drew.queue == queue.parse::<u32>()?
-                && drew.left == left.parse::<u32>()?)
+            Ok(
+                drew.bands == bands.parse::<u32>()?
+                    && drew.queue == queue.parse::<u32>()?
+                    && drew.left == left.parse::<u32>()?,
+            )
         }
     }
 }
