@@ -3,9 +3,9 @@ use Rattle.std.proofs.Common.{◌≡◌, ℕ, ◌≤◌, Result, Ok, Err, OnOk, 
 use Rattle.std.specs.List.{All}
 use Rattle.std.proofs.lemmas.List.{map-append}
 use Rattle.outside_io.specs.Count.{Rose}
-use Rattle.outside_io.specs.Outbox.{Output, Puts, PutsFront}
+use Rattle.outside_io.specs.Outbox.{Puts, PutsFront}
 use Rattle.outside_io.proofs.Gathered.{PutsFront-longer}
-use Rattle.machine_model.specs.State.{State, IsState}
+use Rattle.machine_model.specs.State.{IsState}
 use Rattle.machine_model.specs.Events.{Event, Answer}
 use Rattle.machine_model.specs.Step.{Step, CanCome}
 use Rattle.machine_model.specs.Run.{Run, events_of}
@@ -13,7 +13,7 @@ use Rattle.machine_model.proofs.Runs.{Run-one}
 use Rattle.machine_model.proofs.Progress.{some_run}
 use Rattle.script_walk.specs.declared.end.End.{End}
 use Rattle.script_walk.specs.declared.end.End.TheVariants.{Done, WriteFault}
-use Rattle.script_walk.specs.Rules.{state_after, text_of}
+use Rattle.script_walk.specs.Rules.{state_after}
 use Rattle.script_walk.specs.Performing.{Says}
 use Rattle.script_walk.specs.Points.{Faulted}
 use Rattle.script_walk.proofs.Gaining.{text_of-append, Says-none, Says-after, IsReached-longer, Leaves-after}

@@ -1,9 +1,8 @@
 -- Inner words of the proofs: what `play` does with a script's lines keeps the rules of a walk: a comment comes to nothing, each
 -- line to a run, and each state of it is valid.
-use Rattle.std.proofs.Common.{◌≡◌, ℕ, List, [], ◌∷◌, ◌++◌, take, drop, refl, sym, ap, subst, ◌∙◌}
+use Rattle.std.proofs.Common.{◌≡◌, ℕ, List, [], ◌∷◌, ◌++◌, refl, sym, subst}
 use Rattle.std.specs.List.{All}
 use Rattle.std.proofs.lemmas.Bool.{and_from, le-leb}
-use Rattle.std.proofs.lemmas.List.{take-append-drop}
 use Rattle.std.proofs.lemmas.List.Elements.{All-nil, All-cons, All-replicate}
 use Rattle.machine_model.specs.State.{State, IsState}
 use Rattle.machine_model.specs.Events.{Event}

@@ -11,14 +11,14 @@ use Rattle.script_walk.specs.declared.end.End.{End}
 use Rattle.script_walk.specs.declared.end.End.TheVariants.{Done, ReadFault, WriteFault, BadLine, TooMuch}
 use Rattle.script_walk.specs.declared.reader.Reader.{Reader}
 use Rattle.script_walk.specs.Cutting.{end_of}
-use Rattle.script_walk.specs.Framing.{Item, IsPartial, bytes_of, script_limit, read_limit}
+use Rattle.script_walk.specs.Framing.{Item, bytes_of, script_limit, read_limit}
 use Rattle.script_walk.specs.Covering.{Covers, AreCutShort, AreWhole, IsUnended}
 use Rattle.script_walk.specs.Rules.{Rules, Plays, state_after, text_of}
 use Rattle.script_walk.specs.Performing.{Lawful, Says, Leaves}
-use Rattle.script_walk.specs.Walked.{Walked, Gains, IsLeft}
-use Rattle.script_walk.specs.Reading.{IsReader, IsFresh, bare_item, kept}
+use Rattle.script_walk.specs.Walked.{Walked}
+use Rattle.script_walk.specs.Reading.{IsFresh, bare_item, kept}
 use Rattle.script_walk.specs.Points.{Point, IsReady, ItemDone, Fed, Going, LastUnread, Finished, point}
-use Rattle.script_walk.proofs.Gaining.{text_of-append, Says-none, Gains-after, IsLeft-after, IsReached-longer}
+use Rattle.script_walk.proofs.Gaining.{text_of-append, Gains-after, IsLeft-after, IsReached-longer}
 use Rattle.script_walk.proofs.Playing.{Plays-one, Plays-append, valid-plays, some_plays}
 use Rattle.script_walk.proofs.Keeping.{bytes_of-append, kept-partial}
 use Rattle.script_walk.proofs.Feeding.{fed_none, fed_after, spelled_after}

@@ -1,5 +1,5 @@
 -- How a walk goes through bytes, one after another.
-use Rattle.std.proofs.Common.{◌≡◌, ◌≢◌, ℕ, ◌+◌, ◌≤◌, ◌<◌, List, [], ◌∷◌, ◌++◌, length, take, drop, refl, sym, ap, subst, ◌∙◌, inl, inr, arith, append-nil, append_assoc, length-append}
+use Rattle.std.proofs.Common.{◌≡◌, ℕ, ◌+◌, ◌≤◌, List, [], ◌∷◌, ◌++◌, length, take, drop, refl, sym, ap, subst, ◌∙◌, arith, append-nil, append_assoc, length-append}
 use Rattle.std.proofs.lemmas.List.{take-append-drop}
 use Rattle.std.proofs.Math.Seq.{take-add}
 use Rattle.script_lines.specs.declared.order.Order.{Order}
@@ -11,12 +11,12 @@ use Rattle.script_walk.specs.declared.end.End.{End}
 use Rattle.script_walk.specs.declared.end.End.TheVariants.{Done, WriteFault, BadLine}
 use Rattle.script_walk.specs.declared.reader.Reader.{Reader}
 use Rattle.script_walk.specs.Cutting.{end_of}
-use Rattle.script_walk.specs.Framing.{Item, IsItem, IsLine, BeginsOff, bytes_of, has_feed}
-use Rattle.script_walk.specs.Rules.{Rules, Plays, state_after, text_of}
-use Rattle.script_walk.specs.Performing.{Lawful, Performed, Says, Leaves}
+use Rattle.script_walk.specs.Framing.{Item, IsItem, IsLine, BeginsOff, bytes_of}
+use Rattle.script_walk.specs.Rules.{Rules, Plays, state_after}
+use Rattle.script_walk.specs.Performing.{Lawful, Performed, Says}
 use Rattle.script_walk.specs.Reading.{IsReader, FirstFeed, Keeps, bare_item, kept}
 use Rattle.script_walk.specs.Points.{Point, IsReady, Faulted, EndsSo, ItemDone, Fed, moved}
-use Rattle.script_walk.proofs.Gaining.{text_of-append, state_after-append, Says-none, Says-after, Leaves-after}
+use Rattle.script_walk.proofs.Gaining.{text_of-append, Says-none, Says-after, Leaves-after}
 use Rattle.script_walk.proofs.Playing.{Plays-nil, Plays-one, Plays-append}
 use Rattle.script_walk.proofs.Keeping.{IsItem-bare, bytes_of-nil, bytes_of-one, bytes_of-append, few_items, kept-line, kept_short, off_more, feed_taken}
 

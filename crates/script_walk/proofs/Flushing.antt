@@ -1,5 +1,5 @@
 -- What a walk said is written: nothing waits before and after, or the writing broke off.
-use Rattle.std.proofs.Common.{◌≡◌, ◌≢◌, ℕ, ◌≤◌, List, [], Option, Err, refl, ap, subst, inl, inr, ◌∙◌}
+use Rattle.std.proofs.Common.{◌≡◌, ◌≢◌, ℕ, ◌≤◌, List, [], Option, Err, ap, subst, ◌∙◌}
 use Rattle.std.specs.Io.KnownBytes.{Appends}
 use Rattle.outside_io.specs.Count.{Rose}
 use Rattle.outside_io.specs.Sink.{AppendsFront}

@@ -2,7 +2,7 @@
 use Rattle.std.proofs.lemmas.Bool.Decides.{nat_tests}
 use Rattle.memchr.specs.Find.{IsFirstByte, is_byte}
 use Rattle.std.proofs.lemmas.Bool.{eqb-true, or_parts, false_from_ne_true}
-use Rattle.std.proofs.Common.{zero, suc, Option, None, MatchOption, ◌==◌, ◌≡◌, ℕ, ◌+◌, ◌-◌, ◌≤◌, ◌<◌, ◌≢◌, min, Bool, true, false, ◌||◌, List, [], ◌∷◌, ◌++◌, length, take, drop, get_or, Some, refl, sym, ap, subst, ◌∙◌, inl, inr, arith, lit≤, append-nil, append_assoc, length-append}
+use Rattle.std.proofs.Common.{zero, suc, Option, None, MatchOption, ◌==◌, ◌≡◌, ℕ, ◌+◌, ◌-◌, ◌≤◌, ◌<◌, ◌≢◌, min, true, false, ◌||◌, List, [], ◌∷◌, ◌++◌, length, take, drop, get_or, Some, refl, sym, ap, subst, ◌∙◌, inl, inr, arith, lit≤, append-nil, append_assoc, length-append}
 use Rattle.std.proofs.lemmas.List.Folds.{list_any-append, list_any_more}
 use Rattle.std.proofs.lemmas.Grind.{flat_map-append}
 use Rattle.std.proofs.lemmas.List.{take_all, take_more, length-take-le, take-append-le, take-append-drop}
@@ -11,7 +11,7 @@ use Rattle.script_lines.specs.Lines.{asks, IsOff}
 use Rattle.script_lines.specs.Payloads.{payload_of}
 use Rattle.script_lines.proofs.Telling.{one_payload, payloads_are_small}
 use Rattle.script_walk.specs.declared.reader.Reader.{Reader}
-use Rattle.script_walk.specs.Framing.{Item, Wants, IsItem, IsLine, IsPartial, BeginsOff, BeginsUnread, BeginsTooLong, bytes_of, bytes_of_item, has_feed, line_limit}
+use Rattle.script_walk.specs.Framing.{Item, Wants, IsItem, IsLine, IsPartial, BeginsOff, BeginsTooLong, bytes_of, bytes_of_item, has_feed, line_limit}
 use Rattle.script_walk.specs.Reading.{IsReader, Awaits, FirstFeed, Keeps, bare_item, kept, kept_bytes}
 
 -- ---- what a reader keeps

@@ -1,6 +1,6 @@
 -- Inner words of the proofs: how a walk goes through bytes: which whole lines with their raw bytes they make, what those
 -- come to, what was put out of it, and how far the walk has come.
-use Rattle.std.specs.Prelude.{◌≡◌, ◌≢◌, ◌⊎◌, ℕ, ◌+◌, ◌≤◌, List, [], ◌∷◌, ◌++◌, length, take, Option, Result, Ok, Err}
+use Rattle.std.specs.Prelude.{◌≡◌, ◌≢◌, ◌⊎◌, ℕ, ◌+◌, ◌≤◌, List, [], ◌++◌, length, take, Option, Result, Ok, Err}
 use Rattle.std.specs.Io.KnownBytes.{Consumes}
 use Rattle.outside_io.specs.Count.{Rose}
 use Rattle.outside_io.specs.Outbox.{Output, output, flushed}
@@ -13,7 +13,7 @@ use Rattle.script_walk.specs.Cutting.{end_of}
 use Rattle.script_walk.specs.Framing.{Item, BeginsOff, EndsOff, bytes_of}
 use Rattle.script_walk.specs.Rules.{Rules, Does, Plays, text_of}
 use Rattle.script_walk.specs.Performing.{Says, Leaves}
-use Rattle.script_walk.specs.Reading.{IsReader, IsFresh, bare_item, kept}
+use Rattle.script_walk.specs.Reading.{IsReader, bare_item, kept}
 
 -- Where a walk stands between two bytes: what is kept of an item, the state, the output, and the sink's count of faults.
 pub record Point (r : Rules) : Type 0 where

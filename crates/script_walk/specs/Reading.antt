@@ -1,5 +1,5 @@
 -- Inner words of the proofs: what a reader of a script keeps of an item that is not yet whole.
-use Rattle.std.specs.Prelude.{◌≡◌, ℕ, zero, suc, ◌+◌, ◌<◌, ◌≤◌, false, List, [], ◌∷◌, ◌++◌, length, take, slice_index}
+use Rattle.std.specs.Prelude.{◌≡◌, ℕ, zero, suc, ◌<◌, false, List, [], ◌∷◌, ◌++◌, length, take, slice_index}
 use Rattle.script_walk.specs.declared.reader.Reader.{Reader}
 use Rattle.script_walk.specs.Framing.{Item, Wants, IsLine, has_feed, item}
 

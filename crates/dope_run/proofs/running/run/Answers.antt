@@ -1,4 +1,4 @@
-use Rattle.std.proofs.Common.{refl, rules}
+use Rattle.std.proofs.Common.{refl}
 use Rattle.dope_run.proofs.PlayWords.{no_shape}
 use Rattle.dope_run.proofs.running.run.Goals as goal
 

@@ -1,9 +1,9 @@
 -- The ends of a walk, each from what it had taken and what the last read gave.
-use Rattle.std.proofs.Common.{◌≡◌, ◌≢◌, ℕ, ◌+◌, ◌-◌, ◌≤◌, ◌<◌, ◌^◌, min, max, List, [], length, take, ap, sym, subst, ◌∙◌, arith, rules, lit≤}
+use Rattle.std.proofs.Common.{◌≡◌, ◌≢◌, ℕ, ◌+◌, ◌-◌, ◌≤◌, min, max, List, [], length, take, ap, sym, subst, ◌∙◌, arith, rules, lit≤}
 use Rattle.std.specs.Io.KnownBytes.{Consumes}
 use Rattle.std.proofs.lemmas.List.{length-take-le}
 use Rattle.script_walk.specs.declared.end.End.TheVariants.{Done}
-use Rattle.script_walk.proofs.Feeding.{ready_after, lines_few}
+use Rattle.script_walk.proofs.Feeding.{lines_few}
 use Rattle.script_walk.proofs.Endings.{going_nowhere, going_on, walked_read_fault, walked_too_much, walked_cut, walked_finish}
 use Rattle.script_walk.proofs.walking.work.Goals as goal
 

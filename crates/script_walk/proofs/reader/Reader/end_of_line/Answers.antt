@@ -1,6 +1,6 @@
-use Rattle.std.proofs.Common.{◌++◌, ◌∷◌, [], refl}
+use Rattle.std.proofs.Common.{◌∷◌, [], refl}
 use Rattle.script_walk.specs.declared.cut.Cut.TheVariants.{Unread}
-use Rattle.script_walk.proofs.Feeding.{fed_off, fed_kept, fed_after, fed_more}
+use Rattle.script_walk.proofs.Feeding.{fed_off, fed_more}
 use Rattle.script_walk.proofs.reader.Reader.end_of_line.Goals as goal
 
 pub returns-then-not-stretch : goal.returns-then-not-stretch

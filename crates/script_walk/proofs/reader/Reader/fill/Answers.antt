@@ -1,5 +1,4 @@
 use Rattle.std.proofs.Common.{◌≡◌, ◌-◌, ◌<◌, ◌≤◌, min, length, refl, arith}
-use Rattle.std.proofs.lemmas.Grind.{common_steps}
 use Rattle.script_walk.specs.declared.end.End.TheVariants.{Done, WriteFault}
 use Rattle.script_walk.specs.Framing.{Item, item}
 use Rattle.script_walk.proofs.Keeping.{fill_room, keeps_filled, item_whole}

@@ -1,7 +1,6 @@
 use Rattle.std.proofs.Common.{◌≤◌, length, refl, sym, arith}
 use Rattle.std.proofs.lemmas.List.{take_all}
 use Rattle.script_walk.specs.declared.end.End.TheVariants.{Done}
-use Rattle.script_walk.specs.declared.cut.Cut.TheVariants.{Unread}
 use Rattle.script_walk.proofs.Feeding.{fed_off, fed_kept, fed_same, fed_cut_at_feed}
 use Rattle.script_walk.proofs.reader.Reader.line_front.Goals as goal
 

@@ -1,4 +1,4 @@
-use Rattle.std.proofs.Common.{◌≤◌, ◌<◌, ◌+◌, ◌^◌, length, drop, length-drop, length-take, arith, rules}
+use Rattle.std.proofs.Common.{◌≤◌, length, drop, length-drop, arith}
 use Rattle.std.proofs.lemmas.Grind.{common_steps}
 use Rattle.std.proofs.lemmas.List.{take_rest, length-take-le}
 use Rattle.script_walk.specs.declared.end.End.TheVariants.{Done}

@@ -1,4 +1,4 @@
-use Rattle.std.proofs.Common.{◌≡◌, ◌≤◌, ◌-◌, length, take}
+use Rattle.std.proofs.Common.{◌≤◌, ◌-◌, length, take}
 use Rattle.script_walk.specs.declared.end.End.TheVariants.{Done}
 use Rattle.script_walk.specs.Points.{Fed, point}
 use Rattle.script_walk.proofs.reader.Reader.piece.Given as goal

@@ -1,4 +1,4 @@
-use Rattle.script_walk.proofs.Flushing.{fed_flushed, fed_unflushed, fed_off_flushed, fed_off_unflushed, fed_dropped}
+use Rattle.script_walk.proofs.Flushing.{fed_flushed, fed_unflushed, fed_off_flushed, fed_off_unflushed}
 use Rattle.script_walk.proofs.reader.Reader.take.Goals as goal
 
 pub returns-in-Ok-flush-clause-told : goal.returns-in-Ok-flush-clause-told
