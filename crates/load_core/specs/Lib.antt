@@ -1,0 +1,5 @@
+pub mod Choices
+pub mod Load
+pub mod Tally
+pub mod Played
+pub mod Making
